@@ -1,0 +1,1 @@
+// The layout of the words: no other module knows it.
