@@ -120,13 +120,14 @@ belowTheMinimum s (Command.ClearSetpoint a) = false
 belowTheMinimum s (Command.Unserved n) = false
 
 -- a command from zone z at t: document 01's order
+abbrev pub commandTests : ℕ → Bool → Bool → Settings → ℕ → ℕ → Command → List (Bool × ℕ)
+commandTests clock there up s override t c =
+    (isUnserved c, 4) ∷ (late clock t, 5) ∷ (not there, 9) ∷ (not up, 10) ∷ (unsupported s c, 11)
+    ∷ (isSetLimit c && not (eqb override 0), 12) ∷ (invalid c, 13) ∷ (belowTheMinimum s c, 14) ∷ []
+
 unfoldable pub commandNumber : List ℕ → ℕ → ℕ → Command → ℕ
 commandNumber ws z t c =
-    firstOf
-    ((isUnserved c, 4) ∷ (late (clockOf ws) t, 5) ∷ (not (joined (zonesOf ws) z), 9)
-    ∷ (not (zoneOf (zonesOf ws) z .up), 10) ∷ (unsupported (settingsOf ws) c, 11)
-    ∷ (isSetLimit c && not (eqb (overrideOf ws) 0), 12) ∷ (invalid c, 13)
-    ∷ (belowTheMinimum (settingsOf ws) c, 14) ∷ [])
+    firstOf (commandTests (clockOf ws) (joined (zonesOf ws) z) (zoneOf (zonesOf ws) z .up) (settingsOf ws) (overrideOf ws) t c)
 
 -- WHAT A COMMAND LEAVES HELD
 -- "A limit above the contractual maximum is stored as that maximum"

@@ -1,5 +1,10 @@
 // The device: settings, zones, and what they hold, as words that the driver lends.
 // A call decides first and then applies one whole change; a refusal stores nothing.
+pub mod calls;
+pub mod claims;
+pub mod commands;
+pub mod holds;
+pub mod refusals;
 pub mod store;
 
 // How many values a zone holds, how many zones there are, and the words of a zone, of the head and of the whole device.

@@ -1,0 +1,1 @@
+// The calls without a frame: start, join, leave, lost, back, override, clear, ask.

@@ -1,0 +1,1 @@
+// The four commands: decided, answered from what would hold, applied.

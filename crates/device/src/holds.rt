@@ -1,0 +1,1 @@
+// What holds at a second, in one pass over the zones.

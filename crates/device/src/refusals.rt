@@ -1,0 +1,1 @@
+// The tests that several calls share.
