@@ -1,2 +1,3 @@
 pub mod IsPlan
 pub mod Walk
+pub mod Nearest

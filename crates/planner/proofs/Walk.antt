@@ -183,7 +183,7 @@ module _ (cur n : ℕ) (later : cur < n) where
 
 module _ (f : ℕ → List ℤ) (ds : List ℕ) (steady : (t : ℕ) → Idle (suc t) ds → f (suc t) ≡ f t) where
   -- the plan after cur is what the next due second adds to the plan after that
-  pub plan-step : (cur : ℕ) → plan f cur ≡ step f cur (nearest cur ds) (plan f (nearest cur ds))
+  pub plan-step : (cur : ℕ) → plan f cur ≡ step f (f cur) (nearest cur ds) (plan f (nearest cur ds))
   unfolding step
   plan-step cur = go (nearest cur ds) (nearest-is cur ds) (ltb (nearest cur ds) end) refl
     where
@@ -196,22 +196,22 @@ module _ (f : ℕ → List ℤ) (ds : List ℕ) (steady : (t : ℕ) → Idle (su
       go n l false e = plan-over f cur (λ t a b. steady t (λ m. omega (arith, ltb-false, l .least (suc t) m (omega arith))))
 
   -- past the end nothing is added
-  step-end : (cur n : ℕ) (rows : List (ℕ × List ℤ)) → n ≡ end → step f cur n rows ≡ []
+  step-end : (old : List ℤ) (n : ℕ) (rows : List (ℕ × List ℤ)) → n ≡ end → step f old n rows ≡ []
   unfolding step
-  step-end cur n rows e = rw (le-ltb n end (omega arith))
+  step-end old n rows e = rw (le-ltb n end (omega arith))
 
   -- the walk is the plan, given as many steps as there are dues left
   walk-plan : (fuel cur : ℕ) → above cur ds ≤ fuel → walk f ds fuel cur ≡ plan f cur
   unfolding walk
   walk-plan zero cur h =
       ⊎-elim
-      (λ q. sym (plan-step cur ∙ step-end cur (nearest cur ds) _ q))
+      (λ q. sym (plan-step cur ∙ step-end (f cur) (nearest cur ds) _ q))
       (λ k. absurd (omega (arith, above-less cur (nearest cur ds) (k .0) ds (k .1))))
       (nearest-is cur ds .found)
   walk-plan (suc fuel) cur h =
       ⊎-elim
-      (λ q. step-end cur (nearest cur ds) _ q ∙ sym (plan-step cur ∙ step-end cur (nearest cur ds) _ q))
-      (λ k. ap (step f cur (nearest cur ds)) (walk-plan fuel (nearest cur ds) (omega (arith, above-less cur (nearest cur ds) (k .0) ds (k .1)))) ∙ sym (plan-step cur))
+      (λ q. step-end (f cur) (nearest cur ds) _ q ∙ sym (plan-step cur ∙ step-end (f cur) (nearest cur ds) _ q))
+      (λ k. ap (step f (f cur) (nearest cur ds)) (walk-plan fuel (nearest cur ds) (omega (arith, above-less cur (nearest cur ds) (k .0) ds (k .1)))) ∙ sym (plan-step cur))
       (nearest-is cur ds .found)
 
   pub plan-walk : (cur : ℕ) → plan f cur ≡ walk f ds (length ds) cur
@@ -235,7 +235,7 @@ pub planOf-walk : (s : Situation) (now : ℕ) → planOf s now ≡ walk (valuesA
 unfolding planOf
 planOf-walk s now = plan-walk (valuesAt s) (dues s) (values-steady s) now
 
-pub planOf-step : (s : Situation) (cur : ℕ) → planOf s cur ≡ step (valuesAt s) cur (nearest cur (dues s)) (planOf s (nearest cur (dues s)))
+pub planOf-step : (s : Situation) (cur : ℕ) → planOf s cur ≡ step (valuesAt s) (valuesAt s cur) (nearest cur (dues s)) (planOf s (nearest cur (dues s)))
 unfolding planOf
 planOf-step s cur = plan-step (valuesAt s) (dues s) (values-steady s) cur
 
