@@ -16,48 +16,8 @@ use Rattle.device.specs.Holds.{Situation, situationOf, valuesAt}
 use Rattle.device.proofs.Steady.{dues, Idle, values-steady, dues-few}
 use Rattle.planner.specs.Rows.{last, rowsOf, plan}
 use Rattle.planner.specs.Plan.{planOf}
-use Rattle.planner.specs.Walk.{nearer, nearest, sameNumber, alike, step, walk}
-
--- THE TEST FOR EQUAL VALUES
-number-same : (a : ℤ) → sameNumber a a ≡ true
-unfolding sameNumber
-number-same (pos a) = eq-eqb a a refl
-number-same (negsuc a) = eq-eqb a a refl
-
-same-number : (a b : ℤ) → sameNumber a b ≡ true → a ≡ b
-unfolding sameNumber
-same-number (pos a) (pos b) h = ap pos (eqb-true a b h)
-same-number (pos a) (negsuc b) h = absurd (let z : _≡_ {A = ℕ} 0 1 = cc in omega arith)
-same-number (negsuc a) (pos b) h = absurd (let z : _≡_ {A = ℕ} 0 1 = cc in omega arith)
-same-number (negsuc a) (negsuc b) h = ap negsuc (eqb-true a b h)
-
-alike-same : (l : List ℤ) → alike l l ≡ true
-unfolding alike
-alike-same [] = refl
-alike-same (a ∷ l) = rw (number-same a, alike-same l)
-
-same-alike : (l k : List ℤ) → alike l k ≡ true → l ≡ k
-unfolding alike
-same-alike [] [] h = refl
-same-alike [] (b ∷ k) h = absurd (let z : _≡_ {A = ℕ} 0 1 = cc in omega arith)
-same-alike (a ∷ l) [] h = absurd (let z : _≡_ {A = ℕ} 0 1 = cc in omega arith)
-same-alike (a ∷ l) (b ∷ k) h = go (sameNumber a b) refl h (same-alike l k)
-  where
-    go : (s : Bool) → sameNumber a b ≡ s → (s && alike l k) ≡ true → (alike l k ≡ true → l ≡ k) → a ∷ l ≡ b ∷ k
-    go true e g rest = let x : a ≡ b = same-number a b e in let y : l ≡ k = rest g in cc
-    go false e g rest = absurd (let z : _≡_ {A = ℕ} 0 1 = cc in omega arith)
-
--- a choice by whether two lists are equal is a choice by the test
-by-test : {A : Type 0} (l k : List ℤ) (x y : A) → ite (List-discrete ℤ-discrete l k) x y ≡ cond (alike l k) x y
-by-test l k x y = go (alike l k) refl
-  where
-    go : (b : Bool) → alike l k ≡ b → ite (List-discrete ℤ-discrete l k) x y ≡ cond b x y
-    go true e = if-pos (List-discrete ℤ-discrete l k) (same-alike l k e) x y
-    go false e =
-        if-neg (List-discrete ℤ-discrete l k)
-        (λ q. let p : alike l k ≡ true = subst (λ (v : List ℤ). alike l v ≡ true) q (alike-same l) in let z : _≡_ {A = ℕ} 0 1 = cc in omega arith)
-        x
-        y
+use Rattle.planner.specs.Walk.{nearer, nearest, alike, step, walk}
+use Rattle.planner.proofs.Alike.{alike-same, by-test}
 
 -- THE NEXT DUE SECOND
 -- x is r, or the least of the list past cur and before r

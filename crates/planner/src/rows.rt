@@ -8,7 +8,7 @@ ghost use lib.IntN.{pos};
 ghost use lib.ListN.{length, take, drop};
 ghost use lib.Seq.{sets};
 ghost use Rattle.device.specs.Sizes.{end};
-ghost use Rattle.planner.specs.Walk.{alike};
+ghost use Rattle.planner.specs.Walk.{sameNumber, alike};
 
 const VALUES: usize = 1 + HELDS;
 
@@ -16,15 +16,22 @@ pub const ROW: usize = 1 + VALUES;
 
 pub const ROOM: usize = SLOTS * HELDS * ROW;
 
+fn same_number(a: i64, b: i64) -> bool
+    ensures { λ r. ⌜ r ≡ sameNumber a b ⌝ }
+{
+    a == b
+}
+
 fn alike(a: [i64; VALUES], b: [i64; VALUES]) -> bool
     ensures { λ r. ⌜ r ≡ alike a b ⌝ }
 {
     let mut i = 0;
     while i < VALUES {
-        if a[i] != b[i] {
+        if same_number(a[i], b[i]) {
+            i += 1;
+        } else {
             return false;
         }
-        i += 1;
     }
     true
 }

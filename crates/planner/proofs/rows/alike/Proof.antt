@@ -1,53 +1,39 @@
+use Prim.Native.Nat.{_≤_, _-_}
+use mathlib.Core.Path.{_≡_, refl, sym, _∙_}
+use native.Mathlib.Omega.{arith}
+use borrow.Author.Needs.{needs}
+use lib.IntN.{pos}
+use mir.Val.{SFits}
+use mir.ValLaws.{toZ-ofZ}
+use mir.Syntax.{w64}
+use lib.ListN.{length, getD, drop}
+use Rattle.planner.specs.Walk.{alike}
+use Rattle.planner.proofs.Alike.{alike-turn, alike-stop, alike-end}
 use Rattle.planner.proofs.rows.alike.Statement.{statement}
 use Rattle.planner.proofs.rows.alike.Tie as tie
 use Rattle.planner.proofs.rows.alike.Reads as reads
 use Rattle.planner.proofs.rows.alike.Lts as lts
 
 abbrev Inv-loop : tie.InvT-loop
-Inv-loop a b i₀ i = ?
+Inv-loop a b i₀ i = (i ≤ 5) × (alike (drop i a) (drop i b) ≡ alike a b)
 
 abbrev μ-loop : tie.MeasureT-loop
-μ-loop a b i₀ i = ?
+μ-loop a b i₀ i = 5 - i
 
--- src/rows.rt:23:5
-loop-holds : tie.Need-loop-holds Inv-loop μ-loop
-loop-holds c = ?
-
--- src/rows.rt:24:12
-mul-if1 : tie.Need-mul-if1 Inv-loop μ-loop
-mul-if1 c = ?
-
--- src/rows.rt:24:12
-array-copy-out-if1 : tie.Need-array-copy-out-if1 Inv-loop μ-loop
-array-copy-out-if1 c = ?
-
--- src/rows.rt:24:20
-mul-if1-2 : tie.Need-mul-if1-2 Inv-loop μ-loop
-mul-if1-2 c = ?
-
--- src/rows.rt:24:20
-array-copy-out-if1-2 : tie.Need-array-copy-out-if1-2 Inv-loop μ-loop
-array-copy-out-if1-2 c = ?
-
--- src/rows.rt:25:13
 returns : tie.Need-returns Inv-loop μ-loop
-returns c = ?
+returns c =
+    let f : SFits w64 (getD (c .before .before .before .before .before .before .args .t1) (c .before .before .before .before .before .loop .i) (pos 0)) = search needs in
+    let g : SFits w64 (getD (c .before .before .before .before .before .before .args .t2) (c .before .before .before .before .before .loop .i) (pos 0)) = search needs in
+    alike-stop (c .before .before .before .before .before .before .args .t1) (c .before .before .before .before .before .before .args .t2) (c .before .before .before .before .before .loop .i) (c .before .before .before .before .before .loop .inv .1) (search needs) (search needs) (sym (c .if1 .left) ∙ simp (toZ-ofZ w64 _ f, toZ-ofZ w64 _ g) at (c .before .same-number .ensures))
 
--- src/rows.rt:27:9
-add-i : tie.Need-add-i Inv-loop μ-loop
-add-i c = ?
-
--- src/rows.rt:23:5
-loop-less : tie.Need-loop-less Inv-loop μ-loop
-loop-less c = ?
-
--- src/rows.rt:23:5
 loop-again : tie.Need-loop-again Inv-loop μ-loop
-loop-again c = ?
+loop-again c =
+    let f : SFits w64 (getD (c .before .before .before .before .before .before .args .t1) (c .before .before .before .before .before .loop .i) (pos 0)) = search needs in
+    let g : SFits w64 (getD (c .before .before .before .before .before .before .args .t2) (c .before .before .before .before .before .loop .i) (pos 0)) = search needs in
+    (omega arith, alike-turn (c .before .before .before .before .before .before .args .t1) (c .before .before .before .before .before .before .args .t2) (c .before .before .before .before .before .loop .i) (c .before .before .before .before .before .loop .inv .1) (search needs) (search needs) (sym (c .if1 .taken) ∙ simp (toZ-ofZ w64 _ f, toZ-ofZ w64 _ g) at (c .before .same-number .ensures)))
 
--- src/rows.rt:19:1
 returns-2 : tie.Need-returns-2 Inv-loop μ-loop
-returns-2 c = ?
+returns-2 c = alike-end (c .before .before .args .t1) (c .before .before .args .t2) (c .before .loop .i) (c .before .loop .inv .1) (omega arith) (omega arith)
 
 pub alike-spec : {M : Type 1} → statement M
 alike-spec =
@@ -55,13 +41,14 @@ alike-spec =
     (tie.spec
     Inv-loop
     μ-loop
-    loop-holds
-    mul-if1
-    array-copy-out-if1
-    mul-if1-2
-    array-copy-out-if1-2
-    returns
-    add-i
-    loop-less
+    (λ c. (omega arith, refl))
+    (λ c. search needs)
+    (λ c. search needs)
+    (λ c. search needs)
+    (λ c. search needs)
+    (λ c κs. search needs)
+    (λ c. search needs)
+    (λ c. omega arith)
     loop-again
+    returns
     returns-2)
