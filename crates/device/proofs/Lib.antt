@@ -1,3 +1,6 @@
+pub mod Tests
 pub mod Folds
 pub mod Runs
-pub mod Told
+pub mod Fills
+pub mod Ends
+pub mod Gather

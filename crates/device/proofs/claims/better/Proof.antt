@@ -1,5 +1,5 @@
 use Rattle.device.specs.Holds.{better}
-use Rattle.device.proofs.Told.{via}
+use Rattle.device.proofs.Tests.{via}
 use borrow.Author.Needs.{needs}
 use Rattle.device.proofs.claims.better.Statement.{statement}
 use Rattle.device.proofs.claims.better.Tie as tie

@@ -1,5 +1,5 @@
 use Rattle.device.specs.Zones.{heldOf}
-use Rattle.device.proofs.Folds.{read-past}
+use Rattle.device.proofs.Fills.{read-past}
 use borrow.Author.Needs.{needs}
 use Rattle.device.proofs.claims.held_of.Statement.{statement}
 use Rattle.device.proofs.claims.held_of.Tie as tie
