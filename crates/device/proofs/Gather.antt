@@ -5,15 +5,19 @@ use mathlib.Core.Path.{_≡_, refl, sym, ap, _∙_}
 use mathlib.Core.List.{List, [], _∷_, foldl}
 use borrow.Author.Tests.{eq-eqb, ne-eqb}
 use native.Mathlib.Omega.{arith}
-use lib.ListN.{length, getD, replicate}
+use lib.ListN.{length, getD, set, replicate, length-set}
+use lib.Seq.{getD-set-same, getD-set-other, set-out}
 use lib.IntN.{ℤ, pos}
-use Rattle.device.specs.Sizes.{helds}
-use Rattle.device.specs.Zones.{upTo, any, isJoined, isUp, anyJoined, anyUp}
-use Rattle.device.specs.Holds.{noClaim, claimOf, better, winner, Situation, inFailsafe, failsafeValue, valueAt, stateAt, shown, valuesAt}
+use Rattle.device.specs.Sizes.{helds, slots}
+use Rattle.device.specs.Zones.{upTo, any, freeZone, isJoined, isUp, anyJoined, anyUp}
+use Rattle.device.specs.Words.{zonesOf}
+use Rattle.device.specs.Holds.{noClaim, claimOf, better, winner, Situation, situationOf, withZone, inFailsafe, failsafeValue, valueAt, stateAt, shown, valuesAt}
 use Rattle.device.specs.Pass.{noneMet, gatheredWith, gathered, failsafeFrom, failsafeOf, valueFrom, limitedFrom, stateFrom, valuesFrom}
 use Rattle.device.specs.declared.Zone.{Zone}
+use Rattle.device.specs.declared.Settings.{Settings}
 use Rattle.device.specs.declared.Claim.{Claim}
 use Rattle.device.specs.declared.holds.Gathered.{Gathered}
+use Rattle.device.proofs.Lens.{zones-length}
 use Rattle.device.proofs.Runs.{getD-upTo, upTo-list, upTo-cong}
 
 -- ONE ZONE MORE
@@ -69,7 +73,7 @@ module _ (s : Situation) (t : ℕ) where
   abbrev all : Gathered
   all = gathered t (s .zones)
 
-  pub failsafe-row : failsafeFrom all (s .since) (s .settings .duration) t ≡ inFailsafe s t
+  failsafe-row : failsafeFrom all (s .since) (s .settings .duration) t ≡ inFailsafe s t
   unfolding failsafeFrom inFailsafe gathered
   failsafe-row = refl
 
@@ -77,7 +81,7 @@ module _ (s : Situation) (t : ℕ) where
   unfolding valueFrom valueAt failsafeOf failsafeValue gathered
   value-row q h = rw (getD-upTo (λ k. winner t k (s .zones)) helds q noClaim h)
 
-  pub values-row : valuesFrom (s .settings) all (inFailsafe s t) (s .override) ≡ valuesAt s t
+  values-row : valuesFrom (s .settings) all (inFailsafe s t) (s .override) ≡ valuesAt s t
   unfolding valuesFrom valuesAt stateAt stateFrom limitedFrom gathered
   values-row =
       rw (
@@ -85,3 +89,22 @@ module _ (s : Situation) (t : ℕ) where
         value-row 1 (omega arith),
         upTo-cong (λ q. shown (valueFrom (s .settings) all (inFailsafe s t) q)) (λ q. shown (valueAt s t q)) helds (λ q h. ap shown (value-row q h)),
       )
+
+  -- what is read of the device one after the other, put together
+  pub table-read : (k : Settings) (g : Gathered) (n o : ℕ) (safe : Bool) → k ≡ s .settings → g ≡ all → n ≡ s .since → safe ≡ failsafeFrom g n (k .duration) t → o ≡ s .override → valuesFrom k g safe o ≡ valuesAt s t
+  table-read k g n o safe a b c d e = rw (d, a, b, c, e, failsafe-row) values-row
+
+-- ANOTHER RECORD IN A SLOT
+module _ (ws : List ℕ) (i : ℕ) (x : Zone) where
+  pub with-length : length (set (zonesOf ws) i x) ≡ slots
+  with-length = length-set (zonesOf ws) i x ∙ zones-length ws
+
+  pub with-here : (k : ℕ) → k < slots → k ≡ i → x ≡ getD (set (zonesOf ws) i x) k freeZone
+  with-here k h e = rw e (sym (getD-set-same (zonesOf ws) i x freeZone (rw (zones-length ws, ← e) h)))
+
+  pub with-other : (k : ℕ) → (k ≡ i → ⊥) → getD (zonesOf ws) k freeZone ≡ getD (set (zonesOf ws) i x) k freeZone
+  with-other k n = sym (getD-set-other (zonesOf ws) i k x freeZone n)
+
+-- no slot: as it stands
+pub with-none : (ws : List ℕ) (x : Zone) (t : ℕ) → valuesAt (withZone (situationOf ws) slots x) t ≡ valuesAt (situationOf ws) t
+with-none ws x t = rw (set-out (zonesOf ws) slots x (omega (arith, zones-length ws)))

@@ -11,16 +11,22 @@ use crate::claims::better;
 use crate::claims::claim_of;
 use crate::claims::no_claim;
 use crate::claims::supports;
+use crate::store::free_zone;
+use crate::store::overridden;
+use crate::store::settings_at;
+use crate::store::since;
+use crate::store::zone_at;
 use messages::Amount;
 ghost use mathlib.Core.Path.{_≡_};
 ghost use mathlib.Core.Bool.{_||_};
 ghost use Prim.Native.Nat.{_<_};
-ghost use lib.ListN.{getD};
+ghost use lib.ListN.{getD, set};
 ghost use lib.IntN.{pos};
-ghost use Rattle.device.specs.Sizes.{helds};
-ghost use Rattle.device.specs.Zones.{upTo};
-ghost use Rattle.device.specs.Holds.{noClaim, claimOf, better, amountOf, present, shown};
-ghost use Rattle.device.specs.Pass.{noneMet, gatheredWith, failsafeFrom, failsafeOf, valueFrom, limitedFrom, stateFrom, valuesFrom};
+ghost use Rattle.device.specs.Sizes.{helds, slots};
+ghost use Rattle.device.specs.Zones.{upTo, freeZone};
+ghost use Rattle.device.specs.Words.{zonesOf};
+ghost use Rattle.device.specs.Holds.{noClaim, claimOf, better, amountOf, present, shown, situationOf, withZone, valuesAt};
+ghost use Rattle.device.specs.Pass.{noneMet, gatheredWith, gathered, failsafeFrom, failsafeOf, valueFrom, limitedFrom, stateFrom, valuesFrom};
 
 // What a pass over the zones gathers: is one joined, is one up, and the winning claim of each quantity.
 pub struct Gathered {
@@ -76,6 +82,30 @@ fn gathered_with(t: u64, g: Gathered, zone: Zone) -> Gathered
         up: either(g.up, zone.up),
         claims: claims_with(t, old, zone),
     }
+}
+
+// The record in slot i, the given one in its slot's place.
+fn zone_with(d: &State, slot: usize, zone: Zone, i: usize) -> Zone
+    requires { ⌜ i < slots ⌝ }
+    ensures { λ r. ⌜ r ≡ getD (set (zonesOf (now (d .entry))) slot zone) i freeZone ⌝ }
+{
+    if i == slot {
+        return zone;
+    }
+    zone_at(d, i)
+}
+
+fn gather(d: &State, slot: usize, zone: Zone, t: u64) -> Gathered
+    ensures { λ r. ⌜ r ≡ gathered t (set (zonesOf (now (d .entry))) slot zone) ⌝ }
+{
+    let mut g = none_met();
+    let mut i = 0;
+    while i < SLOTS {
+        let x = zone_with(d, slot, zone, i);
+        g = gathered_with(t, g, x);
+        i += 1;
+    }
+    g
 }
 
 // The second row of the table of links. The end is tested by a difference: a sum could pass the largest word.
@@ -187,4 +217,21 @@ fn values_from(s: Settings, g: Gathered, safe: bool, overridden: u64) -> [i64; V
         q += 1;
     }
     values
+}
+
+// What would hold at t with the given record in a slot's place; SLOTS and above are no slot.
+pub fn values_with(d: &State, slot: usize, zone: Zone, t: u64) -> [i64; VALUES]
+    ensures { λ r. ⌜ r ≡ valuesAt (withZone (situationOf (now (d .entry))) slot zone) t ⌝ }
+{
+    let s = settings_at(d);
+    let g = gather(d, slot, zone, t);
+    let safe = failsafe_from(g, since(d), s.duration, t);
+    values_from(s, g, safe, overridden(d))
+}
+
+// What holds at t.
+pub fn values_at(d: &State, t: u64) -> [i64; VALUES]
+    ensures { λ r. ⌜ r ≡ valuesAt (situationOf (now (d .entry))) t ⌝ }
+{
+    values_with(d, SLOTS, free_zone(), t)
 }
