@@ -8,3 +8,4 @@ pub mod Effects
 pub mod Fills
 pub mod Ends
 pub mod Gather
+pub mod Signs

@@ -3,6 +3,7 @@
 pub mod calls;
 pub mod claims;
 pub mod commands;
+pub mod fields;
 pub mod holds;
 pub mod refusals;
 pub mod store;
