@@ -1,0 +1,10 @@
+-- What the proofs of several functions use, and the laws that callers cite.
+pub mod Order
+pub mod Numbers
+pub mod Puts
+pub mod Widths
+pub mod HeadLaws
+pub mod HeadSteps
+pub mod KeySteps
+pub mod Sound
+pub mod Complete
