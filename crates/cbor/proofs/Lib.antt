@@ -8,3 +8,6 @@ pub mod HeadSteps
 pub mod KeySteps
 pub mod Sound
 pub mod Complete
+pub mod ItemSteps
+pub mod IntSteps
+pub mod WalkSteps

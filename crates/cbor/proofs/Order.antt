@@ -1,5 +1,5 @@
 -- Comparisons of numbers. Assumes nothing.
-use Prim.Native.Nat.{ℕ, _+_, _-_, _≤_, _<_}
+use Prim.Native.Nat.{ℕ, suc, _+_, _-_, _≤_, _<_}
 use mathlib.Core.Path.{_≡_, refl, sym, _∙_}
 use mathlib.Core.Logic.{_⊎_, inl, inr, ⊎-elim}
 use mathlib.Core.Bool.{Bool, true, false}
@@ -13,6 +13,9 @@ below a b = go (ltb a b) refl
     go : (t : Bool) → ltb a b ≡ t → (a < b) ⊎ (b ≤ a)
     go true e = inl (ltb-true a b e)
     go false e = inr (ltb-false a b e)
+
+pub one-more : (n : ℕ) → (n ≡ 0 → ⊥) → n ≡ suc (n - 1)
+one-more n nz = omega arith
 
 pub no-room : (n p len : ℕ) → len < p → false ≡ leb (p + n) len
 no-room n p len h = sym (lt-leb (p + n) len (omega arith))

@@ -6,6 +6,7 @@ use mathlib.Core.Logic.{_↔_}
 use mathlib.Core.List.{List, _++_}
 use mathlib.Core.Option.{Option, some, none}
 use lib.ListN.{length, drop}
+use lib.IntN.{pos, negsuc, _-ℤ_}
 use Rattle.cbor.specs.Bytes.{Bytes, Stands, put, putWhole, pastWhole}
 use Rattle.cbor.specs.Head.{headBytes, headAt, headLen, Within}
 use Rattle.cbor.specs.Item.{Item, Pairs, Got, got, itemAt, pairsAt, encode, Ok, levels, payloadOf}
@@ -46,6 +47,10 @@ NoneBeginsAnother = (d : ℕ) (i j : Item) (t u : List ℕ) → Ok i d → Ok j 
 -- two items with one encoding are equal
 abbrev pub OneItem : Type 0
 OneItem = (d : ℕ) (i j : Item) → Ok i d → Ok j d → encode i ≡ encode j → i ≡ j
+
+-- negsuc n is -1 - n
+abbrev pub MinusOneMinus : Type 0
+MinusOneMinus = (n : ℕ) → negsuc n ≡ negsuc 0 -ℤ pos n
 
 -- the integer read is the integer that the item is
 abbrev pub IntExact : Type 0
