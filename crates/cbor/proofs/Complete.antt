@@ -6,7 +6,7 @@ use native.Mathlib.Omega.{arith}
 use lib.ListN.{length, take, drop, length-append}
 use lib.Seq.{take-append-seam}
 use borrow.Author.Tests.{le-leb}
-use Rattle.cbor.specs.Head.{headBytes, headAt, Within}
+use Rattle.cbor.specs.Head.{headBytes, headLen, headAt, Within}
 use Rattle.cbor.specs.Item.{Item, Items, Pairs, Got, got, bad, andThen, keyAt, keyed, itemsAt, pairsAt, stringAt, fromHead, itemAt, encode, encodeItems, encodePairs, count, countPairs, Ok, OkItems, OkPairs}
 use Rattle.cbor.specs.Laws.{ItemReadsBack}
 use Rattle.cbor.specs.declared.heads.Head.{Head}
@@ -31,6 +31,25 @@ module _ (s bs t : List ℕ) (p m v : ℕ) (ok : Within m v) (small : v < 2 ^ 64
 
 whole : (a b : List ℕ) (p : ℕ) → p + length a + length b ≡ p + length (a ++ b)
 whole a b p = omega (arith, length-append a b)
+
+-- the major type and the argument of an item's head, and the bytes behind it
+abbrev pub majorOf : Item → ℕ
+majorOf (Item.uint v) = 0
+majorOf (Item.nint v) = 1
+majorOf (Item.bytes b) = 2
+majorOf (Item.text b) = 3
+majorOf (Item.array is) = 4
+majorOf (Item.map ps) = 5
+majorOf (Item.simple v) = 7
+
+abbrev pub argOf : Item → ℕ
+argOf (Item.uint v) = v
+argOf (Item.nint v) = v
+argOf (Item.bytes b) = length b
+argOf (Item.text b) = length b
+argOf (Item.array is) = count is
+argOf (Item.map ps) = countPairs ps
+argOf (Item.simple v) = v
 
 -- what a reader of items within d levels has to show
 unfoldable Complete : List ℕ → ℕ → (ℕ → Got Item) → Type 0
@@ -100,3 +119,16 @@ complete s (suc d) =
 pub item-reads : ItemReadsBack
 unfolding Complete
 item-reads s t d p i ok e = complete s d i p t ok e
+
+-- where an item's encoding stands, its head is read
+pub item-head : (s t : List ℕ) (d p : ℕ) (i : Item) → Ok i d → drop p s ≡ encode i ++ t → headAt s p ≡ Head.Is (majorOf i) (argOf i) (p + headLen (argOf i))
+unfolding encode Ok
+item-head s t d p (Item.uint v) ok e = head-reads s t p 0 v refl ok e
+item-head s t d p (Item.nint v) ok e = head-reads s t p 1 v refl ok e
+item-head s t d p (Item.bytes b) ok e = head-reads s (b ++ t) p 2 (length b) refl (ok .0) (e ∙ append-assoc (headBytes 2 (length b)) b t)
+item-head s t d p (Item.text b) ok e = head-reads s (b ++ t) p 3 (length b) refl (ok .0) (e ∙ append-assoc (headBytes 3 (length b)) b t)
+item-head s t zero p (Item.array xs) ok e = absurd ok
+item-head s t (suc d) p (Item.array xs) ok e = head-reads s (encodeItems xs ++ t) p 4 (count xs) refl (ok .0) (e ∙ append-assoc (headBytes 4 (count xs)) (encodeItems xs) t)
+item-head s t zero p (Item.map xs) ok e = absurd ok
+item-head s t (suc d) p (Item.map xs) ok e = head-reads s (encodePairs xs ++ t) p 5 (countPairs xs) refl (ok .0) (e ∙ append-assoc (headBytes 5 (countPairs xs)) (encodePairs xs) t)
+item-head s t d p (Item.simple v) ok e = let small : v < 2 ^ 64 = omega (arith, ok .1) in head-reads s t p 7 v (simp (le-leb 20 v (ok .0), le-leb v 22 (ok .1))) small e

@@ -11,3 +11,6 @@ pub mod Complete
 pub mod ItemSteps
 pub mod IntSteps
 pub mod WalkSteps
+pub mod Payload
+pub mod Walks
+pub mod SameValues

@@ -11,7 +11,7 @@ use lib.Dec.{leb}
 use borrow.Author.Tests.{le-leb, lt-leb, leb-true, leb-false}
 use Rattle.cbor.specs.Bytes.{bytesOf, put, putWhole, pastWhole, Stands}
 use Rattle.cbor.specs.Laws.{PutsJoin, PutStands}
-use Rattle.cbor.proofs.Numbers.{bytes-length}
+use Rattle.cbor.proofs.Numbers.{bytes-length, past}
 
 pub sets-append : (a b l : List ℕ) (i : ℕ) → sets l i (a ++ b) ≡ sets (sets l i a) (i + length a) b
 sets-append [] b l i = rw (add-zero i)
@@ -85,3 +85,34 @@ puts-join s a b p h =
     let y = put-whole (put s p a) b (p + length a) (omega (arith, length-put s a p)) in
     let z = put-whole s (a ++ b) p h in
     rw (x .0, x .1, y .0, y .1, z .0, z .1) (put-put s a b p, omega arith)
+
+pub put-stands : PutStands
+put-stands s bs p h =
+    let w = put-whole s bs p h in
+    let t = put-there s bs p h in
+    let n = length-put s bs p in
+    rw (w .0, w .1) (record {
+      bytes = t ∙ ap (λ (l : List ℕ). bs ++ l) (sym (past bs (drop (p + length bs) s) (put s p bs) p t));
+      len = refl;
+      fits = omega arith;
+    })
+
+-- a run of writes: t is s with bs stored from p on, up to q
+pub record Wrote (s : List ℕ) (p : ℕ) (bs t : List ℕ) (q : ℕ) : Type 0 where
+  pub list : t ≡ put s p bs
+  pub end : q ≡ p + length bs
+
+pub wrote-none : (s : List ℕ) (p : ℕ) → Wrote s p [] s p
+unfolding put
+wrote-none s p = record { list = refl; end = omega arith }
+
+-- one write more, which fits, as the writers' contracts say it
+pub wrote-more : (s bs cs t t′ : List ℕ) (p q q′ : ℕ) → p + length (bs ++ cs) ≤ length s → Wrote s p bs t q → (q′ ≡ pastWhole t q cs) × (t′ ≡ putWhole t q cs) → Wrote s p (bs ++ cs) t′ q′
+wrote-more s bs cs t t′ p q q′ h w x =
+    let n = length-append bs cs in
+    let l : length t ≡ length s = ap length (w .list) ∙ length-put s bs p in
+    let y = put-whole t cs q (omega (arith, w .end)) in
+    record {
+      list = x .1 ∙ y .0 ∙ rw (w .list, w .end) (put-put s bs cs p);
+      end = omega (arith, x .0, y .1, w .end);
+    }

@@ -9,7 +9,7 @@ use lib.ListN.{length, drop}
 use lib.IntN.{pos, negsuc, _-ℤ_}
 use Rattle.cbor.specs.Bytes.{Bytes, Stands, put, putWhole, pastWhole}
 use Rattle.cbor.specs.Head.{headBytes, headAt, headLen, Within}
-use Rattle.cbor.specs.Item.{Item, Pairs, Got, got, itemAt, pairsAt, encode, Ok, levels, payloadOf}
+use Rattle.cbor.specs.Item.{Item, Pairs, Got, got, itemAt, pairsAt, encode, Ok, OkPairs, levels, payloadOf}
 use Rattle.cbor.specs.Int.{intOf, intAt}
 use Rattle.cbor.specs.Find.{valueOf, seekAt, findAt}
 use Rattle.cbor.specs.declared.heads.Head.{Head}
@@ -86,6 +86,10 @@ Finds s d none Found.Nothing = Unit {0}
 -- the keys found are exactly those of the tree
 abbrev pub FindExact : Type 0
 FindExact = (s : List ℕ) → Bytes s → (d p e key : ℕ) (ps : Pairs) → itemAt s (suc d) p ≡ got (Item.map ps) e → Finds s d (valueOf ps key) (findAt s (suc d) key p)
+
+-- maps that hold the same under each key are equal
+abbrev pub SameValues : Type 0
+SameValues = (ps qs : Pairs) (lo lo′ d : ℕ) → OkPairs ps lo d → OkPairs qs lo′ d → ((k : ℕ) → valueOf ps k ≡ valueOf qs k) → ps ≡ qs
 
 -- two writes that fit, one behind the other, are one
 abbrev pub PutsJoin : Type 0
