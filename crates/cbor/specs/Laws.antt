@@ -6,9 +6,10 @@ use mathlib.Core.Logic.{_↔_}
 use mathlib.Core.List.{List, _++_}
 use mathlib.Core.Option.{Option, some, none}
 use lib.ListN.{length, drop}
+use lib.IntN.{pos, negsuc, _-ℤ_}
 use Rattle.cbor.specs.Bytes.{Bytes, Stands, put, putWhole, pastWhole}
 use Rattle.cbor.specs.Head.{headBytes, headAt, headLen, Within}
-use Rattle.cbor.specs.Item.{Item, Pairs, Got, got, itemAt, pairsAt, encode, Ok, levels, payloadOf}
+use Rattle.cbor.specs.Item.{Item, Pairs, Got, got, itemAt, pairsAt, encode, Ok, OkPairs, levels, payloadOf}
 use Rattle.cbor.specs.Int.{intOf, intAt}
 use Rattle.cbor.specs.Find.{valueOf, seekAt, findAt}
 use Rattle.cbor.specs.declared.heads.Head.{Head}
@@ -47,6 +48,10 @@ NoneBeginsAnother = (d : ℕ) (i j : Item) (t u : List ℕ) → Ok i d → Ok j 
 abbrev pub OneItem : Type 0
 OneItem = (d : ℕ) (i j : Item) → Ok i d → Ok j d → encode i ≡ encode j → i ≡ j
 
+-- negsuc n is -1 - n
+abbrev pub MinusOneMinus : Type 0
+MinusOneMinus = (n : ℕ) → negsuc n ≡ negsuc 0 -ℤ pos n
+
 -- the integer read is the integer that the item is
 abbrev pub IntExact : Type 0
 IntExact = (s : List ℕ) → Bytes s → (d p e : ℕ) (i : Item) → itemAt s d p ≡ got i e → intAt s p ≡ intOf i
@@ -81,6 +86,10 @@ Finds s d none Found.Nothing = Unit {0}
 -- the keys found are exactly those of the tree
 abbrev pub FindExact : Type 0
 FindExact = (s : List ℕ) → Bytes s → (d p e key : ℕ) (ps : Pairs) → itemAt s (suc d) p ≡ got (Item.map ps) e → Finds s d (valueOf ps key) (findAt s (suc d) key p)
+
+-- maps that hold the same under each key are equal
+abbrev pub SameValues : Type 0
+SameValues = (ps qs : Pairs) (lo lo′ d : ℕ) → OkPairs ps lo d → OkPairs qs lo′ d → ((k : ℕ) → valueOf ps k ≡ valueOf qs k) → ps ≡ qs
 
 -- two writes that fit, one behind the other, are one
 abbrev pub PutsJoin : Type 0

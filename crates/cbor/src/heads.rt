@@ -42,7 +42,7 @@ pub fn info_of(arg: u64) -> u64
 
 // How many bytes of argument stand behind a first byte with this additional information.
 pub fn width_of(info: u64) -> usize
-    ensures { λ r. ⌜ r ≡ widthOf info ⌝ }
+    ensures { λ r. ⌜ (r ≡ widthOf info) × (r ≤ 8) ⌝ }
 {
     if info == 24 {
         return 1;
