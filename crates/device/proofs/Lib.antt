@@ -5,3 +5,6 @@ pub mod HeldWords
 pub mod Lens
 pub mod Stores
 pub mod Effects
+pub mod Since
+pub mod Slots
+pub mod Ends

@@ -4,6 +4,7 @@ pub mod calls;
 pub mod claims;
 pub mod commands;
 pub mod holds;
+pub mod links;
 pub mod refusals;
 pub mod store;
 
