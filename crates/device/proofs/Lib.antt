@@ -7,4 +7,5 @@ pub mod Stores
 pub mod Effects
 pub mod Since
 pub mod Slots
-pub mod Ends
+pub mod Answered
+pub mod Changes

@@ -3,7 +3,7 @@ use Rattle.device.specs.Words.{zonesOf}
 use Rattle.device.specs.Refusals.{firstOf}
 use Rattle.device.specs.Calls.{leaveNumber, leaveAfter, zoneChange}
 use Rattle.device.proofs.Slots.{seated, not-seated, seat-slot}
-use Rattle.device.proofs.Ends.{refused, accepted, timed}
+use Rattle.device.proofs.Answered.{refused, accepted, timed}
 use Rattle.device.proofs.calls.leave.Statement.{statement}
 use Rattle.device.proofs.calls.leave.Tie as tie
 

@@ -6,7 +6,8 @@ use Rattle.device.specs.Refusals.{firstOf}
 use Rattle.device.specs.Calls.{linkNumber, linkAfter}
 use Rattle.device.proofs.Tests.{via}
 use Rattle.device.proofs.Slots.{seated, not-seated, seat-slot}
-use Rattle.device.proofs.Ends.{refused, accepted, timed, link-change, joined-there}
+use Rattle.device.proofs.Answered.{refused, accepted, timed}
+use Rattle.device.proofs.Changes.{link-change, joined-there}
 use Rattle.device.proofs.calls.link.Statement.{statement}
 use Rattle.device.proofs.calls.link.Tie as tie
 
