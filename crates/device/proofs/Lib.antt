@@ -9,3 +9,7 @@ pub mod Since
 pub mod Slots
 pub mod Answered
 pub mod Changes
+pub mod Fills
+pub mod Ends
+pub mod Gather
+pub mod Signs
