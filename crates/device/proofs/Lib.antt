@@ -5,6 +5,10 @@ pub mod HeldWords
 pub mod Lens
 pub mod Stores
 pub mod Effects
+pub mod Since
+pub mod Slots
+pub mod Answered
+pub mod Changes
 pub mod Fills
 pub mod Ends
 pub mod Gather

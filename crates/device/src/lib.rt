@@ -6,6 +6,7 @@ pub mod commands;
 pub mod content;
 pub mod fields;
 pub mod holds;
+pub mod links;
 pub mod obey;
 pub mod outcomes;
 pub mod refusals;
