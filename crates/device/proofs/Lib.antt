@@ -13,3 +13,4 @@ pub mod Fills
 pub mod Ends
 pub mod Gather
 pub mod Signs
+pub mod Decisions

@@ -19,7 +19,15 @@ ghost use lib.Dec.{eqb};
 ghost use Rattle.device.specs.Refusals.{firstOf};
 ghost use Rattle.device.specs.Commands.{commandTests, decisionOf, outcomeFor, enacted, commandAnswer, commandAfter};
 
-fn number_of(clock: u64, there: bool, up: bool, s: Settings, overridden: u64, t: u64, c: Command) -> u64
+fn number_of(
+    clock: u64,
+    there: bool,
+    up: bool,
+    s: Settings,
+    overridden: u64,
+    t: u64,
+    c: Command,
+) -> u64
     ensures { λ r. ⌜ r ≡ firstOf (commandTests clock there up s overridden t c) ⌝ }
 {
     if content::is_unserved(c) {
@@ -44,7 +52,15 @@ pub fn decide(d: &State, zone: u64, t: u64, c: Command) -> Decision
     let slot = store::seat_of(d, zone);
     let x = store::zone_at(d, slot);
     let s = store::settings_at(d);
-    let n = number_of(store::clock(d), slot < SLOTS, x.up, s, store::overridden(d), t, c);
+    let n = number_of(
+        store::clock(d),
+        slot < SLOTS,
+        x.up,
+        s,
+        store::overridden(d),
+        t,
+        c,
+    );
     if n == 0 {
         return Decision {
             number: 0,

@@ -175,7 +175,7 @@ pub fn is_below_minimum(s: Settings, c: Command) -> bool
 }
 
 // What is asked of the command itself, once its zone is joined and up.
-fn content_number(s: Settings, overridden: u64, c: Command) -> u64
+pub fn content_number(s: Settings, overridden: u64, c: Command) -> u64
     ensures { λ r. ⌜ r ≡ firstOf ((unsupported s c, 11) ∷ (isSetLimit c && not (eqb overridden 0), 12) ∷ (invalid c, 13) ∷ (belowTheMinimum s c, 14) ∷ []) ⌝ }
 {
     if is_unsupported(s, c) {
