@@ -1,14 +1,12 @@
 -- The story of a room: a call touches one slot at most, a left slot is free, a joined one is new, whatever stood there before.
-use Prim.Native.Nat.{ℕ, zero, suc, _<_, _≤_}
-use mathlib.Core.Bool.{Bool, true, false, cond, not}
+use Prim.Native.Nat.{ℕ, _<_}
+use mathlib.Core.Bool.{Bool, true, false, cond}
 use mathlib.Core.Logic.{_≢_}
-use mathlib.Core.Path.{_≡_, refl, sym, ap, _∙_}
-use mathlib.Core.List.{List, [], _∷_}
-use native.Mathlib.Nat.{le-of-suc-le-suc, not-suc-le-zero}
-use native.Mathlib.Omega.{arith}
-use borrow.Author.Tests.{leb-false, not-false, eqb-true}
+use mathlib.Core.Path.{_≡_, refl}
+use mathlib.Core.List.{List}
+use borrow.Author.Tests.{leb-false, not-false}
 use lib.Dec.{leb, eqb}
-use lib.ListN.{length, getD, set, length-replicate}
+use lib.ListN.{length, getD}
 use lib.Seq.{getD-set-same, getD-set-other}
 use Rattle.messages.specs.declared.Command.{Command}
 use Rattle.device.specs.Sizes.{helds, slots, words}

@@ -1,6 +1,4 @@
-use mathlib.Core.Path.{_≡_, refl, sym}
 use native.Mathlib.Omega.{arith}
-use borrow.Author.Tests.{eq-eqb, ne-eqb}
 use Rattle.device.specs.Refusals.{firstOf}
 use Rattle.device.specs.Calls.{askNumber, askAnswer, askAfter}
 use Rattle.device.proofs.Answered.{refused, accepted, timed}
