@@ -2,3 +2,4 @@ pub mod IsPlan
 pub mod Alike
 pub mod Walk
 pub mod Nearest
+pub mod Written

@@ -1,6 +1,7 @@
 // The rows, six numbers each.
-use device::SLOTS;
 use device::HELDS;
+use device::SLOTS;
+use device::VALUES;
 ghost use mathlib.Core.Path.{_≡_};
 ghost use mathlib.Core.List.{_∷_, _++_};
 ghost use Prim.Native.Nat.{_+_, _<_, _≤_};
@@ -9,8 +10,6 @@ ghost use lib.ListN.{length, take, drop};
 ghost use lib.Seq.{sets};
 ghost use Rattle.device.specs.Sizes.{end};
 ghost use Rattle.planner.specs.Walk.{sameNumber, alike};
-
-const VALUES: usize = 1 + HELDS;
 
 pub const ROW: usize = 1 + VALUES;
 
@@ -51,9 +50,9 @@ fn put_row(out: &mut [i64; ROOM], at: usize, t: u64, values: [i64; VALUES])
 }
 
 // The first n numbers, to the front of the slice.
-pub fn copy(rows: &mut [i64], from: &[i64; ROOM], n: usize)
+pub fn copy(rows: &mut [i64], from: &[i64], n: usize)
     requires { do ⌜ n ≤ (← ⟦rows.len()⟧) ⌝ }
-    requires { ⌜ n ≤ 192 ⌝ }
+    requires { do ⌜ n ≤ (← ⟦from.len()⟧) ⌝ }
     ensures { λ _. ⌜ now (rows .exit) ≡ take n (now (from .entry)) ++ drop n (now (rows .entry)) ⌝ }
 {
     let mut i = 0;
