@@ -3,3 +3,4 @@ pub mod Alike
 pub mod Walk
 pub mod Nearest
 pub mod Written
+pub mod Find
