@@ -5,6 +5,7 @@ pub mod claims;
 pub mod commands;
 pub mod fields;
 pub mod holds;
+pub mod links;
 pub mod refusals;
 pub mod store;
 

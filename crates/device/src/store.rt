@@ -82,6 +82,12 @@ pub fn settings_at(d: &State) -> Settings
     }
 }
 
+pub fn is_manager(d: &State) -> bool
+    ensures { λ r. ⌜ r ≡ settingsOf (now (d .entry)) .manager ⌝ }
+{
+    0 < word(d, 12)
+}
+
 // Held value q of those that start at word p.
 fn held_in(d: &State, p: usize, q: usize) -> Held
     requires { ⌜ (p < words) × (q < helds) ⌝ }
