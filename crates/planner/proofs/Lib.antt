@@ -4,3 +4,4 @@ pub mod Walk
 pub mod Nearest
 pub mod Written
 pub mod Find
+pub mod Answers
