@@ -1,6 +1,7 @@
 // The plan: each second after now at which what holds will change, and what holds from then on.
 mod dues;
 mod rows;
+
 use device::State;
 use device::refusals::is_late;
 use device::store::apply_head;
@@ -18,6 +19,15 @@ pub struct Planned {
     pub count: u64,
 }
 
+fn refused(number: u64) -> Planned
+    ensures { λ r. ⌜ r ≡ record { number = number; count = 0 } ⌝ }
+{
+    Planned {
+        number: number,
+        count: 0,
+    }
+}
+
 // The rows go to a local first, so that nothing is written where they do not all fit.
 pub fn plan(d: &mut State, t: u64, rows: &mut [i64]) -> Planned
     ensures { λ r. ⌜ r ≡ planAnswer (now (d .entry)) t (length (now (rows .entry))) ⌝ }
@@ -25,19 +35,13 @@ pub fn plan(d: &mut State, t: u64, rows: &mut [i64]) -> Planned
     ensures { λ _. ⌜ now (rows .exit) ≡ planSlice (now (d .entry)) t (now (rows .entry)) ⌝ }
 {
     if is_late(clock(d), t) {
-        return Planned {
-            number: 5,
-            count: 0,
-        };
+        return refused(5);
     }
     let mut found = [0; ROOM];
     let count = rows::find(d, t, &mut found);
     let size = count * ROW;
     if rows.len() < size {
-        return Planned {
-            number: 15,
-            count: 0,
-        };
+        return refused(15);
     }
     rows::copy(rows, &found, size);
     let o = overridden(d);

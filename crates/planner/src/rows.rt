@@ -1,11 +1,11 @@
 // The rows, six numbers each.
+use super::dues::next_due;
 use device::END;
 use device::HELDS;
 use device::SLOTS;
 use device::State;
 use device::VALUES;
 use device::holds::values_at;
-use super::dues::next_due;
 ghost use mathlib.Core.Path.{_≡_};
 ghost use mathlib.Core.List.{_∷_, _++_};
 ghost use Prim.Native.Nat.{_+_, _*_, _<_, _≤_};

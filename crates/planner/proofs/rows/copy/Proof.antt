@@ -20,6 +20,7 @@ Inv-loop rows₀ from n i₀ rows i = (i ≤ n) × (length rows ≡ length rows�
 
 abbrev μ-loop : tie.MeasureT-loop
 μ-loop rows₀ from n i₀ rows i = n - i
+
 -- src/rows.rt:59:5
 loop-holds : tie.Need-loop-holds Inv-loop μ-loop
 loop-holds c = (omega arith, refl, paste-zero (c .args .rows .now) 0 (c .args .from .now))

@@ -58,11 +58,11 @@ loop-again c =
     let so-far = c .before .before .before .before .before .loop .inv in
     ⊎-elim
     (λ w.
-      subst₂ (λ (o : List ℤ) (n : ℕ). Finding (c .before .before .before .before .before .before .before .before .args .d .now) (c .before .before .before .before .before .before .before .before .args .t) (c .before .before .before .before .before .before .before .before .args .out .now) o n (c .before .before .before .values-at2 .result) (c .next-due2 .result)) (sym (w .3)) (sym (w .4))
-      (finding-new (c .before .before .before .before .before .before .before .before .args .d .now) (c .before .before .before .before .before .before .before .before .args .t) (c .before .before .before .before .before .before .before .before .args .out .now) (c .before .before .before .before .before .loop .out) (c .before .before .before .before .before .loop .count) (c .before .before .before .before .before .loop .last) (c .before .before .before .before .before .loop .due) so-far _ (c .before .before .before .values-at2 .ensures) (c .before .before .before .before .loop-test .taken) _ (c .next-due2 .ensures) (via (c .before .before .alike .ensures) (not-true _ (w .0 .taken))) _ (w .2 .ensures)))
+    subst₂ (λ (o : List ℤ) (n : ℕ). Finding (c .before .before .before .before .before .before .before .before .args .d .now) (c .before .before .before .before .before .before .before .before .args .t) (c .before .before .before .before .before .before .before .before .args .out .now) o n (c .before .before .before .values-at2 .result) (c .next-due2 .result)) (sym (w .3)) (sym (w .4))
+    (finding-new (c .before .before .before .before .before .before .before .before .args .d .now) (c .before .before .before .before .before .before .before .before .args .t) (c .before .before .before .before .before .before .before .before .args .out .now) (c .before .before .before .before .before .loop .out) (c .before .before .before .before .before .loop .count) (c .before .before .before .before .before .loop .last) (c .before .before .before .before .before .loop .due) so-far _ (c .before .before .before .values-at2 .ensures) (c .before .before .before .before .loop-test .taken) _ (c .next-due2 .ensures) (via (c .before .before .alike .ensures) (not-true _ (w .0 .taken))) _ (w .2 .ensures)))
     (λ w.
-      subst₂ (λ (o : List ℤ) (n : ℕ). Finding (c .before .before .before .before .before .before .before .before .args .d .now) (c .before .before .before .before .before .before .before .before .args .t) (c .before .before .before .before .before .before .before .before .args .out .now) o n (c .before .before .before .values-at2 .result) (c .next-due2 .result)) (sym (w .1)) (sym (w .2))
-      (finding-same (c .before .before .before .before .before .before .before .before .args .d .now) (c .before .before .before .before .before .before .before .before .args .t) (c .before .before .before .before .before .before .before .before .args .out .now) (c .before .before .before .before .before .loop .out) (c .before .before .before .before .before .loop .count) (c .before .before .before .before .before .loop .last) (c .before .before .before .before .before .loop .due) so-far _ (c .before .before .before .values-at2 .ensures) (c .before .before .before .before .loop-test .taken) _ (c .next-due2 .ensures) (via (c .before .before .alike .ensures) (not-false _ (w .0 .left)))))
+    subst₂ (λ (o : List ℤ) (n : ℕ). Finding (c .before .before .before .before .before .before .before .before .args .d .now) (c .before .before .before .before .before .before .before .before .args .t) (c .before .before .before .before .before .before .before .before .args .out .now) o n (c .before .before .before .values-at2 .result) (c .next-due2 .result)) (sym (w .1)) (sym (w .2))
+    (finding-same (c .before .before .before .before .before .before .before .before .args .d .now) (c .before .before .before .before .before .before .before .before .args .t) (c .before .before .before .before .before .before .before .before .args .out .now) (c .before .before .before .before .before .loop .out) (c .before .before .before .before .before .loop .count) (c .before .before .before .before .before .loop .last) (c .before .before .before .before .before .loop .due) so-far _ (c .before .before .before .values-at2 .ensures) (c .before .before .before .before .loop-test .taken) _ (c .next-due2 .ensures) (via (c .before .before .alike .ensures) (not-false _ (w .0 .left)))))
     (c .before .if1 .came)
 
 returns : tie.Need-returns Inv-loop μ-loop
