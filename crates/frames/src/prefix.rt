@@ -1,7 +1,8 @@
 // The length prefix: tested, and written with the payload.
 ghost use mathlib.Core.Path.{_≡_};
-ghost use Prim.Native.Nat.{_≤_, _<_, _^_};
+ghost use Prim.Native.Nat.{_+_, _≤_, _<_, _^_};
 ghost use lib.ListN.{length, take};
+ghost use lib.Seq.{paste};
 ghost use Rattle.frames.specs.Prefix.{framed, frameOf};
 ghost use Rattle.frames.specs.Writing.{writtenOf, leftBy};
 
@@ -38,6 +39,18 @@ pub fn refused(n: u64) -> Written
     }
 }
 
+// Stores the first n bytes of `from` at `at`.
+fn copy(out: &mut [u8], at: usize, from: &[u8], n: usize)
+    requires { ⌜ (at + n ≤ length (now out)) × (n ≤ length (now from)) ⌝ }
+    ensures { λ _. ⌜ now (out .exit) ≡ paste (now (out .entry)) at (now (from .entry)) n ⌝ }
+{
+    let mut i = 0;
+    while i < n {
+        out[at + i] = from[i];
+        i += 1;
+    }
+}
+
 // Writes the first n bytes of a payload behind their length, where all of it fits.
 pub fn send(out: &mut [u8], payload: &[u8], n: usize) -> Written
     requires { ⌜ (n ≤ length (now payload)) × (n < 2 ^ 32) ⌝ }
@@ -48,7 +61,7 @@ pub fn send(out: &mut [u8], payload: &[u8], n: usize) -> Written
         return refused(15);
     }
     cbor::put_u32(out, 0, n as u64);
-    bytes::copy(&payload[..n], &mut out[4..]);
+    copy(out, 4, payload, n);
     Written {
         number: 0,
         length: all,
