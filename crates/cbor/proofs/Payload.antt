@@ -34,11 +34,11 @@ pub payload-exact : PayloadExact
 unfolding payloadOf
 payload-exact s ok i = (
   (λ h.
-  let x = item-exact s ok levels 0 (length s) i .0 (ends-at (length s) (itemAt s levels 0) i h) in
-  (x .0, sym (x .1 .bytes ∙ ap (λ (l : List ℕ). encode i ++ l) (drop-length s) ∙ append-nil (encode i)))),
+      let x = item-exact s ok levels 0 (length s) i .0 (ends-at (length s) (itemAt s levels 0) i h) in
+      (x .0, sym (x .1 .bytes ∙ ap (λ (l : List ℕ). encode i ++ l) (drop-length s) ∙ append-nil (encode i)))),
   (λ x.
-  let r = item-reads s [] levels 0 i (x .0) (sym (append-nil (encode i) ∙ x .1)) in
-  rw (r, eq-eqb (0 + length (encode i)) (length s) (omega (arith, ap length (x .1))))),
+      let r = item-reads s [] levels 0 i (x .0) (sym (append-nil (encode i) ∙ x .1)) in
+      rw (r, eq-eqb (0 + length (encode i)) (length s) (omega (arith, ap length (x .1))))),
 )
 
 pub none-begins : NoneBeginsAnother
