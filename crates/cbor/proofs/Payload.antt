@@ -45,6 +45,10 @@ payload-exact s ok i = (
       rw (r, eq-eqb (0 + length (encode i)) (length s) (omega (arith, ap length (x .1))))),
 )
 
+-- the same for an item at the front
+pub item-front : (t : List ℕ) (d : ℕ) (i : Item) → Ok i d → itemAt (encode i ++ t) d 0 ≡ got i (length (encode i))
+item-front t d i ok = item-reads-back (encode i ++ t) t d 0 i ok refl ∙ ap (got i) (omega arith)
+
 pub none-begins-another : NoneBeginsAnother
 none-begins-another d i j t u oi oj e =
     let a = item-reads-back (encode i ++ t) t d 0 i oi refl in

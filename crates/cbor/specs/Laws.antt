@@ -8,7 +8,7 @@ use mathlib.Core.List.{List, _++_}
 use mathlib.Core.Option.{Option, some, none}
 use lib.ListN.{length, drop}
 use lib.IntN.{pos, negsuc, _-ℤ_}
-use Rattle.cbor.specs.Bytes.{Bytes, Stands, putWhole, pastWhole}
+use Rattle.cbor.specs.Bytes.{numberAt, bytesOf, Bytes, Stands, putWhole, pastWhole}
 use Rattle.cbor.specs.Head.{headBytes, headAt, headLen, Within}
 use Rattle.cbor.specs.Item.{Item, Pairs, Got, got, itemAt, pairsAt, encode, Ok, OkPairs, levels, payloadOf}
 use Rattle.cbor.specs.Int.{intOf, intAt}
@@ -16,6 +16,10 @@ use Rattle.cbor.specs.Find.{valueOf, seekAt, findAt}
 use Rattle.cbor.specs.declared.heads.Head.{Head}
 use Rattle.cbor.specs.declared.pairs.Stop.{Stop}
 use Rattle.cbor.specs.declared.pairs.Found.{Found}
+
+-- a number is read exactly where its bytes stand, whatever its width
+abbrev pub NumberExact : Type 0
+NumberExact = (s : List ℕ) → Bytes s → (w p v : ℕ) → p + w ≤ length s → (numberAt s p w ≡ v) ↔ ((v < 256 ^ w) × Stands s p (bytesOf w v) (p + w))
 
 -- a head is as long as headLen says
 abbrev pub HeadLength : Type 0
