@@ -1,4 +1,5 @@
--- What is proved of the definitions, each stated once; proofs/Laws.antt has the proofs. Assumes nothing: these are statements.
+-- What is proved of the definitions, each stated once. The proof of HeadExact is head-exact, in proofs/, and so for the others.
+-- Assumes nothing: these are statements.
 use Prim.Native.Nat.{ℕ, suc, _+_, _^_, _≤_, _<_}
 use mathlib.Core.Path.{_≡_}
 use mathlib.Core.Bool.{true, false}
@@ -6,18 +7,27 @@ use mathlib.Core.Logic.{_↔_}
 use mathlib.Core.List.{List, _++_}
 use mathlib.Core.Option.{Option, some, none}
 use lib.ListN.{length, drop}
-use Rattle.cbor.specs.Bytes.{Bytes, Stands, put, putWhole, pastWhole}
+use lib.IntN.{pos, negsuc, _-ℤ_}
+use Rattle.cbor.specs.Bytes.{numberAt, bytesOf, Bytes, Stands, putWhole, pastWhole}
 use Rattle.cbor.specs.Head.{headBytes, headAt, headLen, Within}
-use Rattle.cbor.specs.Item.{Item, Pairs, Got, got, itemAt, pairsAt, encode, Ok, levels, payloadOf}
+use Rattle.cbor.specs.Item.{Item, Pairs, got, itemAt, pairsAt, encode, Ok, OkPairs, levels, payloadOf}
 use Rattle.cbor.specs.Int.{intOf, intAt}
 use Rattle.cbor.specs.Find.{valueOf, seekAt, findAt}
 use Rattle.cbor.specs.declared.heads.Head.{Head}
 use Rattle.cbor.specs.declared.pairs.Stop.{Stop}
 use Rattle.cbor.specs.declared.pairs.Found.{Found}
 
+-- a number is read exactly where its bytes stand, whatever its width
+abbrev pub NumberExact : Type 0
+NumberExact = (s : List ℕ) → Bytes s → (w p v : ℕ) → p + w ≤ length s → (numberAt s p w ≡ v) ↔ ((v < 256 ^ w) × Stands s p (bytesOf w v) (p + w))
+
 -- a head is as long as headLen says
 abbrev pub HeadLength : Type 0
 HeadLength = (m v : ℕ) → length (headBytes m v) ≡ headLen v
+
+-- and that is nine bytes at most
+abbrev pub HeadShort : Type 0
+HeadShort = (v : ℕ) → headLen v ≤ 9
 
 -- a head that stands in a list is read there, whatever its width
 abbrev pub HeadReadsBack : Type 0
@@ -46,6 +56,10 @@ NoneBeginsAnother = (d : ℕ) (i j : Item) (t u : List ℕ) → Ok i d → Ok j 
 -- two items with one encoding are equal
 abbrev pub OneItem : Type 0
 OneItem = (d : ℕ) (i j : Item) → Ok i d → Ok j d → encode i ≡ encode j → i ≡ j
+
+-- negsuc n is -1 - n
+abbrev pub MinusOneMinus : Type 0
+MinusOneMinus = (n : ℕ) → negsuc n ≡ negsuc 0 -ℤ pos n
 
 -- the integer read is the integer that the item is
 abbrev pub IntExact : Type 0
@@ -82,6 +96,10 @@ Finds s d none Found.Nothing = Unit {0}
 abbrev pub FindExact : Type 0
 FindExact = (s : List ℕ) → Bytes s → (d p e key : ℕ) (ps : Pairs) → itemAt s (suc d) p ≡ got (Item.map ps) e → Finds s d (valueOf ps key) (findAt s (suc d) key p)
 
+-- maps that hold the same under each key are equal
+abbrev pub SameValues : Type 0
+SameValues = (ps qs : Pairs) (lo lo′ d : ℕ) → OkPairs ps lo d → OkPairs qs lo′ d → ((k : ℕ) → valueOf ps k ≡ valueOf qs k) → ps ≡ qs
+
 -- two writes that fit, one behind the other, are one
 abbrev pub PutsJoin : Type 0
 PutsJoin = (s a b : List ℕ) (p : ℕ) → p + length (a ++ b) ≤ length s → (putWhole (putWhole s p a) (pastWhole s p a) b ≡ putWhole s p (a ++ b)) × (pastWhole (putWhole s p a) (pastWhole s p a) b ≡ pastWhole s p (a ++ b))
@@ -89,3 +107,11 @@ PutsJoin = (s a b : List ℕ) (p : ℕ) → p + length (a ++ b) ≤ length s →
 -- what is written stands there
 abbrev pub PutStands : Type 0
 PutStands = (s bs : List ℕ) (p : ℕ) → p + length bs ≤ length s → Stands (putWhole s p bs) p bs (pastWhole s p bs)
+
+-- a head that is written reads back
+abbrev pub HeadWritten : Type 0
+HeadWritten = (s : List ℕ) (p m v : ℕ) → Within m v → v < 2 ^ 64 → p + headLen v ≤ length s → headAt (putWhole s p (headBytes m v)) p ≡ Head.Is m v (p + headLen v)
+
+-- an item that is written reads back
+abbrev pub ItemWritten : Type 0
+ItemWritten = (s : List ℕ) (d p : ℕ) (i : Item) → Ok i d → p + length (encode i) ≤ length s → itemAt (putWhole s p (encode i)) d p ≡ got i (p + length (encode i))
