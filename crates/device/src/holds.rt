@@ -29,7 +29,7 @@ ghost use Rattle.device.specs.Holds.{noClaim, claimOf, better, amountOf,
 ghost use Rattle.device.specs.Pass.{noneMet, gatheredWith, gathered, failsafeFrom, valueFrom, limitedFrom, stateFrom, valuesFrom};
 
 // What a pass over the zones gathers: is one joined, is one up, and the winning claim of each quantity.
-pub struct Gathered {
+struct Gathered {
     pub joined: bool,
     pub up: bool,
     pub claims: [Claim; HELDS],
