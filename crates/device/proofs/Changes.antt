@@ -1,11 +1,11 @@
 -- The change of a call, as the code makes it: the second since which no link is up is moved only where the last one goes.
 use Prim.Native.Nat.{ℕ, _<_}
-use mathlib.Core.Bool.{Bool, true, false, cond, not, _&&_, _||_}
+use mathlib.Core.Bool.{Bool, true, false, cond}
 use mathlib.Core.Path.{_≡_}
 use mathlib.Core.List.{List}
+use native.Mathlib.Decide.{decLt}
 use native.Mathlib.Omega.{arith}
 use borrow.Author.Tests.{lt-leb, ne-eqb}
-use lib.Dec.{leb}
 use lib.ListN.{getD, set}
 use Rattle.device.specs.Sizes.{slots}
 use Rattle.device.specs.Zones.{freeZone, newZone, linked, isJoined, isUp, slotOf, joined}
@@ -26,13 +26,17 @@ module _ (ws : List ℕ) (t i : ℕ) (x : Zone) where
   unfolding zoneChange
   down-change e = rw (since-down (zonesOf ws) i t (sinceOf ws) x e)
 
--- a zone that may join is up once it has
-pub join-up : (z k : ℕ) → badJoin z k ≡ false → isUp (newZone z k) ≡ true
-unfolding badJoin isUp isJoined
-join-up z k e = rw (ne-eqb z 0 (λ q. some q e))
+-- a zone that may join has a number, and is up once it has joined
+pub join-above : (z k : ℕ) → badJoin z k ≡ false → 0 < z
+unfolding badJoin
+join-above z k e = elim (decLt 0 z) [ yes h ↦ h | no h ↦ absurd (apart (rw (lt-leb 1 z (omega arith)) at e)) ]
   where
-    some : z ≡ 0 → (not (leb 1 z && leb z 255) || not (leb 1 k && leb k 4)) ≡ false → ⊥
-    some q f = let g : (not (leb 1 z && leb z 255) || not (leb 1 k && leb k 4)) ≡ true = rw (lt-leb 1 z (omega arith)) in let n : _≡_ {A = ℕ} 0 1 = cc in omega arith
+    apart : true ≡ false → ⊥
+    apart q = let n : _≡_ {A = ℕ} 0 1 = cc in omega arith
+
+pub join-up : (z k : ℕ) → badJoin z k ≡ false → isUp (newZone z k) ≡ true
+unfolding isUp isJoined
+join-up z k e = let h : 0 < z = join-above z k e in rw (ne-eqb z 0 (λ q. omega arith))
 
 -- a joined zone's link, told: x is the record of its slot i
 module _ (ws : List ℕ) (t i : ℕ) (x : Zone) (j : isJoined x ≡ true) where

@@ -10,6 +10,8 @@ pub mod Since
 pub mod Slots
 pub mod Answered
 pub mod Changes
+pub mod FirstOf
+pub mod Rooms
 pub mod Fills
 pub mod Ends
 pub mod Gather

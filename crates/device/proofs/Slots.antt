@@ -5,7 +5,7 @@ use mathlib.Core.Path.{_≡_, refl, sym, ap, _∙_}
 use mathlib.Core.List.{List, [], _∷_}
 use native.Mathlib.Nat.{le-of-suc-le-suc, not-suc-le-zero}
 use native.Mathlib.Omega.{arith}
-use borrow.Author.Tests.{ltb-true, ltb-false, le-ltb, lt-ltb, eqb-true}
+use borrow.Author.Tests.{ltb-true, ltb-false, le-ltb, lt-ltb, eqb-true, eq-eqb}
 use lib.Dec.{ltb, eqb}
 use lib.ListN.{length, getD, set}
 use Rattle.device.specs.Sizes.{slots}
@@ -23,10 +23,26 @@ module _ {A : Type 0} (p : A → Bool) where
   first-passes [] d h = absurd (not-suc-le-zero h)
   first-passes (x ∷ l) d h = passes-at x l d (first-passes l d) (p x) refl h
 
+  -- what alone passes is found where it was stored
+  new-at : (y : A) (l : List A) (i : ℕ) (x : A) → (length l ≤ first p l → first p (set l i x) ≡ i) → (b : Bool) → p y ≡ b → suc (length l) ≤ cond b 0 (suc (first p l)) → cond b 0 (suc (first p (set l i x))) ≡ suc i
+  new-at y l i x ih true e h = absurd (not-suc-le-zero h)
+  new-at y l i x ih false e h = ap suc (ih (le-of-suc-le-suc h))
+
+  pub first-new : (l : List A) (i : ℕ) (x : A) → i < length l → p x ≡ true → length l ≤ first p l → first p (set l i x) ≡ i
+  unfolding first
+  first-new [] i x h e n = absurd (not-suc-le-zero h)
+  first-new (y ∷ l) zero x h e n = rw e
+  first-new (y ∷ l) (suc i) x h e n = new-at y l i x (first-new l i x (le-of-suc-le-suc h) e) (p y) refl n
+
 -- the slot that is found is the zone's
 pub slot-id : (zs : List Zone) (z : ℕ) → slotOf zs z < length zs → getD zs (slotOf zs z) freeZone .id ≡ z
 unfolding slotOf
 slot-id zs z h = eqb-true _ _ (first-passes (λ x. eqb (x .id) z) zs freeZone h)
+
+-- a zone that was nowhere is found in the slot where it was stored
+pub slot-new : (zs : List Zone) (z i : ℕ) (x : Zone) → i < length zs → x .id ≡ z → length zs ≤ slotOf zs z → slotOf (set zs i x) z ≡ i
+unfolding slotOf
+slot-new zs z i x h e n = first-new (λ y. eqb (y .id) z) zs i x h (eq-eqb (x .id) z e) n
 
 -- a joined zone's number is above 0 and its slot is below the last
 module _ (zs : List Zone) (z : ℕ) where
@@ -41,6 +57,10 @@ module _ (zs : List Zone) (z : ℕ) where
   pub joined-below : joined zs z ≡ true → slotOf zs z < slots
   unfolding joined
   joined-below j = ltb-true (slotOf zs z) slots (both (ltb 0 z) (ltb (slotOf zs z) slots) j .1)
+
+  pub unjoined : 0 < z → joined zs z ≡ false → slots ≤ slotOf zs z
+  unfolding joined
+  unjoined h j = ltb-false (slotOf zs z) slots (rw (lt-ltb 0 z h) at j)
 
 -- a seat: a joined zone's slot, and `slots` for any other number
 abbrev pub seat : List Zone → ℕ → ℕ

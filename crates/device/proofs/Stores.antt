@@ -1,11 +1,10 @@
 -- What the functions of `store` leave, as the definitions say it: single words of a record, and the stores of a whole one.
-use Prim.Native.Nat.{ℕ, zero, suc, _+_, _*_, _<_, _≤_}
-use mathlib.Core.Bool.{Bool, true, false, cond}
-use mathlib.Core.Path.{_≡_, refl, sym, ap, _∙_}
-use mathlib.Core.List.{List, [], _∷_}
+use Prim.Native.Nat.{ℕ, suc, _+_, _*_, _<_, _≤_}
+use mathlib.Core.Bool.{cond}
+use mathlib.Core.Path.{_≡_, sym, ap}
+use mathlib.Core.List.{List}
 use native.Mathlib.Decide.{decLt}
 use native.Mathlib.Numerals.{add-one}
-use native.Mathlib.Nat.{add-zero}
 use native.Mathlib.Omega.{arith}
 use borrow.Author.Tests.{lt-ltb, le-ltb}
 use lib.Dec.{ltb}
@@ -13,7 +12,7 @@ use lib.ListN.{getD, set, drop, length, replicate, getD-replicate, drop-of-lengt
 use lib.Seq.{sets, set-getD, drop-cons}
 use Rattle.device.specs.Sizes.{helds, slots}
 use Rattle.device.specs.Zones.{freeZone, nothing, heldOf}
-use Rattle.device.specs.Words.{sinceOf, base, heldIn, zoneAt, zonesOf, bit, heldWords, putZone, applied}
+use Rattle.device.specs.Words.{base, heldIn, zoneAt, zonesOf, bit, heldWords, putZone, applied}
 use Rattle.device.specs.Calls.{headChange}
 use Rattle.device.specs.declared.Held.{Held}
 use Rattle.device.specs.declared.Zone.{Zone}

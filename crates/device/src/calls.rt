@@ -5,19 +5,22 @@ ghost use Prim.Native.Nat.{_<_};
 ghost use lib.ListN.{getD, set};
 ghost use Rattle.device.specs.Zones.{freeZone, newZone, linked};
 ghost use Rattle.device.specs.Words.{sinceOf, zonesOf};
-ghost use Rattle.device.specs.Calls.{sinceAfter, zoneChange, joinNumber, joinAfter, leaveNumber, leaveAfter, same, linkNumber, linkAfter, overrideWord, overrideNumber, overrideAfter, clearNumber, clearAfter};
+ghost use Rattle.device.specs.Calls.{sinceAfter, joinNumber, joinAfter, leaveNumber, leaveAfter, same, linkNumber, linkAfter, overrideWord, overrideNumber, overrideAfter, clearNumber, clearAfter, askAnswer, askAfter};
 ghost use Rattle.device.specs.Start.{refusedSettings, startNumber, startAfter};
-use super::Change;
-use super::HELDS;
-use super::Held;
-use super::MOST;
-use super::SLOTS;
-use super::Settings;
-use super::State;
-use super::Zone;
-use super::links;
-use super::refusals;
-use super::store;
+use crate::Asked;
+use crate::Change;
+use crate::HELDS;
+use crate::Held;
+use crate::MOST;
+use crate::SLOTS;
+use crate::Settings;
+use crate::State;
+use crate::VALUES;
+use crate::Zone;
+use crate::holds;
+use crate::links;
+use crate::refusals;
+use crate::store;
 
 fn refused_settings() -> Settings
     ensures { λ r. ⌜ r ≡ refusedSettings ⌝ }
@@ -203,4 +206,22 @@ pub fn clear_override(d: &mut State, t: u64) -> u64
     }
     store::apply_head(d, t, 0);
     0
+}
+
+pub fn ask(d: &mut State, t: u64) -> Asked
+    ensures { λ r. ⌜ (r ≡ askAnswer (now (d .entry)) t) × (now (d .exit) ≡ askAfter (now (d .entry)) t) ⌝ }
+{
+    if refusals::is_late(store::clock(d), t) {
+        return Asked {
+            number: 5,
+            values: [-1; VALUES],
+        };
+    }
+    let values = holds::values_at(d, t);
+    let o = store::overridden(d);
+    store::apply_head(d, t, o);
+    Asked {
+        number: 0,
+        values: values,
+    }
 }

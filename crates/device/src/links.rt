@@ -5,9 +5,9 @@ ghost use lib.ListN.{getD, set};
 ghost use Rattle.device.specs.Zones.{freeZone, isUp, anyUp};
 ghost use Rattle.device.specs.Words.{sinceOf, zonesOf};
 ghost use Rattle.device.specs.Calls.{sinceAfter};
-use super::SLOTS;
-use super::State;
-use super::store;
+use crate::SLOTS;
+use crate::State;
+use crate::store;
 
 fn is_up(d: &State, slot: usize) -> bool
     ensures { λ r. ⌜ r ≡ isUp (getD (zonesOf (now (d .entry))) slot freeZone) ⌝ }

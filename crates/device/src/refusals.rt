@@ -3,10 +3,10 @@ ghost use mathlib.Core.Path.{_≡_};
 ghost use Rattle.device.specs.Refusals.{late};
 ghost use Rattle.device.specs.Calls.{badJoin, goTogether};
 ghost use Rattle.device.specs.Start.{badMaximum, badSettings};
-use super::END;
-use super::MOST;
-use super::Settings;
-use super::VALUE_END;
+use crate::END;
+use crate::MOST;
+use crate::Settings;
+use crate::VALUE_END;
 
 pub fn is_late(clock: u64, t: u64) -> bool
     ensures { λ r. ⌜ r ≡ late clock t ⌝ }

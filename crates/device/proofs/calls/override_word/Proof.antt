@@ -1,4 +1,3 @@
-use borrow.Author.Needs.{needs}
 use native.Mathlib.Omega.{arith}
 use Rattle.device.specs.Calls.{overrideWord}
 use Rattle.device.proofs.calls.override_word.Statement.{statement}

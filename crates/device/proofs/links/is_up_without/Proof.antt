@@ -1,5 +1,5 @@
 use lib.Seq.{getD-set-other}
-use Rattle.device.specs.Zones.{isJoined, isUp, freeZone}
+use Rattle.device.specs.Zones.{isJoined, isUp}
 use Rattle.device.proofs.Since.{freed}
 use Rattle.device.proofs.links.is_up_without.Statement.{statement}
 use Rattle.device.proofs.links.is_up_without.Tie as tie
