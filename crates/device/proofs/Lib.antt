@@ -16,3 +16,8 @@ pub mod Fills
 pub mod Ends
 pub mod Gather
 pub mod Signs
+pub mod Decisions
+pub mod Before
+pub mod Winner
+pub mod Rows
+pub mod Expiry

@@ -1,329 +1,148 @@
 // The four commands: decided, answered from what would hold, applied.
-use crate::Action;
-use crate::HELDS;
-use crate::Held;
-use crate::MOST;
+use crate::Answer;
+use crate::Change;
+use crate::Decision;
+use crate::SLOTS;
 use crate::Settings;
-use crate::Zone;
-use crate::claims::supports;
-use crate::fields::aim_action;
-use crate::fields::field_above;
-use crate::fields::field_action;
-use crate::fields::field_names;
-use crate::fields::field_negative;
-use crate::fields::field_too_low;
-use crate::fields::limit_field;
-use crate::fields::setpoint_field;
-use crate::fields::target_action;
-use crate::fields::target_names;
-use crate::fields::target_negative;
-use messages::Aim;
+use crate::State;
+use crate::content;
+use crate::holds;
+use crate::obey;
+use crate::outcomes;
+use crate::refusals;
+use crate::store;
 use messages::Command;
+use messages::Outcome;
 ghost use mathlib.Core.Path.{_≡_};
-ghost use mathlib.Core.Bool.{not, _&&_, _||_};
-ghost use mathlib.Core.List.{[], _∷_};
+ghost use mathlib.Core.Bool.{cond};
 ghost use lib.Dec.{eqb};
-ghost use lib.ListN.{getD};
-ghost use Rattle.device.specs.Sizes.{helds};
-ghost use Rattle.device.specs.Zones.{upTo, nothing};
-ghost use Rattle.device.specs.Holds.{supports};
 ghost use Rattle.device.specs.Refusals.{firstOf};
-ghost use Rattle.device.specs.Commands.{fieldsUnsupported, aimUnsupported, unsupported, isUnserved, isSetLimit, invalid, belowTheMinimum, commandTests, action, durationOf, untilOf, done, obeyed, isCapped};
+ghost use Rattle.device.specs.Commands.{commandTests, decisionOf, outcomeFor, enacted, commandAnswer, commandAfter};
 
-// THE TESTS
-
-fn names_unsupported(named: bool, has: u64, d: u64) -> bool
-    ensures { λ r. ⌜ r ≡ named && not (supports has d) ⌝ }
+fn number_of(
+    clock: u64,
+    there: bool,
+    up: bool,
+    s: Settings,
+    overridden: u64,
+    t: u64,
+    c: Command,
+) -> u64
+    ensures { λ r. ⌜ r ≡ firstOf (commandTests clock there up s overridden t c) ⌝ }
 {
-    if named {
-        return !supports(has, d);
+    if content::is_unserved(c) {
+        return 4;
     }
-    false
+    if refusals::is_late(clock, t) {
+        return 5;
+    }
+    if !there {
+        return 9;
+    }
+    if !up {
+        return 10;
+    }
+    content::content_number(s, overridden, c)
 }
 
-fn fields_unsupported(has: u64, c: bool, p: bool) -> bool
-    ensures { λ r. ⌜ r ≡ fieldsUnsupported has c p ⌝ }
+// The number, and the record that the zone would then have.
+pub fn decide(d: &State, zone: u64, t: u64, c: Command) -> Decision
+    ensures { λ r. ⌜ r ≡ decisionOf (now (d .entry)) zone t c ⌝ }
 {
-    if names_unsupported(c, has, 0) {
-        return true;
+    let slot = store::seat_of(d, zone);
+    let x = store::zone_at(d, slot);
+    let s = store::settings_at(d);
+    let n = number_of(
+        store::clock(d),
+        slot < SLOTS,
+        x.up,
+        s,
+        store::overridden(d),
+        t,
+        c,
+    );
+    if n == 0 {
+        return Decision {
+            number: 0,
+            slot: slot,
+            zone: obey::obeyed(s, c, t, x),
+        };
     }
-    names_unsupported(p, has, 1)
+    Decision {
+        number: n,
+        slot: SLOTS,
+        zone: store::free_zone(),
+    }
 }
 
-fn aim_unsupported(has: u64, a: Aim) -> bool
-    ensures { λ r. ⌜ r ≡ aimUnsupported has a ⌝ }
+fn success_if(n: u64) -> Outcome
+    ensures { λ r. ⌜ r ≡ cond (eqb n 0) Outcome.Success Outcome.Nothing ⌝ }
 {
-    match a {
-        Aim::Both => false,
-        Aim::One(d) => !supports(has, d),
+    if n == 0 {
+        return Outcome::Success;
     }
+    Outcome::Nothing
 }
 
-pub fn is_unsupported(s: Settings, c: Command) -> bool
-    ensures { λ r. ⌜ r ≡ unsupported s c ⌝ }
+// What would be answered, before anything is stored. A clear needs no values.
+pub fn outcome_of(d: &State, t: u64, c: Command, x: Decision) -> Outcome
+    ensures { λ r. ⌜ r ≡ outcomeFor (now (d .entry)) t c x ⌝ }
 {
+    let n = x.number;
+    let zone = x.zone;
     match c {
-        Command::SetLimit(m) => {
-            let a = m.consumption;
-            let b = m.production;
-            if s.limits {
-                return fields_unsupported(s.directions, field_names(a), field_names(b));
+        Command::SetLimit(_) => {
+            if outcomes::has_result(n) {
+                let capped = outcomes::is_capped(store::settings_at(d), c);
+                return outcomes::limit_outcome(n, capped, holds::values_with(d, x.slot, zone, t));
             }
-            true
+            Outcome::Nothing
         }
-        Command::ClearLimit(a) => {
-            if s.limits {
-                return aim_unsupported(s.directions, a);
+        Command::ClearLimit(_) => success_if(n),
+        Command::SetSetpoint(_) => {
+            if n == 0 {
+                return outcomes::setpoint_outcome(holds::values_with(d, x.slot, zone, t));
             }
-            true
+            Outcome::Nothing
         }
-        Command::SetSetpoint(m) => {
-            let a = m.consumption;
-            let b = m.production;
-            if s.setpoints {
-                return fields_unsupported(s.directions, target_names(a), target_names(b));
-            }
-            true
-        }
-        Command::ClearSetpoint(a) => {
-            if s.setpoints {
-                return aim_unsupported(s.directions, a);
-            }
-            true
-        }
-        Command::Unserved(_) => false,
+        Command::ClearSetpoint(_) => success_if(n),
+        Command::Unserved(_) => Outcome::Nothing,
     }
 }
 
-pub fn is_unserved(c: Command) -> bool
-    ensures { λ r. ⌜ r ≡ isUnserved c ⌝ }
+// The decision applied. A refused one stores nothing.
+pub fn enact(d: &mut State, t: u64, x: Decision)
+    ensures { λ r. ⌜ now (d .exit) ≡ enacted (now (d .entry)) t x ⌝ }
 {
-    match c {
-        Command::SetLimit(_) => false,
-        Command::ClearLimit(_) => false,
-        Command::SetSetpoint(_) => false,
-        Command::ClearSetpoint(_) => false,
-        Command::Unserved(_) => true,
+    if x.number == 0 {
+        let zone = x.zone;
+        let change = Change {
+            time: t,
+            slot: x.slot,
+            zone: zone,
+            since: store::since(d),
+            overridden: store::overridden(d),
+        };
+        store::apply(d, change);
     }
 }
 
-pub fn is_set_limit(c: Command) -> bool
-    ensures { λ r. ⌜ r ≡ isSetLimit c ⌝ }
+// A copy: an array by value, whose length the proof knows. Nothing reads it, so it leaves no code.
+fn whole(d: &State) -> State
+    ensures { λ r. ⌜ r ≡ now (d .entry) ⌝ }
 {
-    match c {
-        Command::SetLimit(_) => true,
-        Command::ClearLimit(_) => false,
-        Command::SetSetpoint(_) => false,
-        Command::ClearSetpoint(_) => false,
-        Command::Unserved(_) => false,
-    }
+    *d
 }
 
-// An override stops every SetLimit and no other command.
-fn is_stopped(c: Command, overridden: u64) -> bool
-    ensures { λ r. ⌜ r ≡ isSetLimit c && not (eqb overridden 0) ⌝ }
+pub fn command(d: &mut State, zone: u64, t: u64, c: Command) -> Answer
+    ensures { λ r. ⌜ (r ≡ commandAnswer (now (d .entry)) zone t c) × (now (d .exit) ≡ commandAfter (now (d .entry)) zone t c) ⌝ }
 {
-    if is_set_limit(c) {
-        return overridden != 0;
-    }
-    false
-}
-
-// Two fields are invalid where one is negative or neither is named.
-fn fields_invalid(low: bool, low2: bool, named: bool, named2: bool) -> bool
-    ensures { λ r. ⌜ r ≡ (low || low2) || not (named || named2) ⌝ }
-{
-    if low {
-        return true;
-    }
-    if low2 {
-        return true;
-    }
-    if named {
-        return false;
-    }
-    !named2
-}
-
-pub fn is_invalid(c: Command) -> bool
-    ensures { λ r. ⌜ r ≡ invalid c ⌝ }
-{
-    match c {
-        Command::SetLimit(m) => {
-            let a = m.consumption;
-            let b = m.production;
-            fields_invalid(
-                field_negative(a),
-                field_negative(b),
-                field_names(a),
-                field_names(b),
-            )
-        }
-        Command::ClearLimit(_) => false,
-        Command::SetSetpoint(m) => {
-            let a = m.consumption;
-            let b = m.production;
-            fields_invalid(
-                target_negative(a),
-                target_negative(b),
-                target_names(a),
-                target_names(b),
-            )
-        }
-        Command::ClearSetpoint(_) => false,
-        Command::Unserved(_) => false,
-    }
-}
-
-pub fn is_below_minimum(s: Settings, c: Command) -> bool
-    ensures { λ r. ⌜ r ≡ belowTheMinimum s c ⌝ }
-{
-    match c {
-        Command::SetLimit(m) => {
-            let a = m.consumption;
-            field_too_low(s.minimum, a)
-        }
-        Command::ClearLimit(_) => false,
-        Command::SetSetpoint(_) => false,
-        Command::ClearSetpoint(_) => false,
-        Command::Unserved(_) => false,
-    }
-}
-
-// What is asked of the command itself, once its zone is joined and up.
-fn content_number(s: Settings, overridden: u64, c: Command) -> u64
-    ensures { λ r. ⌜ r ≡ firstOf ((unsupported s c, 11) ∷ (isSetLimit c && not (eqb overridden 0), 12) ∷ (invalid c, 13) ∷ (belowTheMinimum s c, 14) ∷ []) ⌝ }
-{
-    if is_unsupported(s, c) {
-        return 11;
-    }
-    if is_stopped(c, overridden) {
-        return 12;
-    }
-    if is_invalid(c) {
-        return 13;
-    }
-    if is_below_minimum(s, c) {
-        return 14;
-    }
-    0
-}
-
-// WHAT A COMMAND LEAVES HELD
-
-pub fn action(s: Settings, c: Command, q: usize) -> Action
-    ensures { λ r. ⌜ r ≡ action s c q ⌝ }
-{
-    let d = q % 2;
-    match c {
-        Command::SetLimit(m) => {
-            if q < 2 {
-                return field_action(s.maxima[d], limit_field(m, d as u64));
-            }
-            Action::Keep
-        }
-        Command::ClearLimit(a) => {
-            if q < 2 {
-                return aim_action(a, d as u64);
-            }
-            Action::Keep
-        }
-        Command::SetSetpoint(m) => {
-            if q < 2 {
-                return Action::Keep;
-            }
-            target_action(setpoint_field(m, d as u64))
-        }
-        Command::ClearSetpoint(a) => {
-            if q < 2 {
-                return Action::Keep;
-            }
-            aim_action(a, d as u64)
-        }
-        Command::Unserved(_) => Action::Keep,
-    }
-}
-
-pub fn duration_of(c: Command) -> u64
-    ensures { λ r. ⌜ r ≡ durationOf c ⌝ }
-{
-    match c {
-        Command::SetLimit(m) => m.duration,
-        Command::ClearLimit(_) => 0,
-        Command::SetSetpoint(m) => m.duration,
-        Command::ClearSetpoint(_) => 0,
-        Command::Unserved(_) => 0,
-    }
-}
-
-// The second until which a value set at n for a duration holds.
-pub fn until_of(n: u64, duration: u64) -> u64
-    ensures { λ r. ⌜ r ≡ untilOf n duration ⌝ }
-{
-    if duration == 0 {
-        return MOST;
-    }
-    if n < MOST - duration {
-        return n + duration;
-    }
-    MOST
-}
-
-pub fn done(a: Action, until: u64, h: Held) -> Held
-    ensures { λ r. ⌜ r ≡ done a until h ⌝ }
-{
-    match a {
-        Action::Keep => h,
-        Action::Remove => Held { value: 0, until: 0 },
-        Action::Put(v) => Held {
-            value: v,
-            until: until,
-        },
-    }
-}
-
-fn helds_after(s: Settings, c: Command, until: u64, old: [Held; HELDS]) -> [Held; HELDS]
-    ensures { λ r. ⌜ r ≡ upTo (λ q. done (action s c q) until (getD old q nothing)) helds ⌝ }
-{
-    let mut held = old;
-    let mut q = 0;
-    while q < HELDS {
-        let h = held[q];
-        held[q] = done(action(s, c, q), until, h);
-        q += 1;
-    }
-    held
-}
-
-// The zone's record once it has obeyed.
-pub fn obeyed(s: Settings, c: Command, t: u64, zone: Zone) -> Zone
-    ensures { λ r. ⌜ r ≡ obeyed s c t zone ⌝ }
-{
-    let old = zone.held;
-    let held = helds_after(s, c, until_of(t, duration_of(c)), old);
-    Zone {
-        id: zone.id,
-        rank: zone.rank,
-        up: zone.up,
-        held: held,
-    }
-}
-
-pub fn is_capped(s: Settings, c: Command) -> bool
-    ensures { λ r. ⌜ r ≡ isCapped s c ⌝ }
-{
-    match c {
-        Command::SetLimit(m) => {
-            let a = m.consumption;
-            let b = m.production;
-            if field_above(s.maxima[0], a) {
-                return true;
-            }
-            field_above(s.maxima[1], b)
-        }
-        Command::ClearLimit(_) => false,
-        Command::SetSetpoint(_) => false,
-        Command::ClearSetpoint(_) => false,
-        Command::Unserved(_) => false,
+    let _whole = whole(d);
+    let x = decide(d, zone, t, c);
+    let outcome = outcome_of(d, t, c, x);
+    enact(d, t, x);
+    Answer {
+        number: x.number,
+        outcome: outcome,
     }
 }
