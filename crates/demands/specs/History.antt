@@ -1,0 +1,196 @@
+-- The history: what the accepted calls say. No device, no slot: each question is answered by the newest accepted call that speaks to it.
+use Prim.Native.Nat.{ℕ, zero, suc}
+use mathlib.Core.Bool.{Bool, true, false, cond}
+use mathlib.Core.List.{List, [], _∷_}
+use mathlib.Core.Option.{Option, none, some, Option·getD}
+use lib.Dec.{leb, eqb}
+use lib.ListN.{length}
+use Rattle.messages.specs.declared.Command.{Command}
+use Rattle.messages.specs.declared.Outcome.{Outcome}
+use Rattle.device.specs.declared.Held.{Held}
+use Rattle.device.specs.declared.Zone.{Zone}
+use Rattle.device.specs.declared.Settings.{Settings}
+use Rattle.device.specs.declared.Action.{Action}
+use Rattle.device.specs.Sizes.{slots, helds}
+use Rattle.device.specs.Zones.{upTo, nothing}
+use Rattle.device.specs.Holds.{Situation, valuesAt}
+use Rattle.device.specs.Refusals.{firstOf}
+use Rattle.device.specs.Calls.{joinTests, leaveTests, linkTests, overrideTests, overrideWord, clearTests, askTests, sinceAfter}
+use Rattle.device.specs.Commands.{commandTests, action, untilOf, durationOf, isCapped, outcomeWith}
+use Rattle.device.specs.Start.{badSettings, refusedSettings}
+use Rattle.demands.specs.FrameCall.{Wire, Reading, refused, unserved, request, unlessLonger, planTests}
+use Rattle.demands.specs.Run.{Call, join, leave, lost, back, override, clear, ask, plan, frame}
+
+-- THE LOG
+-- what an accepted call tells: a join its zone and rank, a link its zone and whether it is up, an override its number (0: cleared), a frame its command
+pub data Told : Type 0 where
+  joins : ℕ → ℕ → Told
+  leaves : ℕ → Told
+  links : ℕ → Bool → Told
+  commands : ℕ → Command → Told
+  overrides : ℕ → Told
+  passes : Told
+
+-- an accepted call: its time and what it tells
+abbrev pub Entry : Type 0
+Entry = ℕ × Told
+
+-- the accepted calls, newest first
+abbrev pub Log : Type 0
+Log = List Entry
+
+-- THE QUESTIONS
+-- what the newest call that speaks to a question says; d where none does
+unfoldable pub newest : {A : Type 0} → (ℕ → Told → Option A) → A → Log → A
+newest says d [] = d
+newest says d (e ∷ h) = Option·getD (says (e .0) (e .1)) (newest says d h)
+
+-- what a call of zone y says is said of zone z only where they are one
+unfoldable pub of : {A : Type 0} → ℕ → ℕ → Option A → Option A
+of y z a = cond (eqb y z) a none
+
+unfoldable pub saysJoined : ℕ → ℕ → Told → Option Bool
+saysJoined z t (joins y k) = of y z (some true)
+saysJoined z t (leaves y) = of y z (some false)
+saysJoined z t (links y u) = none
+saysJoined z t (commands y c) = none
+saysJoined z t (overrides o) = none
+saysJoined z t passes = none
+
+unfoldable pub saysRank : ℕ → ℕ → Told → Option ℕ
+saysRank z t (joins y k) = of y z (some k)
+saysRank z t (leaves y) = none
+saysRank z t (links y u) = none
+saysRank z t (commands y c) = none
+saysRank z t (overrides o) = none
+saysRank z t passes = none
+
+-- "Joining brings the link up"
+unfoldable pub saysUp : ℕ → ℕ → Told → Option Bool
+saysUp z t (joins y k) = of y z (some true)
+saysUp z t (leaves y) = none
+saysUp z t (links y u) = of y z (some u)
+saysUp z t (commands y c) = none
+saysUp z t (overrides o) = none
+saysUp z t passes = none
+
+-- a command speaks to a quantity that it removes or sets, with the end of what it sets
+unfoldable pub said : Action → ℕ → Option Held
+said Action.Keep end = none
+said Action.Remove end = some nothing
+said (Action.Put v) end = some (record { value = v; until = end })
+
+-- "what its last accepted command set since it last joined": a join says that nothing is held
+unfoldable pub saysHeld : Settings → ℕ → ℕ → ℕ → Told → Option Held
+saysHeld s z q t (joins y k) = of y z (some nothing)
+saysHeld s z q t (leaves y) = none
+saysHeld s z q t (links y u) = none
+saysHeld s z q t (commands y c) = of y z (said (action s c q) (untilOf t (durationOf c)))
+saysHeld s z q t (overrides o) = none
+saysHeld s z q t passes = none
+
+unfoldable pub saysOverride : ℕ → Told → Option ℕ
+saysOverride t (joins y k) = none
+saysOverride t (leaves y) = none
+saysOverride t (links y u) = none
+saysOverride t (commands y c) = none
+saysOverride t (overrides o) = some o
+saysOverride t passes = none
+
+-- "Every accepted call moves the clock to its time"
+unfoldable pub saysClock : ℕ → Told → Option ℕ
+saysClock t e = some t
+
+-- THE ANSWERS
+unfoldable pub clockBy : Log → ℕ
+clockBy h = newest saysClock 0 h
+
+unfoldable pub overrideBy : Log → ℕ
+overrideBy h = newest saysOverride 0 h
+
+unfoldable pub joinedBy : Log → ℕ → Bool
+joinedBy h z = newest (saysJoined z) false h
+
+unfoldable pub upBy : Log → ℕ → Bool
+upBy h z = newest (saysUp z) false h
+
+unfoldable pub heldBy : Settings → Log → ℕ → ℕ → Held
+heldBy s h z q = newest (saysHeld s z q) nothing h
+
+unfoldable pub recordBy : Settings → Log → ℕ → Zone
+recordBy s h z = record { id = z; rank = newest (saysRank z) 0 h; up = upBy h z; held = upTo (heldBy s h z) helds }
+
+-- the joined zones of ids 1 to n, "id 1 to 255"
+unfoldable pub zonesTo : Settings → Log → ℕ → List Zone
+zonesTo s h zero = []
+zonesTo s h (suc n) = cond (joinedBy h (suc n)) (recordBy s h (suc n) ∷ zonesTo s h n) (zonesTo s h n)
+
+abbrev pub zonesBy : Settings → Log → List Zone
+zonesBy s h = zonesTo s h 255
+
+-- the time of the accepted call before which a link was up and after which none is
+unfoldable pub sinceBy : Settings → Log → ℕ
+sinceBy s [] = 0
+sinceBy s (e ∷ h) = sinceAfter (zonesBy s h) (zonesBy s (e ∷ h)) (e .0) (sinceBy s h)
+
+abbrev pub situationBy : Settings → Log → Situation
+situationBy s h = record { settings = s; zones = zonesBy s h; since = sinceBy s h; override = overrideBy h }
+
+-- ACCEPTANCE: the same tests, with the history's answers
+unfoldable pub linkNumberBy : Log → ℕ → Bool → ℕ → ℕ
+linkNumberBy h z u t = firstOf (linkTests (clockBy h) (joinedBy h z) (upBy h z) u t)
+
+unfoldable pub commandNumberBy : Settings → Log → ℕ → ℕ → Command → ℕ
+commandNumberBy s h z t c = firstOf (commandTests (clockBy h) (joinedBy h z) (upBy h z) s (overrideBy h) t c)
+
+-- the log with one call more where its number is 0
+unfoldable pub kept : ℕ → Entry → Log → Log
+kept n e h = cond (eqb n 0) (e ∷ h) h
+
+-- a command's result: "Values in a response are those at the call's time, the command's own effect included if accepted"
+unfoldable pub outcomeBy : Settings → Log → ℕ → ℕ → Command → Outcome
+outcomeBy s h z t c =
+    outcomeWith c (commandNumberBy s h z t c) (isCapped s c)
+    (valuesAt (situationBy s (kept (commandNumberBy s h z t c) (t, commands z c) h)) t)
+
+unfoldable pub readingNumberBy : Wire → Settings → Log → ℕ → ℕ → ℕ → Reading → ℕ
+readingNumberBy w s h z t room (refused n) = n
+readingNumberBy w s h z t room (unserved i) = 4
+readingNumberBy w s h z t room (request i c) = unlessLonger (commandNumberBy s h z t c) (w .responseLength i 0 (outcomeBy s h z t c)) room
+
+unfoldable pub numberBy : Wire → Settings → Log → Call → ℕ
+numberBy w s h (join z k t) = firstOf (joinTests (clockBy h) (joinedBy h z) (leb slots (length (zonesBy s h))) z k t)
+numberBy w s h (leave z t) = firstOf (leaveTests (clockBy h) (joinedBy h z) t)
+numberBy w s h (lost z t) = linkNumberBy h z false t
+numberBy w s h (back z t) = linkNumberBy h z true t
+numberBy w s h (override r d t) = firstOf (overrideTests (clockBy h) (s .manager) r d t)
+numberBy w s h (clear t) = firstOf (clearTests (clockBy h) (overrideBy h) t)
+numberBy w s h (ask t) = firstOf (askTests (clockBy h) t)
+numberBy w s h (plan t room) = firstOf (planTests (clockBy h) (length (w .rowsAfter (valuesAt (situationBy s h)) t)) t room)
+numberBy w s h (frame z t bytes room) = readingNumberBy w s h z t room (w .reads bytes)
+
+-- what a frame tells is its command; one that reads as none is never accepted
+unfoldable pub tells : ℕ → Reading → Told
+tells z (refused n) = passes
+tells z (unserved i) = passes
+tells z (request i c) = commands z c
+
+unfoldable pub entry : Wire → Call → Entry
+entry w (join z k t) = (t, joins z k)
+entry w (leave z t) = (t, leaves z)
+entry w (lost z t) = (t, links z false)
+entry w (back z t) = (t, links z true)
+entry w (override r d t) = (t, overrides (overrideWord r d))
+entry w (clear t) = (t, overrides 0)
+entry w (ask t) = (t, passes)
+entry w (plan t room) = (t, passes)
+entry w (frame z t bytes room) = (t, tells z (w .reads bytes))
+
+-- the accepted calls, from the history alone
+unfoldable pub log : Wire → Settings → List Call → Log
+log w s [] = []
+log w s (c ∷ calls) = kept (numberBy w s (log w s calls) c) (entry w c) (log w s calls)
+
+-- "A refused start hands back a fresh device" with settings of its own
+unfoldable pub startedWith : Settings → Settings
+startedWith s = cond (badSettings s) refusedSettings s

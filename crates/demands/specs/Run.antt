@@ -1,0 +1,46 @@
+-- The calls, with all their arguments, and the device that a list of calls leads to.
+use Prim.Native.Nat.{ℕ}
+use mathlib.Core.Bool.{true, false}
+use mathlib.Core.List.{List, [], _∷_}
+use Rattle.device.specs.declared.Settings.{Settings}
+use Rattle.device.specs.Start.{startAfter}
+use Rattle.device.specs.Calls.{joinNumber, joinAfter, leaveNumber, leaveAfter, linkNumber, linkAfter, overrideNumber, overrideAfter, clearNumber, clearAfter, askNumber, askAfter}
+use Rattle.demands.specs.FrameCall.{Wire, frameNumber, frameAfter, planNumber, planAfter}
+
+-- zones by their number, then rank, reason and direction, then the time, then a frame's bytes and the room of the lent buffer
+pub data Call : Type 0 where
+  join : ℕ → ℕ → ℕ → Call
+  leave lost back : ℕ → ℕ → Call
+  override : ℕ → ℕ → ℕ → Call
+  clear ask : ℕ → Call
+  plan : ℕ → ℕ → Call
+  frame : ℕ → ℕ → List ℕ → ℕ → Call
+
+-- a call's number, 0 where it is accepted: by the definitions that the calls' contracts cite
+unfoldable pub number : Wire → List ℕ → Call → ℕ
+number w ws (join z k t) = joinNumber ws z k t
+number w ws (leave z t) = leaveNumber ws z t
+number w ws (lost z t) = linkNumber ws z false t
+number w ws (back z t) = linkNumber ws z true t
+number w ws (override r d t) = overrideNumber ws r d t
+number w ws (clear t) = clearNumber ws t
+number w ws (ask t) = askNumber ws t
+number w ws (plan t room) = planNumber w ws t room
+number w ws (frame z t bytes room) = frameNumber w ws z t bytes room
+
+-- the device after a call
+unfoldable pub next : Wire → List ℕ → Call → List ℕ
+next w ws (join z k t) = joinAfter ws z k t
+next w ws (leave z t) = leaveAfter ws z t
+next w ws (lost z t) = linkAfter ws z false t
+next w ws (back z t) = linkAfter ws z true t
+next w ws (override r d t) = overrideAfter ws r d t
+next w ws (clear t) = clearAfter ws t
+next w ws (ask t) = askAfter ws t
+next w ws (plan t room) = planAfter w ws t room
+next w ws (frame z t bytes room) = frameAfter w ws z t bytes room
+
+-- the device after calls, newest first, from a fresh one
+unfoldable pub run : Wire → Settings → List Call → List ℕ
+run w s [] = startAfter s
+run w s (c ∷ calls) = next w (run w s calls) c
