@@ -39,6 +39,15 @@ Entry = ℕ × Told
 abbrev pub Log : Type 0
 Log = List Entry
 
+-- a call of zone z
+unfoldable pub about : ℕ → Told → Bool
+about z (joins y k) = eqb y z
+about z (leaves y) = eqb y z
+about z (links y u) = eqb y z
+about z (commands y c) = eqb y z
+about z (overrides o) = false
+about z passes = false
+
 -- THE QUESTIONS
 -- what the newest call that speaks to a question says; d where none does
 unfoldable pub newest : {A : Type 0} → (ℕ → Told → Option A) → A → Log → A
