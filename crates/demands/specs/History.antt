@@ -18,7 +18,8 @@ use Rattle.device.specs.Refusals.{firstOf}
 use Rattle.device.specs.Calls.{joinTests, leaveTests, linkTests, overrideTests, overrideWord, clearTests, askTests, sinceAfter}
 use Rattle.device.specs.Commands.{commandTests, action, untilOf, durationOf, isCapped, outcomeWith}
 use Rattle.device.specs.Start.{badSettings, refusedSettings}
-use Rattle.demands.specs.FrameCall.{Wire, Reading, refused, unserved, request, unlessLonger, planTests}
+use Rattle.planner.specs.Plan.{planTests, planOf}
+use Rattle.demands.specs.FrameCall.{Wire, Reading, refused, unserved, request, unlessLonger}
 use Rattle.demands.specs.Run.{Call, join, leave, lost, back, override, clear, ask, plan, frame}
 
 -- THE LOG
@@ -175,7 +176,7 @@ numberBy w s h (back z t) = linkNumberBy h z true t
 numberBy w s h (override r d t) = firstOf (overrideTests (clockBy h) (s .manager) r d t)
 numberBy w s h (clear t) = firstOf (clearTests (clockBy h) (overrideBy h) t)
 numberBy w s h (ask t) = firstOf (askTests (clockBy h) t)
-numberBy w s h (plan t room) = firstOf (planTests (clockBy h) (length (w .rowsAfter (valuesAt (situationBy s h)) t)) t room)
+numberBy w s h (plan t room) = firstOf (planTests (clockBy h) (planOf (situationBy s h) t) t room)
 numberBy w s h (frame z t bytes room) = readingNumberBy w s h z t room (w .reads bytes)
 
 -- what a frame tells is its command; one that reads as none is never accepted

@@ -5,7 +5,8 @@ use mathlib.Core.List.{List, [], _∷_}
 use Rattle.device.specs.declared.Settings.{Settings}
 use Rattle.device.specs.Start.{startAfter}
 use Rattle.device.specs.Calls.{joinNumber, joinAfter, leaveNumber, leaveAfter, linkNumber, linkAfter, overrideNumber, overrideAfter, clearNumber, clearAfter, askNumber, askAfter}
-use Rattle.demands.specs.FrameCall.{Wire, frameNumber, frameAfter, planNumber, planAfter}
+use Rattle.planner.specs.Plan.{planNumber, planAfter}
+use Rattle.demands.specs.FrameCall.{Wire, frameNumber, frameAfter}
 
 -- zones by their number, then rank, reason and direction, then the time, then a frame's bytes and the room of the lent buffer
 pub data Call : Type 0 where
@@ -25,7 +26,7 @@ number w ws (back z t) = linkNumber ws z true t
 number w ws (override r d t) = overrideNumber ws r d t
 number w ws (clear t) = clearNumber ws t
 number w ws (ask t) = askNumber ws t
-number w ws (plan t room) = planNumber w ws t room
+number w ws (plan t room) = planNumber ws t room
 number w ws (frame z t bytes room) = frameNumber w ws z t bytes room
 
 -- the device after a call
@@ -37,7 +38,7 @@ next w ws (back z t) = linkAfter ws z true t
 next w ws (override r d t) = overrideAfter ws r d t
 next w ws (clear t) = clearAfter ws t
 next w ws (ask t) = askAfter ws t
-next w ws (plan t room) = planAfter w ws t room
+next w ws (plan t room) = planAfter ws t room
 next w ws (frame z t bytes room) = frameAfter w ws z t bytes room
 
 -- the device after calls, newest first, from a fresh one

@@ -5,3 +5,4 @@ pub mod HeldWords
 pub mod Lens
 pub mod Stores
 pub mod Effects
+pub mod Steady

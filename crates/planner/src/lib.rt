@@ -1,0 +1,6 @@
+// The plan: each second after now at which what holds will change, and what holds from then on.
+// The answer to a plan: its number, and the count of rows written.
+pub struct Planned {
+    pub number: u64,
+    pub count: u64,
+}
