@@ -22,7 +22,7 @@ use Rattle.demands.proofs.Lists.{any-mem, mem-any, upTo-same}
 pub record Within (l m : List Zone) : Type 0 where
   pub has : (x : Zone) → isJoined x ≡ true → List·Memᴰ x l → List·Memᴰ x m
 
-pub OneId : List Zone → Type 0
+unfoldable pub OneId : List Zone → Type 0
 OneId l = (x y : Zone) → List·Memᴰ x l → List·Memᴰ y l → isJoined x ≡ true → x .id ≡ y .id → x ≡ y
 
 -- THE ORDER OF CLAIMS

@@ -1,3 +1,4 @@
 pub mod Lists
 pub mod Claims
 pub mod Says
+pub mod Same
