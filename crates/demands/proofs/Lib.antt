@@ -2,3 +2,5 @@ pub mod Lists
 pub mod Claims
 pub mod Says
 pub mod Same
+pub mod Count
+pub mod Agree

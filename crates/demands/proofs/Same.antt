@@ -9,7 +9,7 @@ use native.Mathlib.Decide.{ℕ-discrete}
 use lib.Dec.{ltb, eqb}
 use lib.ListN.{length, getD, set, length-set}
 use lib.Seq.{getD-set-same, getD-set-other}
-use borrow.Author.Tests.{ltb-true, ltb-false, lt-ltb, le-ltb, eqb-true, eq-eqb}
+use borrow.Author.Tests.{ltb-true, ltb-false, lt-ltb, le-ltb, eqb-true, eq-eqb, ne-eqb}
 use Rattle.device.specs.declared.Zone.{Zone}
 use Rattle.device.specs.declared.Settings.{Settings}
 use Rattle.device.specs.Sizes.{slots}
@@ -46,7 +46,7 @@ pub record Found (s : Settings) (zs : List Zone) (h : Log) (z : ℕ) : Type 0 wh
   pub whole : zoneOf zs z ≡ recordBy s h z
 
 module _ (s : Settings) (zs : List Zone) (h : Log) (k : Same s zs h) where
-  slot-id : (z : ℕ) → slotOf zs z < slots → at zs (slotOf zs z) .id ≡ z
+  pub slot-id : (z : ℕ) → slotOf zs z < slots → at zs (slotOf zs z) .id ≡ z
   unfolding slotOf
   slot-id z p = eqb-true _ z (first-passes (λ x. eqb (x .id) z) zs freeZone (omega (arith, k .size)))
 
@@ -90,7 +90,7 @@ pub record Moves (s : Settings) (zs : List Zone) (h h′ : Log) (z i : ℕ) (x :
   pub others : (y : ℕ) → y ≢ z → (joinedBy h′ y ≡ joinedBy h y) × (recordBy s h′ y ≡ recordBy s h y)
   pub new : ((x .id ≡ 0) × (joinedBy h′ z ≡ false)) ⊎ ((joinedBy h′ z ≡ true) × (x ≡ recordBy s h′ z))
 
-record-id : (s : Settings) (h : Log) (z : ℕ) → recordBy s h z .id ≡ z
+pub record-id : (s : Settings) (h : Log) (z : ℕ) → recordBy s h z .id ≡ z
 unfolding recordBy
 record-id s h z = refl
 
@@ -165,7 +165,7 @@ pub record Listed (s : Settings) (h : Log) (n : ℕ) (x : Zone) : Type 0 where
   pub told : joinedBy h (x .id) ≡ true
   pub whole : x ≡ recordBy s h (x .id)
 
-mem-listed : (s : Settings) (h : Log) (n : ℕ) (x : Zone) → List·Memᴰ x (zonesTo s h n) → Listed s h n x
+pub mem-listed : (s : Settings) (h : Log) (n : ℕ) (x : Zone) → List·Memᴰ x (zonesTo s h n) → Listed s h n x
 unfolding zonesTo
 mem-listed s h zero x m = absurd (List·Memᴰ·not-nil m)
 mem-listed s h (suc n) x m = go (joinedBy h (suc n)) refl m (mem-listed s h n x)
@@ -194,13 +194,20 @@ listed-mem s h (suc n) z e a b = go (joinedBy h (suc n)) refl (ℕ-discrete z (s
     go false j (yes q) ih = never (sym j ∙ subst (λ (y : ℕ). joinedBy h y ≡ true) q e)
     go false j (no q) ih = ih (omega arith)
 
-isJoined-low : (x : Zone) → isJoined x ≡ true → 1 ≤ x .id
+pub isJoined-low : (x : Zone) → isJoined x ≡ true → 1 ≤ x .id
 unfolding isJoined
 isJoined-low x e = go (x .id) e
   where
     go : (n : ℕ) → mathlib.Core.Bool.not (eqb n 0) ≡ true → 1 ≤ n
     go zero e = never e
     go (suc n) e = omega arith
+
+low-isJoined : (x : Zone) → 1 ≤ x .id → isJoined x ≡ true
+unfolding isJoined
+low-isJoined x p = rw (ne-eqb (x .id) 0 (λ e. omega arith))
+
+pub listed-joined : (s : Settings) (h : Log) (n : ℕ) (x : Zone) → List·Memᴰ x (zonesTo s h n) → isJoined x ≡ true
+listed-joined s h n x m = low-isJoined x (mem-listed s h n x m .low)
 
 -- the slots' zones and the history's are the same
 module _ (s : Settings) (zs : List Zone) (h : Log) (k : Same s zs h) where
