@@ -4,3 +4,4 @@ pub mod Says
 pub mod Same
 pub mod Count
 pub mod Agree
+pub mod Steps

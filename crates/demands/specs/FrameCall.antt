@@ -1,5 +1,6 @@
 -- The frame call as the history needs it, over what a frame reads as and how long its response is.
-use Prim.Native.Nat.{ℕ}
+use Prim.Native.Nat.{ℕ, _≤_}
+use mathlib.Core.Path.{_≡_}
 use mathlib.Core.Bool.{cond}
 use mathlib.Core.List.{List}
 use lib.Dec.{ltb, eqb}
@@ -16,6 +17,7 @@ pub data Reading : Type 0 where
 -- what frames are to the history: the reading of a frame's bytes, and the length of a response by its id, status and result
 pub record Wire : Type 0 where
   pub reads : List ℕ → Reading
+  pub refuses : (bytes : List ℕ) (n : ℕ) → reads bytes ≡ refused n → 1 ≤ n
   pub responseLength : ℕ → ℕ → Outcome → ℕ
 
 -- 15 last: "nothing else is refused and the complete output is longer than the lent buffer"
