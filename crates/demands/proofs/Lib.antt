@@ -5,3 +5,4 @@ pub mod Same
 pub mod Count
 pub mod Agree
 pub mod Steps
+pub mod Reached

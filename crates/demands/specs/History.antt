@@ -1,5 +1,6 @@
 -- The history: what the accepted calls say. No device, no slot: each question is answered by the newest accepted call that speaks to it.
 use Prim.Native.Nat.{ℕ, zero, suc}
+use mathlib.Core.Path.{_≡_}
 use mathlib.Core.Bool.{Bool, true, false, cond}
 use mathlib.Core.List.{List, [], _∷_}
 use mathlib.Core.Option.{Option, none, some, Option·getD}
@@ -204,3 +205,8 @@ log w s (c ∷ calls) = kept (numberBy w s (log w s calls) c) (entry w c) (log w
 -- "A refused start hands back a fresh device" with settings of its own
 unfoldable pub startedWith : Settings → Settings
 startedWith s = cond (badSettings s) refusedSettings s
+
+-- maxima and failsafe limits go by direction: two numbers each, as their type in the code has it
+pub record InPairs (s : Settings) : Type 0 where
+  pub maxima : length (s .maxima) ≡ 2
+  pub failsafe : length (s .failsafe) ≡ 2
