@@ -6,3 +6,6 @@ pub mod Count
 pub mod Agree
 pub mod Steps
 pub mod Reached
+pub mod Own
+pub mod Slots
+pub mod Demand3

@@ -20,13 +20,13 @@ use Rattle.demands.specs.History.{Told, joins, leaves, links, commands, 
 use Rattle.demands.proofs.Lists.{length-upTo, getD-upTo, upTo-same}
 
 -- a call that is not of zone z says nothing of it
-record Silent (z t : ℕ) (e : Told) : Type 0 where
-  joined : saysJoined z t e ≡ none
-  rank : saysRank z t e ≡ none
-  up : saysUp z t e ≡ none
-  held : (s : Settings) (q : ℕ) → saysHeld s z q t e ≡ none
+pub record Silent (z t : ℕ) (e : Told) : Type 0 where
+  pub joined : saysJoined z t e ≡ none
+  pub rank : saysRank z t e ≡ none
+  pub up : saysUp z t e ≡ none
+  pub held : (s : Settings) (q : ℕ) → saysHeld s z q t e ≡ none
 
-silent : (z t : ℕ) (e : Told) → about z e ≡ false → Silent z t e
+pub silent : (z t : ℕ) (e : Told) → about z e ≡ false → Silent z t e
 unfolding about of saysJoined saysRank saysUp saysHeld
 silent z t (joins y k) p = record { joined = rw p; rank = rw p; up = rw p; held = λ s q. rw p }
 silent z t (leaves y) p = record { joined = rw p; rank = refl; up = refl; held = λ s q. refl }
@@ -87,7 +87,7 @@ held-command : (s : Settings) (h : Log) (z t q : ℕ) (c : Command) → heldBy s
 unfolding heldBy newest of saysHeld
 held-command s h z t q c = rw (eq-eqb z z refl) (said-done (action s c q) (untilOf t (durationOf c)) (newest (saysHeld s z q) nothing h))
 
-held-of : (s : Settings) (h : Log) (z q : ℕ) → q < helds → heldOf (recordBy s h z) q ≡ heldBy s h z q
+pub held-of : (s : Settings) (h : Log) (z q : ℕ) → q < helds → heldOf (recordBy s h z) q ≡ heldBy s h z q
 unfolding heldOf recordBy
 held-of s h z q k = getD-upTo (heldBy s h z) helds q nothing k
 

@@ -210,3 +210,10 @@ startedWith s = cond (badSettings s) refusedSettings s
 pub record InPairs (s : Settings) : Type 0 where
   pub maxima : length (s .maxima) ≡ 2
   pub failsafe : length (s .failsafe) ≡ 2
+
+-- the log of calls to a device that was started with s, and the situation that it tells of
+abbrev pub history : Wire → Settings → List Call → Log
+history w s calls = log w (startedWith s) calls
+
+abbrev pub told : Wire → Settings → List Call → Situation
+told w s calls = situationBy (startedWith s) (history w s calls)

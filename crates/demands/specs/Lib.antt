@@ -1,3 +1,5 @@
 pub mod FrameCall
 pub mod Run
 pub mod History
+pub mod ReleasedSlot
+pub mod Demands

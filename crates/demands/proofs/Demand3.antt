@@ -1,0 +1,66 @@
+-- Demand 3, proved.
+use mathlib.Core.Path.{_≡_, refl, sym, ap, _∙_, subst, fun-ext}
+use mathlib.Core.Bool.{Bool, true, false, cond, _||_}
+use mathlib.Core.List.{List}
+use Prim.Native.Nat.{ℕ, _≤_, _<_}
+use native.Mathlib.Omega.{arith}
+use lib.Dec.{ltb, leb, eqb}
+use lib.IntN.{ℤ}
+use lib.ListN.{length}
+use borrow.Author.Tests.{leb-false}
+use Rattle.device.specs.declared.Settings.{Settings}
+use Rattle.device.specs.Sizes.{end}
+use Rattle.device.specs.Words.{clockOf, zonesOf}
+use Rattle.device.specs.Holds.{situationOf, valuesAt}
+use Rattle.device.specs.Refusals.{firstOf, late}
+use Rattle.planner.specs.Rows.{last, plan, IsPlan}
+use Rattle.planner.specs.Plan.{planOf, numbersOf, front, planNumber, planAnswer, planSlice}
+use Rattle.planner.proofs.IsPlan.{plan-is, plan-unique}
+use Rattle.planner.proofs.Walk.{planOf-few}
+use Rattle.demands.specs.FrameCall.{Wire}
+use Rattle.demands.specs.Run.{Call, run}
+use Rattle.demands.specs.History.{startedWith, history, told, InPairs}
+use Rattle.demands.specs.Demands.{Lists, Demand3}
+use Rattle.demands.proofs.Count.{at-most}
+use Rattle.demands.proofs.Agree.{agree-values}
+use Rattle.demands.proofs.Steps.{number-same}
+use Rattle.demands.proofs.Reached.{agree-run}
+use Rattle.demands.proofs.Slots.{released-slot}
+
+-- an accepted plan's time is one that the clock can show
+timely : (ws : List ℕ) (t room : ℕ) → planNumber ws t room ≡ 0 → t ≤ last
+unfolding planNumber firstOf late
+timely ws t room e = go (ltb t (clockOf ws)) (leb end t) refl _ e
+  where
+    go : (a b : Bool) → leb end t ≡ b → (r : ℕ) → cond {A = ℕ} (a || b) 5 r ≡ 0 → t ≤ last
+    go true b p r e = absurd (omega arith)
+    go false true p r e = absurd (omega arith)
+    go false false p r e = let h = leb-false end t p in omega arith
+
+-- an accepted plan lists what changes of any values that are the device's
+lists : (ws : List ℕ) (f : ℕ → List ℤ) → valuesAt (situationOf ws) ≡ f → (t : ℕ) (out : List ℤ) → planNumber ws t (length out) ≡ 0
+    → Lists f t out (planSlice ws t out) (planAnswer ws t (length out) .count)
+unfolding planSlice planAnswer
+lists ws f v t out e =
+    let p : IsPlan f t (planOf (situationOf ws) t) = unfold planOf in subst (λ (g : ℕ → List ℤ). IsPlan f t (plan g t)) (sym v) (plan-is f t (timely ws t (length out) e)) in
+    record {
+      rows = planOf (situationOf ws) t;
+      whole = p;
+      only = λ l i. plan-unique f t l (planOf (situationOf ws) t) i p;
+      slice = rw e;
+      counted = rw e;
+      few = planOf-few ws t;
+    }
+
+pub demand-3 : (w : Wire) (s : Settings) → InPairs s → (calls : List Call) → Demand3 w s calls
+demand-3 w s k calls =
+    let d = run w s calls in
+    let a = agree-run w s k calls in
+    let v = agree-values (startedWith s) d (history w s calls) a in
+    record {
+      values = v;
+      plan = lists d (valuesAt (told w s calls)) (fun-ext v);
+      numbers = number-same (startedWith s) d (history w s calls) a w;
+      eight = at-most (startedWith s) (zonesOf d) (history w s calls) (a .zones);
+      slots = released-slot w s k calls;
+    }
