@@ -9,3 +9,4 @@ pub mod Reached
 pub mod Own
 pub mod Slots
 pub mod Demand3
+pub mod Marked

@@ -3,3 +3,4 @@ pub mod Run
 pub mod History
 pub mod ReleasedSlot
 pub mod Demands
+pub mod Examples
