@@ -6,3 +6,7 @@ pub mod Lens
 pub mod Stores
 pub mod Effects
 pub mod Steady
+pub mod Fills
+pub mod Ends
+pub mod Gather
+pub mod Signs

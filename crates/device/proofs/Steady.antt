@@ -12,11 +12,13 @@ use lib.ListN.{length, length-append}
 use borrow.Author.Tests.{ltb-true, ltb-false}
 use Rattle.device.specs.Sizes.{helds, slots}
 use Rattle.device.specs.Zones.{upTo, heldOf, isJoined, anyJoined, anyUp}
-use Rattle.device.specs.Words.{zoneAt, zonesOf, sinceOf, settingsOf}
+use Rattle.device.specs.Words.{zonesOf, sinceOf, settingsOf}
 use Rattle.device.specs.Holds.{Situation, situationOf, noClaim, claimOf, better, winner, amountOf, inFailsafe, failsafeValue, valueAt, present, stateAt, shown, valuesAt}
 use Rattle.messages.specs.declared.Amount.the-variants.{Absent}
 use Rattle.device.specs.declared.Zone.{Zone}
 use Rattle.device.specs.declared.Claim.{Claim}
+use Rattle.device.proofs.Runs.{length-upTo, upTo-cong}
+use Rattle.device.proofs.Lens.{zones-length}
 
 -- the seconds at which a joined zone's values end
 unfoldable pub zoneDues : Zone → List ℕ
@@ -36,12 +38,6 @@ dues s =
 abbrev pub Idle : ℕ → List ℕ → Type 0
 Idle t l = List·Memᴰ t l → ⊥
 
--- a list of what f and g give below n is the same where they agree there
-upTo-same : {A : Type 0} (f g : ℕ → A) (n : ℕ) → ((q : ℕ) → q < n → f q ≡ g q) → upTo f n ≡ upTo g n
-unfolding upTo
-upTo-same f g zero h = refl
-upTo-same f g (suc n) h = rw (upTo-same f g n (λ q k. h q (omega arith)), h n (omega arith))
-
 upTo-has : (f : ℕ → ℕ) (n q : ℕ) → q < n → List·Memᴰ (f q) (upTo f n)
 unfolding upTo
 upTo-has f zero q h = absurd (omega arith)
@@ -50,11 +46,6 @@ upTo-has f (suc n) q h =
       | yes e ↦ Memᴰ·append-right (upTo f n) (List·Memᴰ·head (ap f e))
       | no e ↦ Memᴰ·append-left (f n ∷ []) (upTo-has f n q (omega arith))
     ]
-
-upTo-length : {A : Type 0} (f : ℕ → A) (n : ℕ) → length (upTo f n) ≡ n
-unfolding upTo
-upTo-length f zero = refl
-upTo-length f (suc n) = rw (length-append, upTo-length f n) (omega arith)
 
 -- a test against an end answers the same a second later, unless that second is the end
 test-steady : (t n : ℕ) → (suc t ≡ n → ⊥) → ltb (suc t) n ≡ ltb t n
@@ -117,7 +108,7 @@ module _ (s : Situation) (t : ℕ) (idle : Idle (suc t) (dues s)) where
   pub values-steady : valuesAt s (suc t) ≡ valuesAt s t
   unfolding valuesAt
   values-steady =
-      rw state-steady (ap (λ (l : List ℤ). pos (stateAt s t) ∷ l) (upTo-same (λ q. shown (valueAt s (suc t) q)) (λ q. shown (valueAt s t q)) helds (λ q k. ap shown (value-steady q k))))
+      rw state-steady (ap (λ (l : List ℤ). pos (stateAt s t) ∷ l) (upTo-cong (λ q. shown (valueAt s (suc t) q)) (λ q. shown (valueAt s t q)) helds (λ q k. ap shown (value-steady q k))))
 
 -- AT MOST 32 OF THEM, on every content of the words
 zone-few : (x : Zone) → length (zoneDues x) ≤ helds
@@ -125,7 +116,7 @@ unfolding zoneDues
 zone-few x = go (isJoined x)
   where
     go : (b : Bool) → length (cond b (upTo (λ q. heldOf x q .until) helds) []) ≤ helds
-    go true = omega (arith, upTo-length (λ q. heldOf x q .until) helds)
+    go true = omega (arith, length-upTo (λ q. heldOf x q .until) helds)
     go false = omega arith
 
 held-few : (zs : List Zone) → length (heldDues zs) ≤ length zs * helds
@@ -134,10 +125,10 @@ held-few [] = omega arith
 held-few (x ∷ zs) = rw length-append (omega (arith, zone-few x, held-few zs))
 
 pub dues-few : (ws : List ℕ) → length (dues (situationOf ws)) ≤ slots * helds
-unfolding dues zonesOf
+unfolding dues
 dues-few ws = go (anyUp (zonesOf ws)) (anyJoined (zonesOf ws))
   where
     go : (u j : Bool) → length (cond u (heldDues (zonesOf ws)) (cond j ((sinceOf ws + settingsOf ws .duration) ∷ []) [])) ≤ slots * helds
-    go true j = omega (arith, held-few (zonesOf ws), upTo-length (zoneAt ws) slots)
+    go true j = omega (arith, held-few (zonesOf ws), zones-length ws)
     go false true = omega arith
     go false false = omega arith

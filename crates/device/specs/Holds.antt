@@ -3,7 +3,7 @@ use Prim.Native.Nat.{ℕ, zero, suc, _+_, _/_, _%_}
 use mathlib.Core.Bool.{Bool, true, false, cond, not, _&&_, _||_}
 use mathlib.Core.List.{List, [], _∷_, foldl}
 use lib.Dec.{ltb, leb, eqb}
-use lib.ListN.{getD}
+use lib.ListN.{getD, set}
 use lib.IntN.{ℤ, pos, negsuc}
 use Rattle.messages.specs.Numbers.{AUTONOMOUS, CONTROLLED, LIMITED, FAILSAFE, OVERRIDE}
 use Rattle.messages.specs.declared.Amount.{Amount}
@@ -62,6 +62,10 @@ pub record Situation : Type 0 where
 
 abbrev pub situationOf : List ℕ → Situation
 situationOf ws = record { settings = settingsOf ws; zones = zonesOf ws; since = sinceOf ws; override = overrideOf ws }
+
+-- what would be read with another record in slot i; as it stands where there is no such slot
+abbrev pub withZone : Situation → ℕ → Zone → Situation
+withZone s i x = record { settings = s .settings; zones = set (s .zones) i x; since = s .since; override = s .override }
 
 -- the second row: "zones joined, none up since second s, t < s + duration"
 unfoldable pub inFailsafe : Situation → ℕ → Bool

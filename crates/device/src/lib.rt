@@ -3,6 +3,7 @@
 pub mod calls;
 pub mod claims;
 pub mod commands;
+pub mod fields;
 pub mod holds;
 pub mod refusals;
 pub mod store;
@@ -11,6 +12,9 @@ pub mod store;
 pub const HELDS: usize = 4;
 
 pub const SLOTS: usize = 8;
+
+// The control state and each quantity: what holds at a second.
+pub const VALUES: usize = 1 + HELDS;
 
 pub const ZONE: usize = 3 + 2 * HELDS;
 
@@ -74,7 +78,7 @@ pub struct Change {
 // The answer to an ask: the control state, then each quantity, -1 absent.
 pub struct Asked {
     pub number: u64,
-    pub values: [i64; 5],
+    pub values: [i64; VALUES],
 }
 
 // What a command does to one quantity of its zone.

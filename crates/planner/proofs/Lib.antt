@@ -1,2 +1,4 @@
 pub mod IsPlan
+pub mod Alike
 pub mod Walk
+pub mod Nearest

@@ -16,48 +16,8 @@ use Rattle.device.specs.Holds.{Situation, situationOf, valuesAt}
 use Rattle.device.proofs.Steady.{dues, Idle, values-steady, dues-few}
 use Rattle.planner.specs.Rows.{last, rowsOf, plan}
 use Rattle.planner.specs.Plan.{planOf}
-use Rattle.planner.specs.Walk.{nearer, nearest, sameNumber, alike, step, walk}
-
--- THE TEST FOR EQUAL VALUES
-number-same : (a : ℤ) → sameNumber a a ≡ true
-unfolding sameNumber
-number-same (pos a) = eq-eqb a a refl
-number-same (negsuc a) = eq-eqb a a refl
-
-same-number : (a b : ℤ) → sameNumber a b ≡ true → a ≡ b
-unfolding sameNumber
-same-number (pos a) (pos b) h = ap pos (eqb-true a b h)
-same-number (pos a) (negsuc b) h = absurd (let z : _≡_ {A = ℕ} 0 1 = cc in omega arith)
-same-number (negsuc a) (pos b) h = absurd (let z : _≡_ {A = ℕ} 0 1 = cc in omega arith)
-same-number (negsuc a) (negsuc b) h = ap negsuc (eqb-true a b h)
-
-alike-same : (l : List ℤ) → alike l l ≡ true
-unfolding alike
-alike-same [] = refl
-alike-same (a ∷ l) = rw (number-same a, alike-same l)
-
-same-alike : (l k : List ℤ) → alike l k ≡ true → l ≡ k
-unfolding alike
-same-alike [] [] h = refl
-same-alike [] (b ∷ k) h = absurd (let z : _≡_ {A = ℕ} 0 1 = cc in omega arith)
-same-alike (a ∷ l) [] h = absurd (let z : _≡_ {A = ℕ} 0 1 = cc in omega arith)
-same-alike (a ∷ l) (b ∷ k) h = go (sameNumber a b) refl h (same-alike l k)
-  where
-    go : (s : Bool) → sameNumber a b ≡ s → (s && alike l k) ≡ true → (alike l k ≡ true → l ≡ k) → a ∷ l ≡ b ∷ k
-    go true e g rest = let x : a ≡ b = same-number a b e in let y : l ≡ k = rest g in cc
-    go false e g rest = absurd (let z : _≡_ {A = ℕ} 0 1 = cc in omega arith)
-
--- a choice by whether two lists are equal is a choice by the test
-by-test : {A : Type 0} (l k : List ℤ) (x y : A) → ite (List-discrete ℤ-discrete l k) x y ≡ cond (alike l k) x y
-by-test l k x y = go (alike l k) refl
-  where
-    go : (b : Bool) → alike l k ≡ b → ite (List-discrete ℤ-discrete l k) x y ≡ cond b x y
-    go true e = if-pos (List-discrete ℤ-discrete l k) (same-alike l k e) x y
-    go false e =
-        if-neg (List-discrete ℤ-discrete l k)
-        (λ q. let p : alike l k ≡ true = subst (λ (v : List ℤ). alike l v ≡ true) q (alike-same l) in let z : _≡_ {A = ℕ} 0 1 = cc in omega arith)
-        x
-        y
+use Rattle.planner.specs.Walk.{nearer, nearest, alike, step, walk}
+use Rattle.planner.proofs.Alike.{alike-same, by-test}
 
 -- THE NEXT DUE SECOND
 -- x is r, or the least of the list past cur and before r
@@ -183,7 +143,7 @@ module _ (cur n : ℕ) (later : cur < n) where
 
 module _ (f : ℕ → List ℤ) (ds : List ℕ) (steady : (t : ℕ) → Idle (suc t) ds → f (suc t) ≡ f t) where
   -- the plan after cur is what the next due second adds to the plan after that
-  pub plan-step : (cur : ℕ) → plan f cur ≡ step f cur (nearest cur ds) (plan f (nearest cur ds))
+  pub plan-step : (cur : ℕ) → plan f cur ≡ step f (f cur) (nearest cur ds) (plan f (nearest cur ds))
   unfolding step
   plan-step cur = go (nearest cur ds) (nearest-is cur ds) (ltb (nearest cur ds) end) refl
     where
@@ -196,22 +156,22 @@ module _ (f : ℕ → List ℤ) (ds : List ℕ) (steady : (t : ℕ) → Idle (su
       go n l false e = plan-over f cur (λ t a b. steady t (λ m. omega (arith, ltb-false, l .least (suc t) m (omega arith))))
 
   -- past the end nothing is added
-  step-end : (cur n : ℕ) (rows : List (ℕ × List ℤ)) → n ≡ end → step f cur n rows ≡ []
+  step-end : (old : List ℤ) (n : ℕ) (rows : List (ℕ × List ℤ)) → n ≡ end → step f old n rows ≡ []
   unfolding step
-  step-end cur n rows e = rw (le-ltb n end (omega arith))
+  step-end old n rows e = rw (le-ltb n end (omega arith))
 
   -- the walk is the plan, given as many steps as there are dues left
   walk-plan : (fuel cur : ℕ) → above cur ds ≤ fuel → walk f ds fuel cur ≡ plan f cur
   unfolding walk
   walk-plan zero cur h =
       ⊎-elim
-      (λ q. sym (plan-step cur ∙ step-end cur (nearest cur ds) _ q))
+      (λ q. sym (plan-step cur ∙ step-end (f cur) (nearest cur ds) _ q))
       (λ k. absurd (omega (arith, above-less cur (nearest cur ds) (k .0) ds (k .1))))
       (nearest-is cur ds .found)
   walk-plan (suc fuel) cur h =
       ⊎-elim
-      (λ q. step-end cur (nearest cur ds) _ q ∙ sym (plan-step cur ∙ step-end cur (nearest cur ds) _ q))
-      (λ k. ap (step f cur (nearest cur ds)) (walk-plan fuel (nearest cur ds) (omega (arith, above-less cur (nearest cur ds) (k .0) ds (k .1)))) ∙ sym (plan-step cur))
+      (λ q. step-end (f cur) (nearest cur ds) _ q ∙ sym (plan-step cur ∙ step-end (f cur) (nearest cur ds) _ q))
+      (λ k. ap (step f (f cur) (nearest cur ds)) (walk-plan fuel (nearest cur ds) (omega (arith, above-less cur (nearest cur ds) (k .0) ds (k .1)))) ∙ sym (plan-step cur))
       (nearest-is cur ds .found)
 
   pub plan-walk : (cur : ℕ) → plan f cur ≡ walk f ds (length ds) cur
@@ -235,7 +195,7 @@ pub planOf-walk : (s : Situation) (now : ℕ) → planOf s now ≡ walk (valuesA
 unfolding planOf
 planOf-walk s now = plan-walk (valuesAt s) (dues s) (values-steady s) now
 
-pub planOf-step : (s : Situation) (cur : ℕ) → planOf s cur ≡ step (valuesAt s) cur (nearest cur (dues s)) (planOf s (nearest cur (dues s)))
+pub planOf-step : (s : Situation) (cur : ℕ) → planOf s cur ≡ step (valuesAt s) (valuesAt s cur) (nearest cur (dues s)) (planOf s (nearest cur (dues s)))
 unfolding planOf
 planOf-step s cur = plan-step (valuesAt s) (dues s) (values-steady s) cur
 

@@ -26,11 +26,11 @@ alike [] (b ∷ k) = false
 alike (a ∷ l) [] = false
 alike (a ∷ l) (b ∷ k) = sameNumber a b && alike l k
 
--- what second n, the next due one past cur, adds in front of the rows after it
-unfoldable pub step : (ℕ → List ℤ) → ℕ → ℕ → List (ℕ × List ℤ) → List (ℕ × List ℤ)
-step f cur n rows = cond (ltb n end) (cond (alike (f n) (f cur)) rows ((n, f n) ∷ rows)) []
+-- the rows from second n on, the next due one, where `old` held before it and `rows` are those after it
+unfoldable pub step : (ℕ → List ℤ) → List ℤ → ℕ → List (ℕ × List ℤ) → List (ℕ × List ℤ)
+step f old n rows = cond (ltb n end) (cond (alike (f n) old) rows ((n, f n) ∷ rows)) []
 
 -- the rows after cur, from due to due
 unfoldable pub walk : (ℕ → List ℤ) → List ℕ → ℕ → ℕ → List (ℕ × List ℤ)
 walk f ds zero cur = []
-walk f ds (suc fuel) cur = step f cur (nearest cur ds) (walk f ds fuel (nearest cur ds))
+walk f ds (suc fuel) cur = step f (f cur) (nearest cur ds) (walk f ds fuel (nearest cur ds))

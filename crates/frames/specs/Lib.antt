@@ -1,0 +1,7 @@
+pub mod Prefix
+pub mod Fields
+pub mod Requests
+pub mod Responses
+pub mod Writing
+pub mod Walks
+pub mod RoundTrips

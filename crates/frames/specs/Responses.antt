@@ -1,0 +1,158 @@
+-- Responses: how one is read from the payload's item for a named command, and the item written for one. Assumes nothing: these are definitions.
+use Prim.Native.Nat.{ℕ}
+use mathlib.Core.Bool.{Bool, true, false, cond, not, _&&_, _||_}
+use mathlib.Core.List.{List, [], _∷_}
+use mathlib.Core.Option.{Option, some, none, bind, Option·map}
+use lib.Dec.{ltb, leb, eqb}
+use Rattle.cbor.specs.Item.{Item, Pairs, payloadOf}
+use Rattle.cbor.specs.Find.{valueOf}
+use Rattle.messages.specs.Refusals.{firstOf}
+use Rattle.messages.specs.declared.Amount.{Amount}
+use Rattle.messages.specs.declared.LimitResult.{LimitResult}
+use Rattle.messages.specs.declared.SetpointResult.{SetpointResult}
+use Rattle.messages.specs.declared.Outcome.{Outcome}
+use Rattle.messages.specs.declared.Response.{Response}
+use Rattle.frames.specs.Prefix.{framed, payloadIn}
+use Rattle.frames.specs.Fields.{upTo, truth, mapIn, needed, most32, mostValue, amountIn, successIn, truthItem, amountItem, Fields, present}
+use Rattle.frames.specs.Requests.{servedCommand}
+use Rattle.frames.specs.declared.responses.Answer.{Answer}
+
+-- "Status is 0 or a number the table gives as one": 0, 4, 5, 9 to 14
+unfoldable pub isStatus : ℕ → Bool
+isStatus n = eqb n 0 || eqb n 4 || eqb n 5 || (leb 9 n && leb n 14)
+
+-- "The result stands at status 0, and for SetLimit also at 11 to 14"
+unfoldable pub stands : ℕ → ℕ → Bool
+stands command status = eqb status 0 || (eqb command 1 && leb 11 status && leb status 14)
+
+-- READING
+abbrev pub onlyStatus : ℕ → Option ℕ
+onlyStatus n = cond (isStatus n) (some n) none
+
+unfoldable pub statusIn : Option Item → Option ℕ
+statusIn o = bind (needed (upTo 14) o) onlyStatus
+
+-- "SetLimit {1: applied, 2: control state, 3: consumption limit, 4: production limit, 5: reject reason}"; state and reason at most 4
+unfoldable pub limitResultIn : Pairs → Option LimitResult
+limitResultIn ps =
+    bind (needed truth (valueOf ps 1)) (λ a.
+    bind (needed (upTo 4) (valueOf ps 2)) (λ s.
+    bind (amountIn mostValue (valueOf ps 3)) (λ c.
+    bind (amountIn mostValue (valueOf ps 4)) (λ p.
+    bind (amountIn 4 (valueOf ps 5)) (λ r.
+    some (record { applied = a; state = s; consumption = c; production = p; reason = r }))))))
+
+-- "SetSetpoint {1: true, 2, 3: effective setpoints when present}"
+unfoldable pub setpointResultIn : Pairs → Option SetpointResult
+setpointResultIn ps =
+    bind (successIn (valueOf ps 1)) (λ t.
+    bind (amountIn mostValue (valueOf ps 2)) (λ c.
+    bind (amountIn mostValue (valueOf ps 3)) (λ p.
+    some (record { consumption = c; production = p }))))
+
+-- "Clears {1: true}"
+abbrev pub clearResultIn : Pairs → Option Outcome
+clearResultIn ps = Option·map (λ t. Outcome.Success) (successIn (valueOf ps 1))
+
+-- the result of a served command
+unfoldable pub outcomeIn : ℕ → Pairs → Option Outcome
+outcomeIn command ps =
+    cond (eqb command 1) (Option·map Outcome.Limit (limitResultIn ps))
+    (cond (eqb command 3) (Option·map Outcome.Setpoint (setpointResultIn ps)) (clearResultIn ps))
+
+-- "elsewhere key 3 is refused with 3"
+abbrev pub noResult : Option Item → Option Outcome
+noResult none = some Outcome.Nothing
+noResult (some i) = none
+
+unfoldable pub resultIn : ℕ → ℕ → Option Item → Option Outcome
+resultIn command status o = cond (stands command status) (bind (needed mapIn o) (outcomeIn command)) (noResult o)
+
+-- "Response: {1: message id, 2: status, 3: result}"
+unfoldable pub responseIn : ℕ → Pairs → Option Response
+responseIn command ps =
+    bind (needed (upTo most32) (valueOf ps 1)) (λ i.
+    bind (statusIn (valueOf ps 2)) (λ s.
+    bind (resultIn command s (valueOf ps 3)) (λ o.
+    some (record { id = i; status = s; outcome = o }))))
+
+abbrev pub answerOf : Option Response → Answer
+answerOf (some r) = Answer.Is r
+answerOf none = Answer.Refused 3
+
+-- 2, then 3
+unfoldable pub answerIn : ℕ → Option Item → Answer
+answerIn command (some i) = answerOf (bind (mapIn i) (responseIn command))
+answerIn command none = Answer.Refused 2
+
+-- "Responses are read for a command that the caller names; an unserved one is 4, tested first"; then 1, 2, 3
+unfoldable pub readResponse : ℕ → List ℕ → Answer
+readResponse command frame =
+    cond (servedCommand command) (cond (framed frame) (answerIn command (payloadOf (payloadIn frame))) (Answer.Refused 1)) (Answer.Refused 4)
+
+-- document 01's number for each case
+abbrev pub answerNumber : Answer → ℕ
+answerNumber (Answer.Is r) = 0
+answerNumber (Answer.Refused n) = n
+
+-- WRITING
+abbrev pub limitFields : LimitResult → Fields
+limitFields l =
+    (1, some (truthItem (l .applied))) ∷ (2, some (Item.uint (l .state))) ∷ (3, amountItem (l .consumption)) ∷ (4, amountItem (l .production))
+    ∷ (5, amountItem (l .reason)) ∷ []
+
+abbrev pub setpointFields : SetpointResult → Fields
+setpointFields l = (1, some (truthItem true)) ∷ (2, amountItem (l .consumption)) ∷ (3, amountItem (l .production)) ∷ []
+
+abbrev pub clearFields : Fields
+clearFields = (1, some (truthItem true)) ∷ []
+
+unfoldable pub outcomeItem : Outcome → Option Item
+outcomeItem Outcome.Nothing = none
+outcomeItem (Outcome.Limit l) = some (Item.map (present (limitFields l)))
+outcomeItem (Outcome.Setpoint l) = some (Item.map (present (setpointFields l)))
+outcomeItem Outcome.Success = some (Item.map (present clearFields))
+
+unfoldable pub responseFields : Response → Fields
+responseFields r = (1, some (Item.uint (r .id))) ∷ (2, some (Item.uint (r .status))) ∷ (3, outcomeItem (r .outcome)) ∷ []
+
+-- the item of a response
+unfoldable pub responseItem : Response → Item
+responseItem r = Item.map (present (responseFields r))
+
+abbrev pub amountUpTo : ℕ → Amount → Bool
+amountUpTo most Amount.Absent = true
+amountUpTo most (Amount.Is v) = leb v most
+
+-- a result of that command, its values in range
+unfoldable pub goesWith : ℕ → Outcome → Bool
+goesWith command Outcome.Nothing = false
+goesWith command (Outcome.Limit l) =
+    eqb command 1 && leb (l .state) 4 && amountUpTo mostValue (l .consumption) && amountUpTo mostValue (l .production) && amountUpTo 4 (l .reason)
+goesWith command (Outcome.Setpoint l) = eqb command 3 && amountUpTo mostValue (l .consumption) && amountUpTo mostValue (l .production)
+goesWith command Outcome.Success = eqb command 2 || eqb command 4
+
+abbrev pub isNothing : Outcome → Bool
+isNothing Outcome.Nothing = true
+isNothing (Outcome.Limit l) = false
+isNothing (Outcome.Setpoint l) = false
+isNothing Outcome.Success = false
+
+-- the result stands exactly where it should, and is the command's
+unfoldable pub fits : ℕ → ℕ → Outcome → Bool
+fits command status o = cond (stands command status) (goesWith command o) (isNothing o)
+
+-- 3: a value out of range, or a result that does not go with the command and the status
+unfoldable pub responseWide : ℕ → Response → Bool
+responseWide command r = ltb most32 (r .id) || not (isStatus (r .status)) || not (fits command (r .status) (r .outcome))
+
+-- 4, 3; 15 is in Writing
+unfoldable pub responseNumber : ℕ → Response → ℕ
+responseNumber command r = firstOf ((not (servedCommand command), 4) ∷ (responseWide command r, 3) ∷ [])
+
+-- an answer with a status and no result, which names no command; status 0 has a result for every command
+abbrev pub statusAlone : ℕ → ℕ → Response
+statusAlone i status = record { id = i; status = status; outcome = Outcome.Nothing }
+
+unfoldable pub statusNumber : ℕ → ℕ → ℕ
+statusNumber i status = firstOf ((ltb most32 i || not (isStatus status) || eqb status 0, 3) ∷ [])

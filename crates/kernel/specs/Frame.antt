@@ -1,0 +1,56 @@
+-- The frame call: a frame's bytes in, the device, the response's bytes out.
+use Prim.Native.Nat.{ℕ}
+use mathlib.Core.Bool.{Bool, true, false, cond}
+use mathlib.Core.List.{List, [], _∷_}
+use lib.Dec.{leb, eqb}
+use lib.ListN.{length}
+use Rattle.cbor.specs.Bytes.{putWhole}
+use Rattle.messages.specs.declared.Request.{Request}
+use Rattle.messages.specs.declared.Response.{Response}
+use Rattle.frames.specs.Requests.{readRequest}
+use Rattle.frames.specs.Responses.{responseItem, statusAlone}
+use Rattle.frames.specs.Writing.{itemFrame, writingNumber}
+use Rattle.frames.specs.declared.requests.Reading.{Reading}
+use Rattle.device.specs.Commands.{commandNumber, commandAfter, commandAnswer}
+use Rattle.kernel.specs.declared.Framed.{Framed}
+
+-- the response to a request: its message id, the number as status, and the result where one stands
+unfoldable pub responseTo : List ℕ → ℕ → ℕ → Request → Response
+responseTo ws z t r =
+    record { id = r .id; status = commandNumber ws z t (r .command); outcome = commandAnswer ws z t (r .command) .outcome }
+
+-- the table's column "Response frame": none at 1, 2 and 3; status 4; a status and its result else
+unfoldable pub responseFrame : List ℕ → ℕ → ℕ → Reading → List ℕ
+responseFrame ws z t (Reading.Refused n) = []
+responseFrame ws z t (Reading.Unserved i) = itemFrame (responseItem (statusAlone i 4))
+responseFrame ws z t (Reading.Is r) = itemFrame (responseItem (responseTo ws z t r))
+
+-- "Order, for a frame: 1, 2, envelope 3, 4, parameters 3, 5, 9, 10, 11, 12, 13, 14, 15"
+unfoldable pub numberFrom : List ℕ → ℕ → ℕ → Reading → ℕ → ℕ
+numberFrom ws z t (Reading.Refused n) room = n
+numberFrom ws z t (Reading.Unserved i) room = 4
+numberFrom ws z t (Reading.Is r) room = writingNumber (commandNumber ws z t (r .command)) (responseFrame ws z t (Reading.Is r)) room
+
+unfoldable pub frameNumber : List ℕ → ℕ → ℕ → List ℕ → ℕ → ℕ
+frameNumber ws z t bytes room = numberFrom ws z t (readRequest bytes) room
+
+-- "where that frame has no room, the number stands and nothing is written"
+unfoldable pub frameAnswer : List ℕ → ℕ → ℕ → List ℕ → ℕ → Framed
+frameAnswer ws z t bytes room =
+    record {
+      number = frameNumber ws z t bytes room;
+      length = cond (leb (length (responseFrame ws z t (readRequest bytes))) room) (length (responseFrame ws z t (readRequest bytes))) 0;
+    }
+
+-- the device: the command's effect where the number is 0
+unfoldable pub obeyedBy : List ℕ → ℕ → ℕ → Reading → List ℕ
+obeyedBy ws z t (Reading.Refused n) = ws
+obeyedBy ws z t (Reading.Unserved i) = ws
+obeyedBy ws z t (Reading.Is r) = commandAfter ws z t (r .command)
+
+unfoldable pub frameAfter : List ℕ → ℕ → ℕ → List ℕ → ℕ → List ℕ
+frameAfter ws z t bytes room = cond (eqb (frameNumber ws z t bytes room) 0) (obeyedBy ws z t (readRequest bytes)) ws
+
+-- the output: "the response frame from the front of the output buffer", past it as it was
+unfoldable pub frameOut : List ℕ → ℕ → ℕ → List ℕ → List ℕ → List ℕ
+frameOut ws z t bytes out = putWhole out 0 (responseFrame ws z t (readRequest bytes))
