@@ -17,7 +17,6 @@ use Rattle.planner.specs.Rows.{last, plan, IsPlan}
 use Rattle.planner.specs.Plan.{planOf, numbersOf, front, planNumber, planAnswer, planSlice}
 use Rattle.planner.proofs.IsPlan.{plan-is, plan-unique}
 use Rattle.planner.proofs.Walk.{planOf-few}
-use Rattle.demands.specs.FrameCall.{Wire}
 use Rattle.demands.specs.Run.{Call, run}
 use Rattle.demands.specs.History.{startedWith, history, told, InPairs}
 use Rattle.demands.specs.Demands.{Lists, Demand3}
@@ -52,15 +51,15 @@ lists ws f v t out e =
       few = planOf-few ws t;
     }
 
-pub demand-3 : (w : Wire) (s : Settings) → InPairs s → (calls : List Call) → Demand3 w s calls
-demand-3 w s k calls =
-    let d = run w s calls in
-    let a = agree-run w s k calls in
-    let v = agree-values (startedWith s) d (history w s calls) a in
+pub demand-3 : (s : Settings) → InPairs s → (calls : List Call) → Demand3 s calls
+demand-3 s k calls =
+    let d = run s calls in
+    let a = agree-run s k calls in
+    let v = agree-values (startedWith s) d (history s calls) a in
     record {
       values = v;
-      plan = lists d (valuesAt (told w s calls)) (fun-ext v);
-      numbers = number-same (startedWith s) d (history w s calls) a w;
-      eight = at-most (startedWith s) (zonesOf d) (history w s calls) (a .zones);
-      slots = released-slot w s k calls;
+      plan = lists d (valuesAt (told s calls)) (fun-ext v);
+      numbers = number-same (startedWith s) d (history s calls) a;
+      eight = at-most (startedWith s) (zonesOf d) (history s calls) (a .zones);
+      slots = released-slot s k calls;
     }

@@ -4,6 +4,7 @@ pub mod Says
 pub mod Same
 pub mod Count
 pub mod Agree
+pub mod Readings
 pub mod Steps
 pub mod Reached
 pub mod Own

@@ -12,7 +12,6 @@ use Rattle.device.specs.Zones.{freeZone}
 use Rattle.device.specs.Words.{fresh}
 use Rattle.device.specs.Start.{badSettings, refusedSettings, startAfter}
 use Rattle.device.proofs.Effects.{fresh-length, fresh-settings, fresh-clock, fresh-since, fresh-override, fresh-zones}
-use Rattle.demands.specs.FrameCall.{Wire}
 use Rattle.demands.specs.Run.{Call, run}
 use Rattle.demands.specs.History.{newest, clockBy, overrideBy, joinedBy, sinceBy, log, startedWith, InPairs}
 use Rattle.demands.proofs.Same.{at, Same}
@@ -52,7 +51,7 @@ started-pairs s p = go (badSettings s)
     go true = record { maxima = refl; failsafe = refl }
     go false = p
 
-pub agree-run : (w : Wire) (s : Settings) → InPairs s → (calls : List Call) → Agree (startedWith s) (run w s calls) (log w (startedWith s) calls)
+pub agree-run : (s : Settings) → InPairs s → (calls : List Call) → Agree (startedWith s) (run s calls) (log (startedWith s) calls)
 unfolding run log startAfter
-agree-run w s p [] = unfold startedWith in agree-fresh (startedWith s) (started-pairs s p)
-agree-run w s p (c ∷ calls) = agree-next (startedWith s) (run w s calls) (log w (startedWith s) calls) (agree-run w s p calls) w c
+agree-run s p [] = unfold startedWith in agree-fresh (startedWith s) (started-pairs s p)
+agree-run s p (c ∷ calls) = agree-next (startedWith s) (run s calls) (log (startedWith s) calls) (agree-run s p calls) c

@@ -12,7 +12,6 @@ use Rattle.device.specs.Sizes.{slots, helds}
 use Rattle.device.specs.Zones.{freeZone, nothing, isJoined, heldOf}
 use Rattle.device.specs.Words.{zonesOf, zoneAt}
 use Rattle.device.proofs.Lens.{zones-at}
-use Rattle.demands.specs.FrameCall.{Wire}
 use Rattle.demands.specs.Run.{Call, run}
 use Rattle.demands.specs.History.{Log, recordBy, heldBy, history, startedWith, InPairs}
 use Rattle.demands.specs.ReleasedSlot.{ownSince, SetTogether, ReleasedSlot}
@@ -32,19 +31,19 @@ slot-own s ws h a i p x e l =
 held-together : (s : Settings) (h : Log) (z q : ℕ) → q < helds → (x : Zone) → x ≡ recordBy s h z → (heldOf x q ≡ nothing) ⊎ SetTogether s h z q (heldOf x q)
 held-together s h z q p x e = rw (e, held-of s h z q p) (set-together s h z q)
 
-pub released-slot : (w : Wire) (s : Settings) → InPairs s → (calls : List Call) → ReleasedSlot w s calls
-released-slot w s k calls =
+pub released-slot : (s : Settings) → InPairs s → (calls : List Call) → ReleasedSlot s calls
+released-slot s k calls =
     record {
       own = λ i p x e j. mine calls i p x e (isJoined-low x j);
-      together = λ i q p r x e j. held-together (startedWith s) (ownSince (x .id) (history w s calls)) (x .id) q r x (mine calls i p x e (isJoined-low x j));
+      together = λ i q p r x e j. held-together (startedWith s) (ownSince (x .id) (history s calls)) (x .id) q r x (mine calls i p x e (isJoined-low x j));
       alike = λ others i j z p q l e f o.
           let x = told calls i z p l e in
           let y = told others j z q l f in
           x ∙ ap (λ (h : Log). recordBy (startedWith s) h z) o ∙ sym y;
     }
   where
-    mine : (calls : List Call) (i : ℕ) → i < slots → (x : Zone) → x ≡ zoneAt (run w s calls) i → 1 ≤ x .id → x ≡ recordBy (startedWith s) (ownSince (x .id) (history w s calls)) (x .id)
-    mine calls = slot-own (startedWith s) (run w s calls) (history w s calls) (agree-run w s k calls)
+    mine : (calls : List Call) (i : ℕ) → i < slots → (x : Zone) → x ≡ zoneAt (run s calls) i → 1 ≤ x .id → x ≡ recordBy (startedWith s) (ownSince (x .id) (history s calls)) (x .id)
+    mine calls = slot-own (startedWith s) (run s calls) (history s calls) (agree-run s k calls)
 
-    told : (calls : List Call) (i z : ℕ) → i < slots → 0 < z → zoneAt (run w s calls) i .id ≡ z → zoneAt (run w s calls) i ≡ recordBy (startedWith s) (ownSince z (history w s calls)) z
-    told calls i z p l e = subst (λ (y : ℕ). zoneAt (run w s calls) i ≡ recordBy (startedWith s) (ownSince y (history w s calls)) y) e (mine calls i p (zoneAt (run w s calls) i) refl (omega arith))
+    told : (calls : List Call) (i z : ℕ) → i < slots → 0 < z → zoneAt (run s calls) i .id ≡ z → zoneAt (run s calls) i ≡ recordBy (startedWith s) (ownSince z (history s calls)) z
+    told calls i z p l e = subst (λ (y : ℕ). zoneAt (run s calls) i ≡ recordBy (startedWith s) (ownSince y (history s calls)) y) e (mine calls i p (zoneAt (run s calls) i) refl (omega arith))

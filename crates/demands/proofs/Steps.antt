@@ -18,9 +18,13 @@ use Rattle.device.specs.Refusals.{firstOf, late}
 use Rattle.device.specs.Calls.{zoneChange, headChange, badJoin, joinTests, joinNumber, joinAfter, leaveTests, leaveNumber, leaveAfter, same, linkTests, linkNumber, linkAfter, overrideNumber, overrideAfter, overrideWord, clearNumber, clearAfter, askNumber, askAfter}
 use Rattle.device.specs.Commands.{commandTests, isUnserved, unsupported, isSetLimit, invalid, belowTheMinimum, obeyed, commandNumber, commandAfter, commandAnswer, outcomeWith, isCapped}
 use Rattle.planner.specs.Plan.{planOf, planNumber, planAfter}
-use Rattle.demands.specs.FrameCall.{Wire, Reading, refused, unserved, request, unlessLonger, readingNumber, readingAfter, frameNumber, frameAfter}
+use Rattle.frames.specs.Requests.{readRequest}
+use Rattle.frames.specs.Writing.{writingNumber}
+use Rattle.frames.specs.declared.requests.Reading.{Reading}
+use Rattle.kernel.specs.Frame.{responseTo, responseFrame, numberFrom, frameNumber, obeyedBy, frameAfter}
 use Rattle.demands.specs.Run.{Call, join, leave, lost, back, override, clear, ask, plan, frame, number, next}
-use Rattle.demands.specs.History.{joins, leaves, links, commands, overrides, passes, Log, clockBy, overrideBy, joinedBy, upBy, recordBy, zonesBy, situationBy, linkNumberBy, commandNumberBy, kept, outcomeBy, readingNumberBy, numberBy, tells, entry}
+use Rattle.demands.specs.History.{joins, leaves, links, commands, overrides, passes, Log, clockBy, overrideBy, joinedBy, upBy, recordBy, zonesBy, situationBy, linkNumberBy, commandNumberBy, kept, outcomeBy, responseBy, responseFrameBy, numberFromBy, numberBy, tells, entry}
+use Rattle.demands.proofs.Readings.{refuses, writes}
 use Rattle.demands.proofs.Same.{found, joined-same}
 use Rattle.demands.proofs.Count.{full-same}
 use Rattle.demands.proofs.Agree.{Agree, agree-values, agree-override, agree-passes, agree-join, agree-leave, agree-link, agree-obey, agree-after}
@@ -126,60 +130,59 @@ module _ (s : Settings) (ws : List ℕ) (h : Log) (a : Agree s ws h) where
       let v = agree-values s (commandAfter ws z t c) (kept (commandNumber ws z t c) (t, commands z c) h) (agree-command z t c) t in
       rw (v, n, a .settings)
 
-  reading-number : (w : Wire) (z t room : ℕ) (r : Reading) → readingNumber w ws z t room r ≡ readingNumberBy w s h z t room r
-  unfolding readingNumber readingNumberBy
-  reading-number w z t room (refused n) = refl
-  reading-number w z t room (unserved i) = refl
-  reading-number w z t room (request i c) = rw (command-number z t c, outcome-same z t c)
+  -- and so is the whole response frame
+  pub response-same : (z t : ℕ) (r : Reading) → responseFrame ws z t r ≡ responseFrameBy s h z t r
+  unfolding responseFrame responseFrameBy responseTo responseBy
+  response-same z t (Reading.Refused n) = refl
+  response-same z t (Reading.Unserved i) = refl
+  response-same z t (Reading.Is r) = rw (command-number z t (r .command), outcome-same z t (r .command))
 
-  shorter : (n size room : ℕ) → unlessLonger n size room ≡ 0 → n ≡ 0
-  unfolding unlessLonger
-  shorter n size room e = go (eqb n 0) refl e
-    where
-      go : (b : Bool) → eqb n 0 ≡ b → cond b (cond (ltb room size) 15 0) n ≡ 0 → n ≡ 0
-      go true p e = eqb-true n 0 p
-      go false p e = e
+  reading-number : (z t : ℕ) (r : Reading) (room : ℕ) → numberFrom ws z t r room ≡ numberFromBy s h z t r room
+  unfolding numberFrom numberFromBy
+  reading-number z t (Reading.Refused n) room = refl
+  reading-number z t (Reading.Unserved i) room = refl
+  reading-number z t (Reading.Is r) room = rw (command-number z t (r .command), response-same z t (Reading.Is r))
 
-  agree-reading : (w : Wire) (z t room : ℕ) (r : Reading) → ((n : ℕ) → r ≡ refused n → 1 ≤ n)
-      → Agree s (cond (eqb (readingNumber w ws z t room r) 0) (readingAfter ws z t r) ws) (kept (readingNumber w ws z t room r) (t, tells z r) h)
-  unfolding readingNumber readingAfter kept tells
-  agree-reading w z t room (refused n) p = rw (ne-eqb n 0 (λ e. omega (arith, p n refl))) a
-  agree-reading w z t room (unserved i) p = a
-  agree-reading w z t room (request i c) p = go (eqb m 0) refl
+  agree-reading : (z t : ℕ) (r : Reading) (room : ℕ) → ((n : ℕ) → r ≡ Reading.Refused n → 1 ≤ n)
+      → Agree s (cond (eqb (numberFrom ws z t r room) 0) (obeyedBy ws z t r) ws) (kept (numberFrom ws z t r room) (t, tells z r) h)
+  unfolding numberFrom obeyedBy kept tells
+  agree-reading z t (Reading.Refused n) room p = rw (ne-eqb n 0 (λ e. omega (arith, p n refl))) a
+  agree-reading z t (Reading.Unserved i) room p = a
+  agree-reading z t (Reading.Is r) room p = go (eqb m 0) refl
     where
       m : ℕ
-      m = unlessLonger (commandNumber ws z t c) (w .responseLength i 0 (commandAnswer ws z t c .outcome)) room
+      m = writingNumber (commandNumber ws z t (r .command)) (responseFrame ws z t (Reading.Is r)) room
 
-      go : (b : Bool) → eqb m 0 ≡ b → Agree s (cond b (commandAfter ws z t c) ws) (cond b ((t, commands z c) ∷ h) h)
+      go : (b : Bool) → eqb m 0 ≡ b → Agree s (cond b (commandAfter ws z t (r .command)) ws) (cond b ((t, commands z (r .command)) ∷ h) h)
       go true e =
-          let n : commandNumber ws z t c ≡ 0 = shorter (commandNumber ws z t c) _ room (eqb-true m 0 e) in
-          rw n at (agree-command z t c)
+          let n : commandNumber ws z t (r .command) ≡ 0 = writes (commandNumber ws z t (r .command)) (responseFrame ws z t (Reading.Is r)) room (eqb-true m 0 e) in
+          rw n at (agree-command z t (r .command))
       go false e = a
 
   -- EVERY CALL
-  pub number-same : (w : Wire) (c : Call) → number w ws c ≡ numberBy w s h c
+  pub number-same : (c : Call) → number ws c ≡ numberBy s h c
   unfolding number numberBy overrideNumber clearNumber askNumber planNumber planOf frameNumber
-  number-same w (join z k t) = join-number z k t
-  number-same w (leave z t) = leave-number z t
-  number-same w (lost z t) = link-number z false t
-  number-same w (back z t) = link-number z true t
-  number-same w (override r d t) = rw (a .clock, a .settings)
-  number-same w (clear t) = rw (a .clock, a .override)
-  number-same w (ask t) = rw (a .clock)
-  number-same w (plan t room) = let v = fun-ext (agree-values s ws h a) in rw (a .clock, v)
-  number-same w (frame z t bytes room) = reading-number w z t room (w .reads bytes)
+  number-same (join z k t) = join-number z k t
+  number-same (leave z t) = leave-number z t
+  number-same (lost z t) = link-number z false t
+  number-same (back z t) = link-number z true t
+  number-same (override r d t) = rw (a .clock, a .settings)
+  number-same (clear t) = rw (a .clock, a .override)
+  number-same (ask t) = rw (a .clock)
+  number-same (plan t room) = let v = fun-ext (agree-values s ws h a) in rw (a .clock, v)
+  number-same (frame z t bytes room) = reading-number z t (readRequest bytes) room
 
-  agree-call : (w : Wire) (c : Call) → Agree s (next w ws c) (kept (number w ws c) (entry w c) h)
+  agree-call : (c : Call) → Agree s (next ws c) (kept (number ws c) (entry c) h)
   unfolding number next entry joinAfter leaveAfter overrideAfter clearAfter askAfter planAfter frameNumber frameAfter
-  agree-call w (join z k t) = agree-after s ws h (joinNumber ws z k t) (zoneChange ws t (slotOf (zonesOf ws) 0) (newZone z k)) (t, joins z k) a (agree-join-call z k t)
-  agree-call w (leave z t) = agree-after s ws h (leaveNumber ws z t) (zoneChange ws t (slotOf (zonesOf ws) z) freeZone) (t, leaves z) a (λ e. agree-leave s ws h z t a (leave-there z t e))
-  agree-call w (lost z t) = agree-link-call z false t
-  agree-call w (back z t) = agree-link-call z true t
-  agree-call w (override r d t) = agree-after s ws h (overrideNumber ws r d t) (headChange ws t (overrideWord r d)) (t, overrides (overrideWord r d)) a (λ e. agree-override s ws h t (overrideWord r d) a)
-  agree-call w (clear t) = agree-after s ws h (clearNumber ws t) (headChange ws t 0) (t, overrides 0) a (λ e. agree-override s ws h t 0 a)
-  agree-call w (ask t) = agree-after s ws h (askNumber ws t) (headChange ws t (overrideOf ws)) (t, passes) a (λ e. agree-passes s ws h t a)
-  agree-call w (plan t room) = agree-after s ws h (planNumber ws t room) (headChange ws t (overrideOf ws)) (t, passes) a (λ e. agree-passes s ws h t a)
-  agree-call w (frame z t bytes room) = agree-reading w z t room (w .reads bytes) (w .refuses bytes)
+  agree-call (join z k t) = agree-after s ws h (joinNumber ws z k t) (zoneChange ws t (slotOf (zonesOf ws) 0) (newZone z k)) (t, joins z k) a (agree-join-call z k t)
+  agree-call (leave z t) = agree-after s ws h (leaveNumber ws z t) (zoneChange ws t (slotOf (zonesOf ws) z) freeZone) (t, leaves z) a (λ e. agree-leave s ws h z t a (leave-there z t e))
+  agree-call (lost z t) = agree-link-call z false t
+  agree-call (back z t) = agree-link-call z true t
+  agree-call (override r d t) = agree-after s ws h (overrideNumber ws r d t) (headChange ws t (overrideWord r d)) (t, overrides (overrideWord r d)) a (λ e. agree-override s ws h t (overrideWord r d) a)
+  agree-call (clear t) = agree-after s ws h (clearNumber ws t) (headChange ws t 0) (t, overrides 0) a (λ e. agree-override s ws h t 0 a)
+  agree-call (ask t) = agree-after s ws h (askNumber ws t) (headChange ws t (overrideOf ws)) (t, passes) a (λ e. agree-passes s ws h t a)
+  agree-call (plan t room) = agree-after s ws h (planNumber ws t room) (headChange ws t (overrideOf ws)) (t, passes) a (λ e. agree-passes s ws h t a)
+  agree-call (frame z t bytes room) = agree-reading z t (readRequest bytes) room (refuses bytes)
 
-  pub agree-next : (w : Wire) (c : Call) → Agree s (next w ws c) (kept (numberBy w s h c) (entry w c) h)
-  agree-next w c = subst (λ (n : ℕ). Agree s (next w ws c) (kept n (entry w c) h)) (number-same w c) (agree-call w c)
+  pub agree-next : (c : Call) → Agree s (next ws c) (kept (numberBy s h c) (entry c) h)
+  agree-next c = subst (λ (n : ℕ). Agree s (next ws c) (kept n (entry c) h)) (number-same c) (agree-call c)

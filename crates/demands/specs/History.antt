@@ -8,6 +8,8 @@ use lib.Dec.{leb, eqb}
 use lib.ListN.{length}
 use Rattle.messages.specs.declared.Command.{Command}
 use Rattle.messages.specs.declared.Outcome.{Outcome}
+use Rattle.messages.specs.declared.Request.{Request}
+use Rattle.messages.specs.declared.Response.{Response}
 use Rattle.device.specs.declared.Held.{Held}
 use Rattle.device.specs.declared.Zone.{Zone}
 use Rattle.device.specs.declared.Settings.{Settings}
@@ -20,7 +22,10 @@ use Rattle.device.specs.Calls.{joinTests, leaveTests, linkTests, overrideTests,
 use Rattle.device.specs.Commands.{commandTests, action, untilOf, durationOf, isCapped, outcomeWith}
 use Rattle.device.specs.Start.{badSettings, refusedSettings}
 use Rattle.planner.specs.Plan.{planTests, planOf}
-use Rattle.demands.specs.FrameCall.{Wire, Reading, refused, unserved, request, unlessLonger}
+use Rattle.frames.specs.Requests.{readRequest}
+use Rattle.frames.specs.Responses.{responseItem, statusAlone}
+use Rattle.frames.specs.Writing.{itemFrame, writingNumber}
+use Rattle.frames.specs.declared.requests.Reading.{Reading}
 use Rattle.demands.specs.Run.{Call, join, leave, lost, back, override, clear, ask, plan, frame}
 
 -- THE LOG
@@ -164,43 +169,52 @@ outcomeBy s h z t c =
     outcomeWith c (commandNumberBy s h z t c) (isCapped s c)
     (valuesAt (situationBy s (kept (commandNumberBy s h z t c) (t, commands z c) h)) t)
 
-unfoldable pub readingNumberBy : Wire → Settings → Log → ℕ → ℕ → ℕ → Reading → ℕ
-readingNumberBy w s h z t room (refused n) = n
-readingNumberBy w s h z t room (unserved i) = 4
-readingNumberBy w s h z t room (request i c) = unlessLonger (commandNumberBy s h z t c) (w .responseLength i 0 (outcomeBy s h z t c)) room
+unfoldable pub responseBy : Settings → Log → ℕ → ℕ → Request → Response
+responseBy s h z t r = record { id = r .id; status = commandNumberBy s h z t (r .command); outcome = outcomeBy s h z t (r .command) }
 
-unfoldable pub numberBy : Wire → Settings → Log → Call → ℕ
-numberBy w s h (join z k t) = firstOf (joinTests (clockBy h) (joinedBy h z) (leb slots (length (zonesBy s h))) z k t)
-numberBy w s h (leave z t) = firstOf (leaveTests (clockBy h) (joinedBy h z) t)
-numberBy w s h (lost z t) = linkNumberBy h z false t
-numberBy w s h (back z t) = linkNumberBy h z true t
-numberBy w s h (override r d t) = firstOf (overrideTests (clockBy h) (s .manager) r d t)
-numberBy w s h (clear t) = firstOf (clearTests (clockBy h) (overrideBy h) t)
-numberBy w s h (ask t) = firstOf (askTests (clockBy h) t)
-numberBy w s h (plan t room) = firstOf (planTests (clockBy h) (planOf (situationBy s h) t) t room)
-numberBy w s h (frame z t bytes room) = readingNumberBy w s h z t room (w .reads bytes)
+-- the response frame: none at 1, 2 and 3; status 4; a status and its result else
+unfoldable pub responseFrameBy : Settings → Log → ℕ → ℕ → Reading → List ℕ
+responseFrameBy s h z t (Reading.Refused n) = []
+responseFrameBy s h z t (Reading.Unserved i) = itemFrame (responseItem (statusAlone i 4))
+responseFrameBy s h z t (Reading.Is r) = itemFrame (responseItem (responseBy s h z t r))
+
+unfoldable pub numberFromBy : Settings → Log → ℕ → ℕ → Reading → ℕ → ℕ
+numberFromBy s h z t (Reading.Refused n) room = n
+numberFromBy s h z t (Reading.Unserved i) room = 4
+numberFromBy s h z t (Reading.Is r) room = writingNumber (commandNumberBy s h z t (r .command)) (responseFrameBy s h z t (Reading.Is r)) room
+
+unfoldable pub numberBy : Settings → Log → Call → ℕ
+numberBy s h (join z k t) = firstOf (joinTests (clockBy h) (joinedBy h z) (leb slots (length (zonesBy s h))) z k t)
+numberBy s h (leave z t) = firstOf (leaveTests (clockBy h) (joinedBy h z) t)
+numberBy s h (lost z t) = linkNumberBy h z false t
+numberBy s h (back z t) = linkNumberBy h z true t
+numberBy s h (override r d t) = firstOf (overrideTests (clockBy h) (s .manager) r d t)
+numberBy s h (clear t) = firstOf (clearTests (clockBy h) (overrideBy h) t)
+numberBy s h (ask t) = firstOf (askTests (clockBy h) t)
+numberBy s h (plan t room) = firstOf (planTests (clockBy h) (planOf (situationBy s h) t) t room)
+numberBy s h (frame z t bytes room) = numberFromBy s h z t (readRequest bytes) room
 
 -- what a frame tells is its command; one that reads as none is never accepted
 unfoldable pub tells : ℕ → Reading → Told
-tells z (refused n) = passes
-tells z (unserved i) = passes
-tells z (request i c) = commands z c
+tells z (Reading.Refused n) = passes
+tells z (Reading.Unserved i) = passes
+tells z (Reading.Is r) = commands z (r .command)
 
-unfoldable pub entry : Wire → Call → Entry
-entry w (join z k t) = (t, joins z k)
-entry w (leave z t) = (t, leaves z)
-entry w (lost z t) = (t, links z false)
-entry w (back z t) = (t, links z true)
-entry w (override r d t) = (t, overrides (overrideWord r d))
-entry w (clear t) = (t, overrides 0)
-entry w (ask t) = (t, passes)
-entry w (plan t room) = (t, passes)
-entry w (frame z t bytes room) = (t, tells z (w .reads bytes))
+unfoldable pub entry : Call → Entry
+entry (join z k t) = (t, joins z k)
+entry (leave z t) = (t, leaves z)
+entry (lost z t) = (t, links z false)
+entry (back z t) = (t, links z true)
+entry (override r d t) = (t, overrides (overrideWord r d))
+entry (clear t) = (t, overrides 0)
+entry (ask t) = (t, passes)
+entry (plan t room) = (t, passes)
+entry (frame z t bytes room) = (t, tells z (readRequest bytes))
 
 -- the accepted calls, from the history alone
-unfoldable pub log : Wire → Settings → List Call → Log
-log w s [] = []
-log w s (c ∷ calls) = kept (numberBy w s (log w s calls) c) (entry w c) (log w s calls)
+unfoldable pub log : Settings → List Call → Log
+log s [] = []
+log s (c ∷ calls) = kept (numberBy s (log s calls) c) (entry c) (log s calls)
 
 -- "A refused start hands back a fresh device" with settings of its own
 unfoldable pub startedWith : Settings → Settings
@@ -212,8 +226,8 @@ pub record InPairs (s : Settings) : Type 0 where
   pub failsafe : length (s .failsafe) ≡ 2
 
 -- the log of calls to a device that was started with s, and the situation that it tells of
-abbrev pub history : Wire → Settings → List Call → Log
-history w s calls = log w (startedWith s) calls
+abbrev pub history : Settings → List Call → Log
+history s calls = log (startedWith s) calls
 
-abbrev pub told : Wire → Settings → List Call → Situation
-told w s calls = situationBy (startedWith s) (history w s calls)
+abbrev pub told : Settings → List Call → Situation
+told s calls = situationBy (startedWith s) (history s calls)

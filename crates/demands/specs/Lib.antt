@@ -1,4 +1,3 @@
-pub mod FrameCall
 pub mod Run
 pub mod History
 pub mod ReleasedSlot

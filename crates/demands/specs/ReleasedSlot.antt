@@ -13,7 +13,6 @@ use Rattle.device.specs.Sizes.{slots, helds}
 use Rattle.device.specs.Zones.{nothing, isJoined, heldOf}
 use Rattle.device.specs.Words.{zoneAt}
 use Rattle.device.specs.Commands.{action, untilOf, durationOf}
-use Rattle.demands.specs.FrameCall.{Wire}
 use Rattle.demands.specs.Run.{Call, run}
 use Rattle.demands.specs.History.{Told, joins, leaves, links, commands, overrides, passes, Log, about, recordBy, history, startedWith}
 
@@ -40,13 +39,13 @@ pub record SetTogether (s : Settings) (h : Log) (z q : ℕ) (x : Held) : Type 0 
   pub both : x ≡ record { value = value; until = untilOf time (durationOf command) }
 
 -- in the device that calls lead to
-pub record ReleasedSlot (w : Wire) (s : Settings) (calls : List Call) : Type 0 where
+pub record ReleasedSlot (s : Settings) (calls : List Call) : Type 0 where
   -- the whole record in a slot that a zone has (rank, link, each value with its end) is said by that zone's own calls since it last joined
-  pub own : (i : ℕ) → i < slots → (x : Zone) → x ≡ zoneAt (run w s calls) i → isJoined x ≡ true
-      → x ≡ recordBy (startedWith s) (ownSince (x .id) (history w s calls)) (x .id)
+  pub own : (i : ℕ) → i < slots → (x : Zone) → x ≡ zoneAt (run s calls) i → isJoined x ≡ true
+      → x ≡ recordBy (startedWith s) (ownSince (x .id) (history s calls)) (x .id)
   -- a value stands beside the end that the same command of the same zone gave it
-  pub together : (i q : ℕ) → i < slots → q < helds → (x : Zone) → x ≡ zoneAt (run w s calls) i → isJoined x ≡ true
-      → (heldOf x q ≡ nothing) ⊎ SetTogether (startedWith s) (ownSince (x .id) (history w s calls)) (x .id) q (heldOf x q)
+  pub together : (i q : ℕ) → i < slots → q < helds → (x : Zone) → x ≡ zoneAt (run s calls) i → isJoined x ≡ true
+      → (heldOf x q ≡ nothing) ⊎ SetTogether (startedWith s) (ownSince (x .id) (history s calls)) (x .id) q (heldOf x q)
   -- whatever other zones did, and whichever slot was free: after any other calls that have the same ones of zone z, its record is the same
-  pub alike : (others : List Call) (i j z : ℕ) → i < slots → j < slots → 0 < z → zoneAt (run w s calls) i .id ≡ z → zoneAt (run w s others) j .id ≡ z
-      → ownSince z (history w s calls) ≡ ownSince z (history w s others) → zoneAt (run w s calls) i ≡ zoneAt (run w s others) j
+  pub alike : (others : List Call) (i j z : ℕ) → i < slots → j < slots → 0 < z → zoneAt (run s calls) i .id ≡ z → zoneAt (run s others) j .id ≡ z
+      → ownSince z (history s calls) ≡ ownSince z (history s others) → zoneAt (run s calls) i ≡ zoneAt (run s others) j
