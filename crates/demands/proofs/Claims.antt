@@ -30,13 +30,13 @@ never : {X : Type 0} → _≡_ {A = Bool} false true → X
 never e = absurd (let w : _≡_ {A = ℕ} 0 1 = cc in omega arith)
 
 -- by rank, then by id
-abbrev ranked : Claim → Claim → Bool
+abbrev pub ranked : Claim → Claim → Bool
 ranked a b = ltb (a .rank) (b .rank) || (eqb (a .rank) (b .rank) && ltb (a .id) (b .id))
 
-NotAfter : Claim → Claim → Type 0
+unfoldable pub NotAfter : Claim → Claim → Type 0
 NotAfter a b = (a .rank < b .rank) ⊎ ((a .rank ≡ b .rank) × (a .id ≤ b .id))
 
-ranked-false : (a b : Claim) → ranked a b ≡ false → NotAfter b a
+pub ranked-false : (a b : Claim) → ranked a b ≡ false → NotAfter b a
 unfolding NotAfter
 ranked-false a b e = go (ltb (a .rank) (b .rank)) refl (eqb (a .rank) (b .rank)) refl e
   where
@@ -162,7 +162,7 @@ claim-zone t q x e = go (isJoined x) refl (ltb t (heldOf x q .until)) refl e
     go true p false r e = never e
     go false p b r e = never e
 
-standing : (t q : ℕ) (l : List Zone) → winner t q l .there ≡ true → (x : Zone) × List·Memᴰ x l × (winner t q l ≡ claimOf t q x)
+pub standing : (t q : ℕ) (l : List Zone) → winner t q l .there ≡ true → (x : Zone) × List·Memᴰ x l × (winner t q l ≡ claimOf t q x)
 unfolding winner
 standing t q l e = go (wins t q l noClaim .from)
   where
@@ -170,14 +170,18 @@ standing t q l e = go (wins t q l noClaim .from)
     go (inl p) = never (sym (ap (λ (c : Claim). c .there) p) ∙ e)
     go (inr r) = r
 
+-- every claim that stands is beaten by the winner
+pub beaten-by : (t q : ℕ) (l : List Zone) (x : Zone) → List·Memᴰ x l → claimOf t q x .there ≡ true → (winner t q l .there ≡ true) × (goesBefore q (claimOf t q x) (winner t q l) ≡ false)
+unfolding winner Beaten
+beaten-by t q l x m e = wins t q l noClaim .all x m e
+
 -- the winner of one list has a match in the other, and is beaten by the other's winner
 beaten : (t q : ℕ) (l m : List Zone) → Within l m → winner t q l .there ≡ true → (winner t q m .there ≡ true) × (goesBefore q (winner t q l) (winner t q m) ≡ false)
-unfolding winner Beaten
 beaten t q l m w e =
     let r = standing t q l e in
     let x = r .0 in
     let s = subst (λ (c : Claim). c .there ≡ true) (r .2) e in
-    let b = wins t q m noClaim .all x (w .has x (claim-zone t q x s .0) (r .1)) s in
+    let b = beaten-by t q m x (w .has x (claim-zone t q x s .0) (r .1)) s in
     (b .0, subst (λ (c : Claim). goesBefore q c (winner t q m) ≡ false) (sym (r .2)) (b .1))
 
 equal-limits : (q : ℕ) (a b : Claim) → isLimit q ≡ true → goesBefore q a b ≡ false → goesBefore q b a ≡ false → a .value ≡ b .value
