@@ -8,6 +8,8 @@ pub mod Agree
 pub mod Readings
 pub mod Steps
 pub mod Reached
+pub mod Answers
+pub mod Responses
 pub mod Own
 pub mod Slots
 pub mod Demand3

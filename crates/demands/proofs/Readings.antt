@@ -1,5 +1,5 @@
 -- Two facts of frames: a reading that is refused has a number, and a response that is written answers a command that nothing refused.
-use mathlib.Core.Path.{_≡_, refl}
+use mathlib.Core.Path.{_≡_, refl, subst}
 use mathlib.Core.Bool.{Bool, true, false, cond, _&&_}
 use mathlib.Core.List.{List}
 use mathlib.Core.Option.{Option, some, none, bind}
@@ -24,26 +24,29 @@ writes n bytes room e = go (eqb n 0) refl _ e
     go false p r e = e
 
 -- the number is 1, 2 or 3
-pub refuses : (bytes : List ℕ) (n : ℕ) → readRequest bytes ≡ Reading.Refused n → 1 ≤ n
+pub refused-with : (P : ℕ → Type 0) → P 1 → P 2 → P 3 → (bytes : List ℕ) (n : ℕ) → readRequest bytes ≡ Reading.Refused n → P n
 unfolding readRequest fromPayload fromEnvelope
-refuses bytes n e = go (framed bytes) (payloadOf (payloadIn bytes)) e
+refused-with P one two three bytes n e = go (framed bytes) (payloadOf (payloadIn bytes)) e
   where
-    is : (k : ℕ) → 1 ≤ k → _≡_ {A = Reading} (Reading.Refused k) (Reading.Refused n) → 1 ≤ n
-    is k p e = let q : k ≡ n = cc in omega arith
+    is : (k : ℕ) → P k → _≡_ {A = Reading} (Reading.Refused k) (Reading.Refused n) → P n
+    is k p e = let q : k ≡ n = cc in subst P q p
 
-    parameters : (v : Envelope) (o : Option Command) → withCommand v o ≡ Reading.Refused n → 1 ≤ n
-    parameters v none e = is 3 (omega arith) e
+    parameters : (v : Envelope) (o : Option Command) → withCommand v o ≡ Reading.Refused n → P n
+    parameters v none e = is 3 three e
     parameters v (some c) e = absurd (let w : _≡_ {A = ℕ} 0 1 = cc in omega arith)
 
-    served : (v : Envelope) (b : Bool) → cond b (withCommand v (commandIn (v .command) (v .parameters))) (Reading.Unserved (v .id)) ≡ Reading.Refused n → 1 ≤ n
+    served : (v : Envelope) (b : Bool) → cond b (withCommand v (commandIn (v .command) (v .parameters))) (Reading.Unserved (v .id)) ≡ Reading.Refused n → P n
     served v true e = parameters v (commandIn (v .command) (v .parameters)) e
     served v false e = absurd (let w : _≡_ {A = ℕ} 0 1 = cc in omega arith)
 
-    envelope : (o : Option Envelope) → fromEnvelope o ≡ Reading.Refused n → 1 ≤ n
-    envelope none e = is 3 (omega arith) e
+    envelope : (o : Option Envelope) → fromEnvelope o ≡ Reading.Refused n → P n
+    envelope none e = is 3 three e
     envelope (some v) e = served v (servedAt (v .endpoint) (v .feature) && servedCommand (v .command)) e
 
-    go : (b : Bool) (o : Option Item) → cond b (fromPayload o) (Reading.Refused 1) ≡ Reading.Refused n → 1 ≤ n
-    go false o e = is 1 (omega arith) e
-    go true none e = is 2 (omega arith) e
+    go : (b : Bool) (o : Option Item) → cond b (fromPayload o) (Reading.Refused 1) ≡ Reading.Refused n → P n
+    go false o e = is 1 one e
+    go true none e = is 2 two e
     go true (some i) e = envelope (bind (mapIn i) envelopeIn) e
+
+pub refuses : (bytes : List ℕ) (n : ℕ) → readRequest bytes ≡ Reading.Refused n → 1 ≤ n
+refuses = refused-with (λ n. 1 ≤ n) (omega arith) (omega arith) (omega arith)
