@@ -4,7 +4,7 @@ use mathlib.Core.List.{List, [], _∷_}
 use lib.ListN.{getD}
 use Rattle.conformance.specs.Features.{CORE, FLEX, BATTERY, EMOB, PROCESS, V2X, allBits}
 
--- the column "Required Bits"; HVAC, APPLIANCE and SUB_METER have no row
+-- the column "Required Bits"; types 8, 9 and 10 have no row there
 unfoldable pub required : List (List ℕ)
 required =
     []  -- 0 DEVICE_ROOT
@@ -15,6 +15,9 @@ required =
     ∷ (CORE ∷ EMOB ∷ [])  -- 5 EV_CHARGER
     ∷ (CORE ∷ [])  -- 6 HEAT_PUMP
     ∷ (CORE ∷ [])  -- 7 WATER_HEATER
+    ∷ []  -- 8 HVAC
+    ∷ []  -- 9 APPLIANCE
+    ∷ []  -- 10 SUB_METER
     ∷ []
 
 -- the column "Invalid Bits"; DEVICE_ROOT forbids all eleven
@@ -28,8 +31,11 @@ invalid =
     ∷ (BATTERY ∷ [])  -- 5 EV_CHARGER
     ∷ (BATTERY ∷ EMOB ∷ V2X ∷ [])  -- 6 HEAT_PUMP
     ∷ (BATTERY ∷ EMOB ∷ V2X ∷ [])  -- 7 WATER_HEATER
+    ∷ []  -- 8 HVAC
+    ∷ []  -- 9 APPLIANCE
+    ∷ []  -- 10 SUB_METER
     ∷ []
 
--- a type's cell of a column; empty where it has no row
+-- a type's cell of a column
 abbrev pub bitsOf : List (List ℕ) → ℕ → List ℕ
 bitsOf column type = getD column type []

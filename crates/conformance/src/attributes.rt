@@ -196,12 +196,6 @@ pub fn row_at(k: usize) -> Row
     TABLE[k]
 }
 
-fn both(a: bool, b: bool) -> bool
-    ensures { λ r. ⌜ r ≡ (a && b) ⌝ }
-{
-    a && b
-}
-
 // What each condition code says of a device.
 pub fn conditions(i: Inputs) -> [bool; CONDITIONS]
     ensures { λ r. ⌜ r ≡ conditions i ⌝ }
@@ -212,26 +206,21 @@ pub fn conditions(i: Inputs) -> [bool; CONDITIONS]
     let flex = has(i.features, FLEX);
     let forecast = has(i.features, FORECAST);
     let produces = i.directions != 0;
-    let limits_out = both(i.limits, produces);
-    let asymmetric_currents = both(asymmetric, i.currents);
-    let asymmetric_both = both(asymmetric, i.directions == 2);
-    let setpoints_out = both(i.setpoints, produces);
-    let process_state = both(process, i.process);
     [
         false,
         true,
         v2x,
         process,
         i.limits,
-        limits_out,
-        asymmetric_currents,
-        asymmetric_both,
+        i.limits & produces,
+        asymmetric & i.currents,
+        asymmetric & (i.directions == 2),
         i.setpoints,
-        setpoints_out,
+        i.setpoints & produces,
         flex,
         forecast,
         produces,
-        process_state,
+        process & i.process,
     ]
 }
 

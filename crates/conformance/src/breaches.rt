@@ -6,8 +6,8 @@ ghost use Prim.Native.Nat.{_+_, _≤_, _<_};
 ghost use lib.ListN.{length, getD};
 ghost use lib.Seq.{sets};
 ghost use Rattle.conformance.specs.Lists.{flagged, front};
-ghost use Rattle.conformance.specs.Attributes.{conditions};
-ghost use Rattle.conformance.specs.Rules.{broken, candidates, noPair, brokenIn};
+ghost use Rattle.conformance.specs.Attributes.{rows, noRow, conditions};
+ghost use Rattle.conformance.specs.Rules.{lacksAttribute, broken, candidates, noPair, brokenIn};
 ghost use Rattle.conformance.specs.Report.{flat};
 use crate::Inputs;
 use crate::attributes::ROWS;
@@ -45,9 +45,12 @@ fn candidate(k: usize) -> Pair
 }
 
 // Group 6: whether the attribute of a row is mandatory and not listed. Not applied to DEVICE_ROOT, type 0.
-fn lacks_attribute(i: Inputs, holds: &[bool], listed: &[bool], k: usize) -> bool {
+fn lacks_attribute(i: Inputs, holds: &[bool], listed: &[bool], k: usize) -> bool
+    requires { ⌜ (k < 33) × (now holds ≡ conditions i) ⌝ }
+    ensures { λ r. ⌜ r ≡ lacksAttribute i (flagged (now (listed .entry))) (getD rows k noRow .number) ⌝ }
+{
     let r = row_at(k);
-    i.endpoint != 0 && flag(holds, r.condition) && !flag(listed, r.number)
+    (i.endpoint != 0) & flag(holds, r.condition) & !flag(listed, r.number)
 }
 
 // Whether the rule of the k-th pair is broken.

@@ -38,7 +38,7 @@ pub struct Answer {
 fn in_range(i: Inputs) -> bool
     ensures { λ r. ⌜ r ≡ inRange i ⌝ }
 {
-    i.endpoint < 11 && i.features < 2048 && 0 < i.phases && i.phases < 4 && i.directions < 3
+    (i.endpoint < 11) & (i.features < 2048) & (0 < i.phases) & (i.phases < 4) & (i.directions < 3)
 }
 
 // Whether each number of the list is above the one before it.

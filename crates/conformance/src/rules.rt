@@ -25,36 +25,35 @@ fn lacks_need(i: Inputs, b: u64) -> bool
     requires { ⌜ b < 11 ⌝ }
     ensures { λ r. ⌜ r ≡ lacksNeed i b ⌝ }
 {
-    has(i.features, b) && !has(i.features, need(b))
+    has(i.features, b) & !has(i.features, need(b))
 }
 
 fn clashes(i: Inputs, b: u64) -> bool
     ensures { λ r. ⌜ r ≡ clashes i b ⌝ }
 {
-    b == BATTERY && has(i.features, BATTERY) && has(i.features, EMOB)
+    (b == BATTERY) & has(i.features, BATTERY) & has(i.features, EMOB)
 }
 
 fn lacks_supply(i: Inputs, b: u64) -> bool
     ensures { λ r. ⌜ r ≡ lacksSupply i b ⌝ }
 {
-    if b == ASYMMETRIC {
-        return has(i.features, ASYMMETRIC) && i.phases == 1;
-    }
-    b == V2X && has(i.features, V2X) && i.directions != 2
+    let unbalanced = (b == ASYMMETRIC) & has(i.features, ASYMMETRIC) & (i.phases == 1);
+    let one_way = (b == V2X) & has(i.features, V2X) & (i.directions != 2);
+    unbalanced | one_way
 }
 
 fn lacks_required(i: Inputs, b: u64) -> bool
     requires { ⌜ (i .endpoint < 11) × (b < 11) ⌝ }
     ensures { λ r. ⌜ r ≡ lacksRequired i b ⌝ }
 {
-    requires_bit(i.endpoint, b) && !has(i.features, b)
+    requires_bit(i.endpoint, b) & !has(i.features, b)
 }
 
 fn has_invalid(i: Inputs, b: u64) -> bool
     requires { ⌜ (i .endpoint < 11) × (b < 11) ⌝ }
     ensures { λ r. ⌜ r ≡ hasInvalid i b ⌝ }
 {
-    forbids_bit(i.endpoint, b) && has(i.features, b)
+    forbids_bit(i.endpoint, b) & has(i.features, b)
 }
 
 // Whether the rule of one of the groups 1 to 5 is broken for a bit.
