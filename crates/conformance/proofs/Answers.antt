@@ -13,7 +13,8 @@ use Rattle.conformance.specs.Report.{inRange, numberOf, reportOf, flat, 
 use Rattle.conformance.specs.declared.Inputs.{Inputs}
 use Rattle.conformance.specs.declared.Answer.{Answer}
 use Rattle.conformance.specs.declared.breaches.Pair.{Pair}
-use Rattle.conformance.proofs.Tables.{and-left, length-candidates}
+use Rattle.conformance.proofs.Bools.{and-left}
+use Rattle.conformance.proofs.Tables.{length-candidates}
 
 pub type-below : (i : Inputs) {b : Bool} → b ≡ inRange i → not b ≡ false → i .endpoint < 11
 unfolding inRange

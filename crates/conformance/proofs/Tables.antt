@@ -17,19 +17,12 @@ use Rattle.conformance.specs.Attributes.{rows, noRow, conditionIn}
 use Rattle.conformance.specs.Rules.{candidates, noPair}
 use Rattle.conformance.specs.declared.attributes.Row.{Row}
 use Rattle.conformance.specs.declared.breaches.Pair.{Pair}
+use Rattle.conformance.proofs.Bools.{and-left, and-right, same}
 
 -- a test passes at every number below n
 abbrev pub every : (ℕ → Bool) → ℕ → Bool
 every p zero = true
 every p (suc n) = every p n && p n
-
-pub and-left : (a b : Bool) → (a && b) ≡ true → a ≡ true
-and-left true b e = refl
-and-left false b e = e
-
-pub and-right : (a b : Bool) → (a && b) ≡ true → b ≡ true
-and-right true b e = e
-and-right false b e = let z : _≡_ {A = ℕ} 0 1 = cc in absurd (omega arith)
 
 pub passes : (p : ℕ → Bool) (n k : ℕ) → every p n ≡ true → k < n → p k ≡ true
 passes p zero k e h = absurd (not-suc-le-zero h)
@@ -38,12 +31,6 @@ passes p (suc n) k e h =
       | yes l ↦ passes p n k (and-left (every p n) (p n) e) l
       | no l ↦ let m : k ≡ n = omega arith in rw m (and-right (every p n) (p n) e)
     ]
-
-same : (a b : Bool) → Bool·beq a b ≡ true → a ≡ b
-same true true e = refl
-same true false e = sym e
-same false true e = e
-same false false e = refl
 
 -- section 2.3: a set of bits as a mask; a column of sets, read through masks, type by type and bit by bit
 abbrev pub mask : List ℕ → ℕ
@@ -66,7 +53,7 @@ row-condition k h =
     eqb-true _ _ (passes (λ k. eqb (conditionIn rows (getD rows k noRow .number)) (getD rows k noRow .condition)) 33 k refl h)
 
 -- the pairs of a report by place: eleven bits in each of five groups, then the rows
-abbrev pairOf : ℕ → ℕ → Pair
+abbrev pub pairOf : ℕ → ℕ → Pair
 pairOf g n = record { group = g; number = n }
 
 abbrev is : Pair → Pair → Bool
@@ -88,6 +75,10 @@ row-pair k h = is-same _ _ (passes (λ k. is (getD candidates (55 + k) noPair) (
 
 pub row-read : (k m : ℕ) (r : Row) → m ≡ 55 + k → k < 33 → r ≡ getD rows k noRow → pairOf 6 (r .number) ≡ getD candidates m noPair
 row-read k m r e h f = rw (e, f, row-pair k h)
+
+pub length-rows : length rows ≡ 33
+unfolding rows
+length-rows = refl
 
 pub length-candidates : length candidates ≡ 88
 unfolding candidates rows

@@ -4,3 +4,5 @@ pub mod Endpoints
 pub mod Attributes
 pub mod Rules
 pub mod Report
+pub mod Statements
+pub mod Examples

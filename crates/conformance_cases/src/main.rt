@@ -9,7 +9,7 @@ use libc::STDOUT_FILENO;
 const ROOM: usize = 176;
 
 // A number of the text, and where it ends.
-pub struct Number {
+pub struct Digits {
     pub value: u64,
     pub end: usize,
 }
@@ -34,14 +34,14 @@ fn with_digit(value: u64, b: u8) -> u64 {
     value
 }
 
-fn number(text: &[u8], start: usize) -> Number {
+fn number(text: &[u8], start: usize) -> Digits {
     let mut value: u64 = 0;
     let mut at = start;
     while at < text.len() && is_digit(text[at]) {
         value = with_digit(value, text[at]);
         at += 1;
     }
-    Number { value, end: at }
+    Digits { value, end: at }
 }
 
 // Reads the nine numbers after `conf`, and says where the attributes start.
