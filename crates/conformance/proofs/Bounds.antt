@@ -29,8 +29,8 @@ bit-below m b h e =
     elim (decLt b 11) [
       | yes l ↦ l
       | no l ↦
-        let small : m < 2 ^ b = lt-of-lt-of-le h (pow-mono {i = 11} {j = b} (omega arith)) in
-        absurd (false≢true (rw (div-eq-of-lt small) at e))
+          let small : m < 2 ^ b = lt-of-lt-of-le h (pow-mono {i = 11} {j = b} (omega arith)) in
+          absurd (false≢true (rw (div-eq-of-lt small) at e))
     ]
 
 -- the bits of a column's cell

@@ -43,9 +43,10 @@ judged i listed r (suc (suc (suc (suc (suc (suc (suc g))))))) n e = absurd (fals
 
 pub exact : Exact
 unfolding Exact breaches
-exact i attributes r p =
-    ((λ m. kept (broken i (λ n. member n attributes)) p candidates m .0),
-    λ e. keeps (broken i (λ n. member n attributes)) p candidates e (judged i _ r (p .group) (p .number) e))
+exact i attributes r p = (
+  (λ m. kept (broken i (λ n. member n attributes)) p candidates m .0),
+  λ e. keeps (broken i (λ n. member n attributes)) p candidates e (judged i _ r (p .group) (p .number) e),
+)
 
 pub ordered : Ordered
 unfolding Ordered breaches candidates rows

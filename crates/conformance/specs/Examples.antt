@@ -24,8 +24,11 @@ examples =
     ∷ (device 2 1 3 0 false false false, base, [])
     ∷ (device 3 257 1 0 false false false, 1 ∷ 2 ∷ 10 ∷ 11 ∷ 12 ∷ 14 ∷ 61 ∷ 70 ∷ 72 ∷ [], [])
     ∷ (device 4 5 3 0 false false false, base, [])
-    ∷ (device 5 1545 3 2 false false true
-      , 1 ∷ 2 ∷ 10 ∷ 11 ∷ 12 ∷ 13 ∷ 14 ∷ 32 ∷ 33 ∷ 40 ∷ 41 ∷ 42 ∷ 43 ∷ 50 ∷ 51 ∷ 52 ∷ 53 ∷ 70 ∷ 71 ∷ 72 ∷ [], [])
+    ∷ (
+      device 5 1545 3 2 false false true,
+      1 ∷ 2 ∷ 10 ∷ 11 ∷ 12 ∷ 13 ∷ 14 ∷ 32 ∷ 33 ∷ 40 ∷ 41 ∷ 42 ∷ 43 ∷ 50 ∷ 51 ∷ 52 ∷ 53 ∷ 70 ∷ 71 ∷ 72 ∷ [],
+      [],
+    )
     ∷ (device 6 1 1 0 true false false, 1 ∷ 2 ∷ 10 ∷ 11 ∷ 12 ∷ 14 ∷ 20 ∷ 21 ∷ 70 ∷ 72 ∷ [], [])
     ∷ (device 7 129 1 0 false false false, 1 ∷ 2 ∷ 10 ∷ 11 ∷ 12 ∷ 14 ∷ 16 ∷ 70 ∷ 72 ∷ 80 ∷ [], [])
     ∷ (device 8 113 2 0 false true false, base, [])
