@@ -1,14 +1,14 @@
 -- The call's answer at each of its ends: a refusal leaves the buffer, and an accepted call writes the breaches.
-use Prim.Native.Nat.{ℕ, suc, _+_, _*_, _<_, _≤_}
-use mathlib.Core.Bool.{Bool, true, false, not, _&&_, cond}
-use mathlib.Core.Path.{_≡_, refl, sym, ap, _∙_}
+use Prim.Native.Nat.{ℕ, suc, _*_, _<_, _≤_}
+use mathlib.Core.Bool.{Bool, true, false, not, cond}
+use mathlib.Core.Path.{_≡_, refl, sym, _∙_}
 use mathlib.Core.List.{List, [], _∷_}
 use native.Mathlib.Omega.{arith}
-use lib.Dec.{eqb, ltb}
+use lib.Dec.{eqb}
 use lib.ListN.{length}
 use borrow.Author.Tests.{not-false, ltb-true, lt-ltb, le-ltb}
-use Rattle.conformance.specs.Lists.{member, keep, ascends, firstOf, front}
-use Rattle.conformance.specs.Rules.{broken, breaches, candidates}
+use Rattle.conformance.specs.Lists.{keep, ascends, firstOf, front}
+use Rattle.conformance.specs.Rules.{broken, brokenIn, breaches, candidates}
 use Rattle.conformance.specs.Report.{inRange, numberOf, reportOf, flat, pairsAfter}
 use Rattle.conformance.specs.declared.Inputs.{Inputs}
 use Rattle.conformance.specs.declared.Answer.{Answer}
@@ -38,9 +38,8 @@ keep-shorter p (x ∷ l) = go (p x) (keep-shorter p l)
     go true h = omega arith
     go false h = omega arith
 
-pub few : (i : Inputs) (attributes : List ℕ) → length (breaches i attributes) ≤ 88
-unfolding breaches
-few i attributes = omega (arith, keep-shorter (broken i (λ n. member n attributes)) candidates, length-candidates)
+pub few : (i : Inputs) (listed : ℕ → Bool) {n : ℕ} → n ≡ length (brokenIn i listed candidates) → n ≤ 88
+few i listed e = omega (arith, keep-shorter (broken i listed) candidates, length-candidates)
 
 abbrev answer : ℕ → ℕ → Answer
 answer n count = record { number = n; count = count }

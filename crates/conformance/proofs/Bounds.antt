@@ -1,7 +1,7 @@
 -- A rule is broken only for a number that its group judges: a bit below eleven, or an attribute of the table.
-use Prim.Native.Nat.{ℕ, zero, suc, _+_, _*_, _<_, _≤_, _/_, _%_, _^_}
-use mathlib.Core.Bool.{Bool, true, false, not, _&&_, _||_, cond, false≢true}
-use mathlib.Core.Path.{_≡_, refl, sym, ap, _∙_}
+use Prim.Native.Nat.{ℕ, suc, _<_, _^_}
+use mathlib.Core.Bool.{Bool, true, false, not, _&&_, cond, false≢true}
+use mathlib.Core.Path.{_≡_, refl}
 use mathlib.Core.Logic.{⊎-elim}
 use mathlib.Core.List.{List, [], _∷_}
 use native.Mathlib.Nat.{div-eq-of-lt, lt-of-lt-of-le}
@@ -86,16 +86,16 @@ module _ (i : Inputs) (b : ℕ) (range : inRange i ≡ true) where
   invalid-below e = has-below (and-right (member b _) (has i b) e)
 
 -- a mandatory attribute has a row
-row-of : (i : Inputs) (rs : List Row) (n : ℕ) → getD (conditions i) (conditionIn rs n) false ≡ true → (k : ℕ) × (k < length rs) × (getD rs k noRow .number ≡ n)
+row-of : (i : Inputs) (rs : List Row) (n : ℕ) → getD (conditions i) (conditionIn rs n) false ≡ true → (k : ℕ) × (k < length rs) × (getD rs k noRow .0 ≡ n)
 unfolding conditions conditionIn
 row-of i [] n e = absurd (false≢true e)
-row-of i (r ∷ rs) n e = go (eqb (r .number) n) refl (λ e. row-of i rs n e) e
+row-of i (r ∷ rs) n e = go (eqb (r .0) n) refl (λ e. row-of i rs n e) e
   where
-    go : (b : Bool) → eqb (r .number) n ≡ b → (getD (conditions i) (conditionIn rs n) false ≡ true → (k : ℕ) × (k < length rs) × (getD rs k noRow .number ≡ n))
-        → getD (conditions i) (cond b (r .condition) (conditionIn rs n)) false ≡ true → (k : ℕ) × (k < suc (length rs)) × (getD (r ∷ rs) k noRow .number ≡ n)
-    go true f later e = (0, omega arith, eqb-true (r .number) n f)
+    go : (b : Bool) → eqb (r .0) n ≡ b → (getD (conditions i) (conditionIn rs n) false ≡ true → (k : ℕ) × (k < length rs) × (getD rs k noRow .0 ≡ n))
+        → getD (conditions i) (cond b (r .1) (conditionIn rs n)) false ≡ true → (k : ℕ) × (k < suc (length rs)) × (getD (r ∷ rs) k noRow .0 ≡ n)
+    go true f later e = (0, omega arith, eqb-true (r .0) n f)
     go false f later e = (suc (later e .0), omega (arith, later e .1), later e .2)
 
-pub attribute-row : (i : Inputs) (listed : ℕ → Bool) (n : ℕ) → lacksAttribute i listed n ≡ true → (k : ℕ) × (k < length rows) × (getD rows k noRow .number ≡ n)
+pub attribute-row : (i : Inputs) (listed : ℕ → Bool) (n : ℕ) → lacksAttribute i listed n ≡ true → (k : ℕ) × (k < length rows) × (getD rows k noRow .0 ≡ n)
 unfolding lacksAttribute mandatory
 attribute-row i listed n e = row-of i rows n (and-right (not (eqb (i .endpoint) 0)) _ (and-left _ (not (listed n)) e))

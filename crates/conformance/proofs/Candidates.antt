@@ -1,15 +1,15 @@
 -- The report's list, walked place by place: the rule of the pair at a place, and what is left from there on.
 use Prim.Native.Nat.{ℕ, _+_, _<_, _≤_, _/_, _%_}
 use mathlib.Core.Bool.{Bool, true, false, not, _&&_}
-use mathlib.Core.Path.{_≡_, refl, sym, ap, _∙_}
-use mathlib.Core.List.{List, [], _∷_, _++_}
+use mathlib.Core.Path.{_≡_, sym}
+use mathlib.Core.List.{[], _∷_}
 use native.Mathlib.Numerals.{add-one}
 use native.Mathlib.Omega.{arith}
 use lib.Dec.{eqb}
-use lib.ListN.{length, getD, drop, drop-of-length-le, List·getD-append}
+use lib.ListN.{getD, drop, drop-of-length-le, List·getD-append}
 use lib.Seq.{drop-cons}
-use Rattle.conformance.specs.Lists.{keep, flagged}
-use Rattle.conformance.specs.Attributes.{rows, noRow, conditions, mandatory, conditionIn}
+use Rattle.conformance.specs.Lists.{keep}
+use Rattle.conformance.specs.Attributes.{rows, noRow, conditions, mandatory}
 use Rattle.conformance.specs.Rules.{bitRules, lacksAttribute, broken, brokenIn, candidates, noPair}
 use Rattle.conformance.specs.declared.Inputs.{Inputs}
 use Rattle.conformance.proofs.Tables.{bit-pair, row-pair, row-condition, length-candidates}
@@ -17,8 +17,8 @@ use Rattle.conformance.proofs.Tables.{bit-pair, row-pair, row-condition
 module _ (i : Inputs) (listed : ℕ → Bool) where
   -- group 6 by the row's own condition
   pub row-lacks : (k : ℕ) → k < 33
-      → (not (eqb (i .endpoint) 0) && getD (conditions i) (getD rows k noRow .condition) false && not (listed (getD rows k noRow .number)))
-      ≡ lacksAttribute i listed (getD rows k noRow .number)
+      → (not (eqb (i .endpoint) 0) && getD (conditions i) (getD rows k noRow .1) false && not (listed (getD rows k noRow .0)))
+      ≡ lacksAttribute i listed (getD rows k noRow .0)
   unfolding lacksAttribute mandatory
   row-lacks k h = rw (row-condition k h)
 
@@ -26,7 +26,7 @@ module _ (i : Inputs) (listed : ℕ → Bool) where
   unfolding broken bitRules
   bit-broken k h = rw (bit-pair k h, add-one (k / 11)) (sym (List·getD-append (bitRules i (k % 11)) (lacksAttribute i listed (k % 11) ∷ []) false (k / 11) (omega arith)))
 
-  pub row-broken : (k m : ℕ) → m ≡ 55 + k → k < 33 → lacksAttribute i listed (getD rows k noRow .number) ≡ broken i listed (getD candidates m noPair)
+  pub row-broken : (k m : ℕ) → m ≡ 55 + k → k < 33 → lacksAttribute i listed (getD rows k noRow .0) ≡ broken i listed (getD candidates m noPair)
   unfolding broken bitRules
   row-broken k m e h = rw (e, row-pair k h)
 

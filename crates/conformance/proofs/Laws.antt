@@ -1,7 +1,7 @@
 -- The statements of specs/Statements: the report is exactly what is broken, in order, and empty exactly when nothing is.
 use Prim.Native.Nat.{ℕ, zero, suc, _+_, _*_, _<_, _/_, _%_}
-use mathlib.Core.Bool.{Bool, true, false, false≢true}
-use mathlib.Core.Path.{_≡_, refl, sym, ap, _∙_}
+use mathlib.Core.Bool.{Bool, true, false≢true}
+use mathlib.Core.Path.{_≡_, refl, ap, _∙_}
 use mathlib.Core.List.{List, [], _∷_, List·Memᴰ, List·Memᴰ·head, List·Memᴰ·not-nil}
 use native.Mathlib.Omega.{arith}
 use lib.ListN.{length, getD}
@@ -9,7 +9,7 @@ use Rattle.conformance.specs.Lists.{member}
 use Rattle.conformance.specs.Attributes.{rows, noRow}
 use Rattle.conformance.specs.Rules.{bitRules, broken, candidates, noPair, breaches}
 use Rattle.conformance.specs.Report.{inRange}
-use Rattle.conformance.specs.Statements.{Breaks, Exact, Ordered, Sound}
+use Rattle.conformance.specs.Statements.{Exact, Ordered, Sound}
 use Rattle.conformance.specs.declared.Inputs.{Inputs}
 use Rattle.conformance.specs.declared.breaches.Pair.{Pair}
 use Rattle.conformance.proofs.Tables.{pairOf, bit-pair, row-pair, length-candidates, length-rows}
@@ -36,7 +36,7 @@ judged i listed r (suc (suc (suc zero))) n e = bit-placed 2 n (omega arith) (sup
 judged i listed r (suc (suc (suc (suc zero)))) n e = bit-placed 3 n (omega arith) (required-bit-below i n r e)
 judged i listed r (suc (suc (suc (suc (suc zero))))) n e = bit-placed 4 n (omega arith) (invalid-below i n r e)
 judged i listed r (suc (suc (suc (suc (suc (suc zero)))))) n e =
-    let row : (k : ℕ) × (k < length rows) × (getD rows k noRow .number ≡ n) = attribute-row i listed n e in
+    let row : (k : ℕ) × (k < length rows) × (getD rows k noRow .0 ≡ n) = attribute-row i listed n e in
     let h : row .0 < 33 = rw length-rows at (row .1) in
     placed (55 + row .0) (pairOf 6 n) (omega arith) (row-pair (row .0) h ∙ ap (pairOf 6) (row .2))
 judged i listed r (suc (suc (suc (suc (suc (suc (suc g))))))) n e = absurd (false≢true e)

@@ -2,6 +2,7 @@ pub mod Bools
 pub mod Walks
 pub mod Tables
 pub mod Candidates
+pub mod Counts
 pub mod Writes
 pub mod Members
 pub mod Bounds

@@ -1,8 +1,8 @@
 -- The tables of the code and those of specs/ agree: each rule is one test, computed over the whole table, and one law that
 -- turns a passed test into the rule at every entry.
 use Prim.Native.Nat.{ℕ, zero, suc, _+_, _<_, _/_, _%_, _^_}
-use mathlib.Core.Bool.{Bool, true, false, _&&_, Bool·beq}
-use mathlib.Core.Path.{_≡_, refl, _∙_, ap, sym}
+use mathlib.Core.Bool.{Bool, true, _&&_, Bool·beq}
+use mathlib.Core.Path.{_≡_, refl}
 use mathlib.Core.List.{List, [], _∷_, map}
 use native.Mathlib.Decide.{decLt}
 use native.Mathlib.Nat.{not-suc-le-zero}
@@ -47,10 +47,10 @@ mask-at column e t b ht hb =
     (same _ _ (passes (right column t) 11 b (passes (λ t. every (right column t) 11) 11 t e ht) hb))
 
 -- section 3.3: a row's condition is that of its number
-pub row-condition : (k : ℕ) → k < 33 → conditionIn rows (getD rows k noRow .number) ≡ getD rows k noRow .condition
+pub row-condition : (k : ℕ) → k < 33 → conditionIn rows (getD rows k noRow .0) ≡ getD rows k noRow .1
 unfolding rows conditionIn
 row-condition k h =
-    eqb-true _ _ (passes (λ k. eqb (conditionIn rows (getD rows k noRow .number)) (getD rows k noRow .condition)) 33 k refl h)
+    eqb-true _ _ (passes (λ k. eqb (conditionIn rows (getD rows k noRow .0)) (getD rows k noRow .1)) 33 k refl h)
 
 -- the pairs of a report by place: eleven bits in each of five groups, then the rows
 abbrev pub pairOf : ℕ → ℕ → Pair
@@ -69,11 +69,11 @@ pub bit-pair : (k : ℕ) → k < 55 → getD candidates k noPair ≡ pairOf (k /
 unfolding candidates rows
 bit-pair k h = is-same _ _ (passes (λ k. is (getD candidates k noPair) (pairOf (k / 11 + 1) (k % 11))) 55 k refl h)
 
-pub row-pair : (k : ℕ) → k < 33 → getD candidates (55 + k) noPair ≡ pairOf 6 (getD rows k noRow .number)
+pub row-pair : (k : ℕ) → k < 33 → getD candidates (55 + k) noPair ≡ pairOf 6 (getD rows k noRow .0)
 unfolding candidates rows
-row-pair k h = is-same _ _ (passes (λ k. is (getD candidates (55 + k) noPair) (pairOf 6 (getD rows k noRow .number))) 33 k refl h)
+row-pair k h = is-same _ _ (passes (λ k. is (getD candidates (55 + k) noPair) (pairOf 6 (getD rows k noRow .0))) 33 k refl h)
 
-pub row-read : (k m : ℕ) (r : Row) → m ≡ 55 + k → k < 33 → r ≡ getD rows k noRow → pairOf 6 (r .number) ≡ getD candidates m noPair
+pub row-read : (k m : ℕ) (r : Row) → m ≡ 55 + k → k < 33 → r ≡ getD rows k noRow → pairOf 6 (r .0) ≡ getD candidates m noPair
 row-read k m r e h f = rw (e, f, row-pair k h)
 
 pub length-rows : length rows ≡ 33

@@ -8,77 +8,120 @@ use Rattle.conformance.specs.Features.{FLEX, PROCESS, FORECAST, ASYMMETR
 use Rattle.conformance.specs.declared.Inputs.{Inputs}
 use Rattle.conformance.specs.declared.attributes.Row.{Row}
 
+-- the condition codes
+abbrev pub optional : ℕ
+optional = 0
+
+abbrev pub always : ℕ
+always = 1
+
+abbrev pub ifV2X : ℕ
+ifV2X = 2
+
+abbrev pub ifProcess : ℕ
+ifProcess = 3
+
+abbrev pub ifLimits : ℕ
+ifLimits = 4
+
+abbrev pub ifLimitsOut : ℕ
+ifLimitsOut = 5
+
+abbrev pub ifAsymmetricCurrents : ℕ
+ifAsymmetricCurrents = 6
+
+abbrev pub ifAsymmetricBoth : ℕ
+ifAsymmetricBoth = 7
+
+abbrev pub ifSetpoints : ℕ
+ifSetpoints = 8
+
+abbrev pub ifSetpointsOut : ℕ
+ifSetpointsOut = 9
+
+abbrev pub ifFlex : ℕ
+ifFlex = 10
+
+abbrev pub ifForecast : ℕ
+ifForecast = 11
+
+abbrev pub ifOut : ℕ
+ifOut = 12
+
+abbrev pub ifProcessState : ℕ
+ifProcessState = 13
+
 -- directions PRODUCTION or BIDIRECTIONAL
 abbrev pub produces : Inputs → Bool
 produces i = not (eqb (i .directions) 0)
 
--- the conditions, by code: whether each holds for a device
+-- what each condition says of a device, by code
 unfoldable pub conditions : Inputs → List Bool
 conditions i =
-    false  -- 0: optional
-    ∷ true  -- 1: mandatory
-    ∷ bit (i .features) V2X  -- 2
-    ∷ bit (i .features) PROCESS  -- 3
-    ∷ i .limits  -- 4: acceptsLimits
-    ∷ (i .limits && produces i)  -- 5
-    ∷ (bit (i .features) ASYMMETRIC && i .currents)  -- 6: acceptsCurrentLimits
-    ∷ (bit (i .features) ASYMMETRIC && eqb (i .directions) 2)  -- 7: BIDIRECTIONAL
-    ∷ i .setpoints  -- 8: acceptsSetpoints
-    ∷ (i .setpoints && produces i)  -- 9
-    ∷ bit (i .features) FLEX  -- 10
-    ∷ bit (i .features) FORECAST  -- 11
-    ∷ produces i  -- 12
-    ∷ (bit (i .features) PROCESS && i .process)  -- 13: processState is not NONE
+    false  -- optional
+    ∷ true  -- always
+    ∷ bit (i .features) V2X  -- ifV2X
+    ∷ bit (i .features) PROCESS  -- ifProcess
+    ∷ i .limits  -- ifLimits: acceptsLimits
+    ∷ (i .limits && produces i)  -- ifLimitsOut
+    ∷ (bit (i .features) ASYMMETRIC && i .currents)  -- ifAsymmetricCurrents: acceptsCurrentLimits
+    ∷ (bit (i .features) ASYMMETRIC && eqb (i .directions) 2)  -- ifAsymmetricBoth: BIDIRECTIONAL
+    ∷ i .setpoints  -- ifSetpoints: acceptsSetpoints
+    ∷ (i .setpoints && produces i)  -- ifSetpointsOut
+    ∷ bit (i .features) FLEX  -- ifFlex
+    ∷ bit (i .features) FORECAST  -- ifForecast
+    ∷ produces i  -- ifOut
+    ∷ (bit (i .features) PROCESS && i .process)  -- ifProcessState: processState is not NONE
     ∷ []
 
-abbrev at : ℕ → ℕ → Row
-at n c = record { number = n; condition = c }
+abbrev row : ℕ → ℕ → Row
+row n c = (n, c)
 
 abbrev pub noRow : Row
-noRow = at 0 0
+noRow = row 0 optional
 
 -- the table, in its order
 unfoldable pub rows : List Row
 rows =
-    at 1 1  -- deviceType
-    ∷ at 2 1  -- controlState
-    ∷ at 3 0  -- optOutState
-    ∷ at 10 1  -- acceptsLimits
-    ∷ at 11 1  -- acceptsCurrentLimits
-    ∷ at 12 1  -- acceptsSetpoints
-    ∷ at 13 2  -- acceptsCurrentSetpoints
-    ∷ at 14 1  -- isPausable
-    ∷ at 15 0  -- isShiftable
-    ∷ at 16 3  -- isStoppable
-    ∷ at 20 4  -- effectiveConsumptionLimit
-    ∷ at 21 4  -- myConsumptionLimit
-    ∷ at 22 5  -- effectiveProductionLimit
-    ∷ at 23 5  -- myProductionLimit
-    ∷ at 30 6  -- effectiveCurrentLimitsConsumption
-    ∷ at 31 6  -- myCurrentLimitsConsumption
-    ∷ at 32 7  -- effectiveCurrentLimitsProduction
-    ∷ at 33 7  -- myCurrentLimitsProduction
-    ∷ at 40 8  -- effectiveConsumptionSetpoint
-    ∷ at 41 8  -- myConsumptionSetpoint
-    ∷ at 42 9  -- effectiveProductionSetpoint
-    ∷ at 43 9  -- myProductionSetpoint
-    ∷ at 50 2  -- effectiveCurrentSetpointsConsumption
-    ∷ at 51 2  -- myCurrentSetpointsConsumption
-    ∷ at 52 2  -- effectiveCurrentSetpointsProduction
-    ∷ at 53 2  -- myCurrentSetpointsProduction
-    ∷ at 60 10  -- flexibility
-    ∷ at 61 11  -- forecast
-    ∷ at 70 1  -- failsafeConsumptionLimit
-    ∷ at 71 12  -- failsafeProductionLimit
-    ∷ at 72 1  -- failsafeDuration
-    ∷ at 80 3  -- processState
-    ∷ at 81 13  -- optionalProcess
+    row 1 always  -- deviceType
+    ∷ row 2 always  -- controlState
+    ∷ row 3 optional  -- optOutState
+    ∷ row 10 always  -- acceptsLimits
+    ∷ row 11 always  -- acceptsCurrentLimits
+    ∷ row 12 always  -- acceptsSetpoints
+    ∷ row 13 ifV2X  -- acceptsCurrentSetpoints
+    ∷ row 14 always  -- isPausable
+    ∷ row 15 optional  -- isShiftable
+    ∷ row 16 ifProcess  -- isStoppable
+    ∷ row 20 ifLimits  -- effectiveConsumptionLimit
+    ∷ row 21 ifLimits  -- myConsumptionLimit
+    ∷ row 22 ifLimitsOut  -- effectiveProductionLimit
+    ∷ row 23 ifLimitsOut  -- myProductionLimit
+    ∷ row 30 ifAsymmetricCurrents  -- effectiveCurrentLimitsConsumption
+    ∷ row 31 ifAsymmetricCurrents  -- myCurrentLimitsConsumption
+    ∷ row 32 ifAsymmetricBoth  -- effectiveCurrentLimitsProduction
+    ∷ row 33 ifAsymmetricBoth  -- myCurrentLimitsProduction
+    ∷ row 40 ifSetpoints  -- effectiveConsumptionSetpoint
+    ∷ row 41 ifSetpoints  -- myConsumptionSetpoint
+    ∷ row 42 ifSetpointsOut  -- effectiveProductionSetpoint
+    ∷ row 43 ifSetpointsOut  -- myProductionSetpoint
+    ∷ row 50 ifV2X  -- effectiveCurrentSetpointsConsumption
+    ∷ row 51 ifV2X  -- myCurrentSetpointsConsumption
+    ∷ row 52 ifV2X  -- effectiveCurrentSetpointsProduction
+    ∷ row 53 ifV2X  -- myCurrentSetpointsProduction
+    ∷ row 60 ifFlex  -- flexibility
+    ∷ row 61 ifForecast  -- forecast
+    ∷ row 70 always  -- failsafeConsumptionLimit
+    ∷ row 71 ifOut  -- failsafeProductionLimit
+    ∷ row 72 always  -- failsafeDuration
+    ∷ row 80 ifProcess  -- processState
+    ∷ row 81 ifProcessState  -- optionalProcess
     ∷ []
 
 -- the condition of the row that has the number n; 0, optional, where no row has it
 unfoldable pub conditionIn : List Row → ℕ → ℕ
 conditionIn [] n = 0
-conditionIn (r ∷ rs) n = cond (eqb (r .number) n) (r .condition) (conditionIn rs n)
+conditionIn (r ∷ rs) n = cond (eqb (r .0) n) (r .1) (conditionIn rs n)
 
 -- an attribute that the device must have
 unfoldable pub mandatory : Inputs → ℕ → Bool

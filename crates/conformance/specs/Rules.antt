@@ -1,6 +1,6 @@
 -- The six groups of document 01, "Conformance", and the list of what a device breaks.
 use Prim.Native.Nat.{ℕ}
-use mathlib.Core.Bool.{Bool, true, false, not, _&&_, _||_, cond}
+use mathlib.Core.Bool.{Bool, false, not, _&&_, _||_, cond}
 use mathlib.Core.List.{List, [], _∷_, _++_, map}
 use lib.Dec.{eqb}
 use lib.ListN.{getD}
@@ -61,7 +61,7 @@ pairs g ns = map (λ n. record { group = g; number = n }) ns
 unfoldable pub candidates : List Pair
 candidates =
     pairs 1 allBits ++ pairs 2 allBits ++ pairs 3 allBits ++ pairs 4 allBits ++ pairs 5 allBits
-    ++ pairs 6 (map (λ r. r .number) rows)
+    ++ pairs 6 (map (λ r. r .0) rows)
 
 abbrev pub noPair : Pair
 noPair = record { group = 0; number = 0 }

@@ -1,9 +1,9 @@
 -- What is proved of the list of breaches, beside the call's contract (proofs/Laws has the proofs).
 use Prim.Native.Nat.{ℕ, _<_}
-use mathlib.Core.Bool.{Bool, true, false}
+use mathlib.Core.Bool.{true}
 use mathlib.Core.Path.{_≡_}
 use mathlib.Core.Logic.{_⊎_}
-use mathlib.Core.List.{List, [], _∷_, map, List·Memᴰ}
+use mathlib.Core.List.{List, [], _∷_, List·Memᴰ}
 use Rattle.conformance.specs.Lists.{member}
 use Rattle.conformance.specs.Rules.{broken, breaches}
 use Rattle.conformance.specs.Report.{inRange}

@@ -14,10 +14,8 @@ use crate::features::PROCESS;
 use crate::features::V2X;
 use crate::features::has;
 
-pub struct Row {
-    pub number: usize,
-    pub condition: usize,
-}
+// A row of the table: the attribute's number, and the code of its condition.
+pub struct Row(pub usize, pub usize);
 
 pub const ROWS: usize = 33;
 
@@ -26,7 +24,7 @@ pub const NUMBERS: usize = 82;
 
 const OPTIONAL: usize = 0;
 
-const MANDATORY: usize = 1;
+const ALWAYS: usize = 1;
 
 const IF_V2X: usize = 2;
 
@@ -55,138 +53,39 @@ const IF_PROCESS_STATE: usize = 13;
 const CONDITIONS: usize = 14;
 
 const TABLE: [Row; ROWS] = [
-    Row {
-        number: 1,
-        condition: MANDATORY,
-    },
-    Row {
-        number: 2,
-        condition: MANDATORY,
-    },
-    Row {
-        number: 3,
-        condition: OPTIONAL,
-    },
-    Row {
-        number: 10,
-        condition: MANDATORY,
-    },
-    Row {
-        number: 11,
-        condition: MANDATORY,
-    },
-    Row {
-        number: 12,
-        condition: MANDATORY,
-    },
-    Row {
-        number: 13,
-        condition: IF_V2X,
-    },
-    Row {
-        number: 14,
-        condition: MANDATORY,
-    },
-    Row {
-        number: 15,
-        condition: OPTIONAL,
-    },
-    Row {
-        number: 16,
-        condition: IF_PROCESS,
-    },
-    Row {
-        number: 20,
-        condition: IF_LIMITS,
-    },
-    Row {
-        number: 21,
-        condition: IF_LIMITS,
-    },
-    Row {
-        number: 22,
-        condition: IF_LIMITS_OUT,
-    },
-    Row {
-        number: 23,
-        condition: IF_LIMITS_OUT,
-    },
-    Row {
-        number: 30,
-        condition: IF_ASYMMETRIC_CURRENTS,
-    },
-    Row {
-        number: 31,
-        condition: IF_ASYMMETRIC_CURRENTS,
-    },
-    Row {
-        number: 32,
-        condition: IF_ASYMMETRIC_BOTH,
-    },
-    Row {
-        number: 33,
-        condition: IF_ASYMMETRIC_BOTH,
-    },
-    Row {
-        number: 40,
-        condition: IF_SETPOINTS,
-    },
-    Row {
-        number: 41,
-        condition: IF_SETPOINTS,
-    },
-    Row {
-        number: 42,
-        condition: IF_SETPOINTS_OUT,
-    },
-    Row {
-        number: 43,
-        condition: IF_SETPOINTS_OUT,
-    },
-    Row {
-        number: 50,
-        condition: IF_V2X,
-    },
-    Row {
-        number: 51,
-        condition: IF_V2X,
-    },
-    Row {
-        number: 52,
-        condition: IF_V2X,
-    },
-    Row {
-        number: 53,
-        condition: IF_V2X,
-    },
-    Row {
-        number: 60,
-        condition: IF_FLEX,
-    },
-    Row {
-        number: 61,
-        condition: IF_FORECAST,
-    },
-    Row {
-        number: 70,
-        condition: MANDATORY,
-    },
-    Row {
-        number: 71,
-        condition: IF_OUT,
-    },
-    Row {
-        number: 72,
-        condition: MANDATORY,
-    },
-    Row {
-        number: 80,
-        condition: IF_PROCESS,
-    },
-    Row {
-        number: 81,
-        condition: IF_PROCESS_STATE,
-    },
+    Row(1, ALWAYS), // deviceType
+    Row(2, ALWAYS), // controlState
+    Row(3, OPTIONAL), // optOutState
+    Row(10, ALWAYS), // acceptsLimits
+    Row(11, ALWAYS), // acceptsCurrentLimits
+    Row(12, ALWAYS), // acceptsSetpoints
+    Row(13, IF_V2X), // acceptsCurrentSetpoints
+    Row(14, ALWAYS), // isPausable
+    Row(15, OPTIONAL), // isShiftable
+    Row(16, IF_PROCESS), // isStoppable
+    Row(20, IF_LIMITS), // effectiveConsumptionLimit
+    Row(21, IF_LIMITS), // myConsumptionLimit
+    Row(22, IF_LIMITS_OUT), // effectiveProductionLimit
+    Row(23, IF_LIMITS_OUT), // myProductionLimit
+    Row(30, IF_ASYMMETRIC_CURRENTS), // effectiveCurrentLimitsConsumption
+    Row(31, IF_ASYMMETRIC_CURRENTS), // myCurrentLimitsConsumption
+    Row(32, IF_ASYMMETRIC_BOTH), // effectiveCurrentLimitsProduction
+    Row(33, IF_ASYMMETRIC_BOTH), // myCurrentLimitsProduction
+    Row(40, IF_SETPOINTS), // effectiveConsumptionSetpoint
+    Row(41, IF_SETPOINTS), // myConsumptionSetpoint
+    Row(42, IF_SETPOINTS_OUT), // effectiveProductionSetpoint
+    Row(43, IF_SETPOINTS_OUT), // myProductionSetpoint
+    Row(50, IF_V2X), // effectiveCurrentSetpointsConsumption
+    Row(51, IF_V2X), // myCurrentSetpointsConsumption
+    Row(52, IF_V2X), // effectiveCurrentSetpointsProduction
+    Row(53, IF_V2X), // myCurrentSetpointsProduction
+    Row(60, IF_FLEX), // flexibility
+    Row(61, IF_FORECAST), // forecast
+    Row(70, ALWAYS), // failsafeConsumptionLimit
+    Row(71, IF_OUT), // failsafeProductionLimit
+    Row(72, ALWAYS), // failsafeDuration
+    Row(80, IF_PROCESS), // processState
+    Row(81, IF_PROCESS_STATE), // optionalProcess
 ];
 
 pub fn row_at(k: usize) -> Row

@@ -40,17 +40,17 @@ fn candidate(k: usize) -> Pair
     let r = row_at(k - BIT_PAIRS);
     Pair {
         group: 6,
-        number: r.number as u64,
+        number: r.0 as u64,
     }
 }
 
 // Group 6: whether the attribute of a row is mandatory and not listed. Not applied to DEVICE_ROOT, type 0.
 fn lacks_attribute(i: Inputs, holds: &[bool], listed: &[bool], k: usize) -> bool
     requires { ⌜ (k < 33) × (now holds ≡ conditions i) ⌝ }
-    ensures { λ r. ⌜ r ≡ lacksAttribute i (flagged (now (listed .entry))) (getD rows k noRow .number) ⌝ }
+    ensures { λ r. ⌜ r ≡ lacksAttribute i (flagged (now (listed .entry))) (getD rows k noRow .0) ⌝ }
 {
     let r = row_at(k);
-    (i.endpoint != 0) & flag(holds, r.condition) & !flag(listed, r.number)
+    (i.endpoint != 0) & flag(holds, r.1) & !flag(listed, r.0)
 }
 
 // Whether the rule of the k-th pair is broken.
