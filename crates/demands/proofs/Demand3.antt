@@ -8,6 +8,9 @@ use lib.Dec.{ltb, leb, eqb}
 use lib.IntN.{ℤ}
 use lib.ListN.{length}
 use borrow.Author.Tests.{leb-false}
+use Rattle.cbor.specs.Bytes.{putWhole}
+use Rattle.frames.specs.Requests.{readRequest}
+use Rattle.kernel.specs.Frame.{frameOut}
 use Rattle.device.specs.declared.Settings.{Settings}
 use Rattle.device.specs.Sizes.{end}
 use Rattle.device.specs.Words.{clockOf, zonesOf}
@@ -22,7 +25,7 @@ use Rattle.demands.specs.History.{startedWith, history, told, InPairs}
 use Rattle.demands.specs.Demands.{Lists, Demand3}
 use Rattle.demands.proofs.Count.{at-most}
 use Rattle.demands.proofs.Agree.{agree-values}
-use Rattle.demands.proofs.Steps.{number-same}
+use Rattle.demands.proofs.Steps.{number-same, response-same}
 use Rattle.demands.proofs.Reached.{agree-run}
 use Rattle.demands.proofs.Slots.{released-slot}
 
@@ -51,15 +54,17 @@ lists ws f v t out e =
       few = planOf-few ws t;
     }
 
-pub demand-3 : (s : Settings) → InPairs s → (calls : List Call) → Demand3 s calls
+pub demand-3 : Demand3
 demand-3 s k calls =
     let d = run s calls in
+    let h = history s calls in
     let a = agree-run s k calls in
-    let v = agree-values (startedWith s) d (history s calls) a in
+    let v = agree-values (startedWith s) d h a in
     record {
-      values = v;
       plan = lists d (valuesAt (told s calls)) (fun-ext v);
-      numbers = number-same (startedWith s) d (history s calls) a;
-      eight = at-most (startedWith s) (zonesOf d) (history s calls) (a .zones);
+      values = v;
+      numbers = number-same (startedWith s) d h a;
+      responses = λ z t bytes out. unfold frameOut in ap (putWhole out 0) (response-same (startedWith s) d h a z t (readRequest bytes));
+      eight = at-most (startedWith s) (zonesOf d) h (a .zones);
       slots = released-slot s k calls;
     }

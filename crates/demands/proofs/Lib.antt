@@ -12,5 +12,7 @@ pub mod Answers
 pub mod Responses
 pub mod Own
 pub mod Slots
+pub mod Demand1
+pub mod Demand2
 pub mod Demand3
 pub mod Marked
