@@ -1,18 +1,14 @@
 -- What a change leaves to be read: all that a history needs to know of the words.
-use Prim.Native.Nat.{ℕ, zero, suc, _+_, _<_, _≤_}
-use mathlib.Core.Bool.{Bool, true, false, cond}
-use mathlib.Core.Logic.{_≢_}
-use mathlib.Core.Path.{_≡_, refl, sym, ap, _∙_}
+use Prim.Native.Nat.{ℕ, zero, suc, _<_, _≤_}
+use mathlib.Core.Path.{_≡_, refl, sym, _∙_}
 use mathlib.Core.List.{List, [], _∷_}
 use native.Mathlib.Omega.{arith}
-use borrow.Author.Tests.{eq-eqb, ne-eqb}
 use native.Mathlib.Nat.{le-of-suc-le-suc, not-suc-le-zero}
 use lib.ListN.{length, getD, set, replicate, length-set}
 use lib.Seq.{getD-set-same, getD-set-other, ext-getD}
 use Rattle.device.specs.Sizes.{helds, slots, headSize, words}
 use Rattle.device.specs.Zones.{upTo, freeZone}
 use Rattle.device.specs.Words.{clockOf, sinceOf, overrideOf, settingsOf, heldIn, zoneAt, zonesOf, putZone, applied, settingWords, fresh}
-use Rattle.device.specs.declared.Zone.{Zone}
 use Rattle.device.specs.declared.Settings.{Settings}
 use Rattle.device.specs.declared.Change.{Change}
 use Rattle.device.proofs.HeldWords.{bit-back}

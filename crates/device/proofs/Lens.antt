@@ -1,18 +1,18 @@
 -- The lens laws: a record that was put is got, and nothing else has moved.
-use Prim.Native.Nat.{ℕ, zero, suc, _+_, _*_, _<_, _≤_}
+use Prim.Native.Nat.{ℕ, suc, _+_, _*_, _<_, _≤_}
 use mathlib.Core.Bool.{Bool, true, false, cond}
 use mathlib.Core.Logic.{_≢_}
-use mathlib.Core.Path.{_≡_, refl, sym, ap, _∙_}
-use mathlib.Core.List.{List, [], _∷_}
+use mathlib.Core.Path.{_≡_, refl, sym, _∙_}
+use mathlib.Core.List.{List}
 use native.Mathlib.Decide.{decLt, ℕ-discrete}
 use native.Mathlib.Omega.{arith}
 use borrow.Author.Tests.{lt-ltb, le-ltb}
 use lib.Dec.{ltb}
 use lib.ListN.{length, getD, set, length-set, List·getD-eq-default}
-use lib.Seq.{sets, length-sets, getD-set-same, getD-set-other, set-out}
+use lib.Seq.{sets, length-sets, getD-set-same, getD-set-other}
 use Rattle.device.specs.Sizes.{helds, slots, zoneSize, headSize, words}
-use Rattle.device.specs.Zones.{upTo, nothing, freeZone}
-use Rattle.device.specs.Words.{settingsOf, base, heldIn, zoneAt, zonesOf, zoneWords, putZone}
+use Rattle.device.specs.Zones.{nothing, freeZone}
+use Rattle.device.specs.Words.{base, heldIn, zoneAt, zonesOf, zoneWords, putZone}
 use Rattle.device.specs.declared.Zone.{Zone}
 use Rattle.device.proofs.Runs.{sets-before, sets-after, sets-in, set-sets-before, sets-sets, length-upTo, getD-upTo, upTo-list, upTo-cong}
 use Rattle.device.proofs.HeldWords.{zone-length, held-value, held-until, bit-back}

@@ -6,7 +6,8 @@ use mathlib.Core.Path.{_≡_, refl, sym, _∙_}
 use lib.Dec.{T, leb·suc-zero}
 use lib.IntN.{ℤ, pos, negsuc, natAbs}
 use lib.Signed.{ltZ, nonNeg}
-use Rattle.device.specs.Commands.{negative, natural}
+use Rattle.device.specs.Commands.{negative, natural, stated}
+use Rattle.messages.specs.declared.Amount.the-variants.{Absent, Is}
 
 pub is-neg : (z : ℤ) → ltZ z (pos 0) ≡ negative z
 is-neg (pos n) = leb·suc-zero n
@@ -23,3 +24,12 @@ not-neg (negsuc n) e = absurd (false≢true e)
 pub neg : (z : ℤ) → ltZ z (pos 0) ≡ true → 0 ≡ natural z
 neg (pos n) e = absurd (false≢true (sym e ∙ leb·suc-zero n))
 neg (negsuc n) e = refl
+
+-- a value as a response has it
+pub left-out : (z : ℤ) → negative z ≡ true → Absent ≡ stated z
+left-out (pos n) e = absurd (false≢true (sym e))
+left-out (negsuc n) e = refl
+
+pub put-in : (z : ℤ) → negative z ≡ false → Is (natural z) ≡ stated z
+put-in (pos n) e = refl
+put-in (negsuc n) e = absurd (false≢true e)

@@ -1,19 +1,18 @@
 -- What the functions of `store` leave, as the definitions say it: single words of a record, and the stores of a whole one.
-use Prim.Native.Nat.{ℕ, zero, suc, _+_, _*_, _<_, _≤_}
-use mathlib.Core.Bool.{Bool, true, false, cond, _&&_}
-use mathlib.Core.Path.{_≡_, refl, sym, ap, _∙_}
-use mathlib.Core.List.{List, [], _∷_}
+use Prim.Native.Nat.{ℕ, suc, _+_, _*_, _<_, _≤_}
+use mathlib.Core.Bool.{cond}
+use mathlib.Core.Path.{_≡_, sym, ap}
+use mathlib.Core.List.{List}
 use native.Mathlib.Decide.{decLt}
 use native.Mathlib.Numerals.{add-one}
-use native.Mathlib.Nat.{add-zero}
 use native.Mathlib.Omega.{arith}
 use borrow.Author.Tests.{lt-ltb, le-ltb}
 use lib.Dec.{ltb}
 use lib.ListN.{getD, set, drop, length, replicate, getD-replicate, drop-of-length-le, List·getD-eq-default}
 use lib.Seq.{sets, set-getD, drop-cons}
 use Rattle.device.specs.Sizes.{helds, slots}
-use Rattle.device.specs.Zones.{freeZone, nothing, heldOf, slotOf, joined}
-use Rattle.device.specs.Words.{sinceOf, base, heldIn, zoneAt, zonesOf, bit, heldWords, putZone, applied}
+use Rattle.device.specs.Zones.{freeZone, nothing, heldOf}
+use Rattle.device.specs.Words.{base, heldIn, zoneAt, zonesOf, bit, heldWords, putZone, applied}
 use Rattle.device.specs.Calls.{headChange}
 use Rattle.device.specs.declared.Held.{Held}
 use Rattle.device.specs.declared.Zone.{Zone}
@@ -89,12 +88,3 @@ module _ (r vs : List ℕ) (p : ℕ) where
 
   pub run-end : (s : List ℕ) (q : ℕ) → length vs ≤ q → sets s (p + q) (drop q vs) ≡ r → s ≡ r
   run-end s q h inv = rw (drop-of-length-le vs h) at inv
-
--- a seat below the last slot is a joined zone's, and its slot
-pub seat-joined : (zs : List Zone) (z : ℕ) → ltb (cond (ltb 0 z) (slotOf zs z) slots) slots ≡ joined zs z
-unfolding joined
-seat-joined zs z = go (ltb 0 z)
-  where
-    go : (b : Bool) → ltb (cond b (slotOf zs z) slots) slots ≡ (b && ltb (slotOf zs z) slots)
-    go true = refl
-    go false = refl

@@ -1,12 +1,12 @@
 -- The calls without a frame: each is its number, by a list of tests in document 01's order, and its change.
 use Prim.Native.Nat.{ℕ, _+_, _*_}
-use mathlib.Core.Bool.{Bool, true, false, cond, not, _&&_, _||_}
+use mathlib.Core.Bool.{Bool, cond, not, _&&_, _||_}
 use mathlib.Core.List.{List, [], _∷_}
 use lib.Dec.{ltb, leb, eqb}
-use lib.ListN.{getD, set, replicate}
-use lib.IntN.{ℤ, pos, negsuc}
+use lib.ListN.{set, replicate}
+use lib.IntN.{negsuc}
 use Rattle.device.specs.Sizes.{slots, helds}
-use Rattle.device.specs.Zones.{freeZone, newZone, linked, slotOf, joined, zoneOf, anyUp, isJoined, any}
+use Rattle.device.specs.Zones.{freeZone, newZone, linked, slotOf, joined, zoneOf, anyUp}
 use Rattle.device.specs.Words.{clockOf, sinceOf, overrideOf, settingsOf, zonesOf, after}
 use Rattle.device.specs.Holds.{situationOf, valuesAt}
 use Rattle.device.specs.Refusals.{firstOf, late}

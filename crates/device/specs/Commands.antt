@@ -17,8 +17,8 @@ use Rattle.messages.specs.declared.Command.{Command}
 use Rattle.messages.specs.declared.Outcome.{Outcome}
 use Rattle.device.specs.Sizes.{helds, slots, most}
 use Rattle.device.specs.Zones.{upTo, nothing, freeZone, holding, slotOf, joined, zoneOf, heldOf}
-use Rattle.device.specs.Words.{clockOf, overrideOf, settingsOf, zonesOf, after}
-use Rattle.device.specs.Holds.{isLimit, directionOf, supports, situationOf, valuesAt}
+use Rattle.device.specs.Words.{clockOf, sinceOf, overrideOf, settingsOf, zonesOf, after}
+use Rattle.device.specs.Holds.{isLimit, directionOf, supports, situationOf, withZone, valuesAt}
 use Rattle.device.specs.Refusals.{firstOf, late}
 use Rattle.device.specs.Calls.{zoneChange}
 use Rattle.device.specs.declared.Held.{Held}
@@ -207,23 +207,25 @@ abbrev pub stated : ℤ → Amount
 stated (pos v) = Is v
 stated (negsuc n) = Absent
 
--- "The result stands at status 0, and for SetLimit also at 11 to 14"
-unfoldable pub outcomeWith : Command → ℕ → Bool → List ℤ → Outcome
-outcomeWith (Command.SetLimit m) n capped vs =
-    cond (eqb n 0 || (leb 11 n && leb n 14))
-    (Outcome.Limit (record {
+-- the results: "applied is false at 11 to 14"; the values are control state, limits, setpoints
+abbrev pub limitOutcome : ℕ → Bool → List ℤ → Outcome
+limitOutcome n capped vs =
+    Outcome.Limit (record {
       applied = eqb n 0;
       state = natural (getD vs 0 (pos 0));
       consumption = stated (getD vs 1 (pos 0));
       production = stated (getD vs 2 (pos 0));
       reason = reasonOf n capped;
-    }))
-    Outcome.Nothing
+    })
+
+abbrev pub setpointOutcome : List ℤ → Outcome
+setpointOutcome vs = Outcome.Setpoint (record { consumption = stated (getD vs 3 (pos 0)); production = stated (getD vs 4 (pos 0)) })
+
+-- "The result stands at status 0, and for SetLimit also at 11 to 14"
+unfoldable pub outcomeWith : Command → ℕ → Bool → List ℤ → Outcome
+outcomeWith (Command.SetLimit m) n capped vs = cond (eqb n 0 || (leb 11 n && leb n 14)) (limitOutcome n capped vs) Outcome.Nothing
 outcomeWith (Command.ClearLimit a) n capped vs = cond (eqb n 0) Outcome.Success Outcome.Nothing
-outcomeWith (Command.SetSetpoint m) n capped vs =
-    cond (eqb n 0)
-    (Outcome.Setpoint (record { consumption = stated (getD vs 3 (pos 0)); production = stated (getD vs 4 (pos 0)) }))
-    Outcome.Nothing
+outcomeWith (Command.SetSetpoint m) n capped vs = cond (eqb n 0) (setpointOutcome vs) Outcome.Nothing
 outcomeWith (Command.ClearSetpoint a) n capped vs = cond (eqb n 0) Outcome.Success Outcome.Nothing
 outcomeWith (Command.Unserved m) n capped vs = Outcome.Nothing
 
@@ -247,3 +249,14 @@ decisionOf ws z t c =
       zone = obeyed (settingsOf ws) c t (zoneOf (zonesOf ws) z);
     })
     (record { number = commandNumber ws z t c; slot = slots; zone = freeZone })
+
+-- what would be answered to a decision, from the words as they stand before it
+unfoldable pub outcomeFor : List ℕ → ℕ → Command → Decision → Outcome
+outcomeFor ws t c x =
+    outcomeWith c (x .number) (isCapped (settingsOf ws) c) (valuesAt (withZone (situationOf ws) (x .slot) (x .zone)) t)
+
+-- a decision applied: a zone that may command is up before and after, so the second since which none is up stays
+unfoldable pub enacted : List ℕ → ℕ → Decision → List ℕ
+enacted ws t x =
+    after ws (x .number)
+    (record { time = t; slot = x .slot; zone = x .zone; since = sinceOf ws; overridden = overrideOf ws })

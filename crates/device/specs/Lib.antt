@@ -6,4 +6,5 @@ pub mod Pass
 pub mod Refusals
 pub mod Calls
 pub mod Commands
+pub mod Table
 pub mod Start

@@ -9,7 +9,7 @@ ghost use mathlib.Core.Path.{_≡_};
 ghost use Prim.Native.Nat.{min};
 ghost use Rattle.device.specs.Commands.{limitField, setpointField, negative, natural, fieldNames, targetNames, fieldNegative, targetNegative, tooLow, fieldTooLow, fieldAction, targetAction, aimAction, fieldAbove};
 
-fn is_negative(v: i64) -> bool
+pub fn is_negative(v: i64) -> bool
     ensures { λ r. ⌜ r ≡ negative v ⌝ }
 {
     v < 0

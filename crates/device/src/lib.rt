@@ -3,8 +3,12 @@
 pub mod calls;
 pub mod claims;
 pub mod commands;
+pub mod content;
 pub mod fields;
 pub mod holds;
+pub mod links;
+pub mod obey;
+pub mod outcomes;
 pub mod refusals;
 pub mod store;
 

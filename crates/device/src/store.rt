@@ -9,16 +9,16 @@ ghost use Rattle.device.specs.Sizes.{helds, slots, zoneSize, words};
 ghost use Rattle.device.specs.Zones.{upTo, freeZone, isUp, slotOf, joined, heldOf, anyUp};
 ghost use Rattle.device.specs.Words.{clockOf, sinceOf, overrideOf, settingsOf, base, heldIn, zonesOf, bit, heldWords, putZone, applied, settingWords, fresh};
 ghost use Rattle.device.specs.Calls.{headChange};
-use super::Change;
-use super::HEAD;
-use super::HELDS;
-use super::Held;
-use super::SLOTS;
-use super::Settings;
-use super::State;
-use super::WORDS;
-use super::ZONE;
-use super::Zone;
+use crate::Change;
+use crate::HEAD;
+use crate::HELDS;
+use crate::Held;
+use crate::SLOTS;
+use crate::Settings;
+use crate::State;
+use crate::WORDS;
+use crate::ZONE;
+use crate::Zone;
 
 // A copy: an array by value, whose length the proof knows. Only called where an index is past the end.
 fn all(d: &State) -> State
@@ -80,6 +80,12 @@ pub fn settings_at(d: &State) -> Settings
         duration: word(d, 11),
         manager: 0 < word(d, 12),
     }
+}
+
+pub fn is_manager(d: &State) -> bool
+    ensures { λ r. ⌜ r ≡ settingsOf (now (d .entry)) .manager ⌝ }
+{
+    0 < word(d, 12)
 }
 
 // Held value q of those that start at word p.

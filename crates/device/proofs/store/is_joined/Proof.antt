@@ -1,4 +1,4 @@
-use Rattle.device.proofs.Stores.{seat-joined}
+use Rattle.device.proofs.Slots.{seat-joined}
 use Rattle.device.proofs.store.is_joined.Statement.{statement}
 use Rattle.device.proofs.store.is_joined.Tie as tie
 

@@ -1,4 +1,3 @@
-use borrow.Author.Needs.{needs}
 use Rattle.device.specs.Words.{settingsOf}
 use Rattle.device.proofs.store.settings_at.Statement.{statement}
 use Rattle.device.proofs.store.settings_at.Tie as tie

@@ -1,4 +1,4 @@
-use mathlib.Core.Path.{sym, ap, _∙_}
+use mathlib.Core.Path.{_∙_}
 use borrow.Author.Needs.{needs}
 use Rattle.device.proofs.Stores.{value-is, held-past}
 use Rattle.device.proofs.store.value_at.Statement.{statement}
