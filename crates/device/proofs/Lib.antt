@@ -1,3 +1,4 @@
+pub mod Steady
 pub mod Tests
 pub mod Folds
 pub mod Runs
@@ -5,7 +6,6 @@ pub mod HeldWords
 pub mod Lens
 pub mod Stores
 pub mod Effects
-pub mod Steady
 pub mod Since
 pub mod Slots
 pub mod Answered

@@ -65,10 +65,10 @@ same-bits a b f g = go (sameNumber a b) refl
     go false e =
         ne-eqb (ofZ w64 a) (ofZ w64 b)
         (λ q.
-          let p : a ≡ b = sym (toZ-ofZ w64 a f) ∙ ap (toZ w64) q ∙ toZ-ofZ w64 b g in
-          let s : sameNumber a b ≡ true = subst (λ (v : ℤ). sameNumber a v ≡ true) p (number-same a) in
-          let z : _≡_ {A = ℕ} 0 1 = cc in
-          omega arith)
+        let p : a ≡ b = sym (toZ-ofZ w64 a f) ∙ ap (toZ w64) q ∙ toZ-ofZ w64 b g in
+        let s : sameNumber a b ≡ true = subst (λ (v : ℤ). sameNumber a v ≡ true) p (number-same a) in
+        let z : _≡_ {A = ℕ} 0 1 = cc in
+        omega arith)
 
 -- the loop: what is left is alike where all is
 module _ (l k : List ℤ) (i : ℕ) (left : alike (drop i l) (drop i k) ≡ alike l k) where

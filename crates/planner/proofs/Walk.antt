@@ -50,6 +50,9 @@ nearest-is : (cur : ℕ) (ds : List ℕ) → Least cur end ds (nearest cur ds)
 unfolding nearest
 nearest-is cur ds = fold-least cur end ds
 
+pub nearest-later : (cur : ℕ) (ds : List ℕ) → cur < end → cur < nearest cur ds
+nearest-later cur ds h = ⊎-elim (λ e. omega arith) (λ k. k .0) (nearest-is cur ds .found)
+
 -- THE PLAN FROM DUE TO DUE
 module _ (f : ℕ → List ℤ) where
   rows-step : (now n : ℕ) → rowsOf f now (suc n) ≡ cond (alike (f (suc now)) (f now)) (rowsOf f (suc now) n) ((suc now, f (suc now)) ∷ rowsOf f (suc now) n)

@@ -1,10 +1,11 @@
 -- The call `plan`: its number, its answer, and what it leaves in the device and in the lent slice.
-use Prim.Native.Nat.{ℕ}
+use Prim.Native.Nat.{ℕ, _+_}
 use mathlib.Core.Bool.{Bool, cond}
 use mathlib.Core.List.{List, [], _∷_, _++_}
 use lib.Dec.{ltb, eqb}
 use lib.IntN.{ℤ, pos}
 use lib.ListN.{length, drop}
+use Rattle.device.specs.Sizes.{helds}
 use Rattle.device.specs.Words.{clockOf, overrideOf, after}
 use Rattle.device.specs.Holds.{Situation, situationOf, valuesAt}
 use Rattle.device.specs.Refusals.{firstOf, late}
@@ -17,6 +18,9 @@ unfoldable pub planOf : Situation → ℕ → List (ℕ × List ℤ)
 planOf s now = plan (valuesAt s) now
 
 -- "rows of six signed numbers": second, control state, then each quantity
+abbrev pub rowSize : ℕ
+rowSize = 2 + helds
+
 unfoldable pub numbersOf : List (ℕ × List ℤ) → List ℤ
 numbersOf [] = []
 numbersOf (r ∷ rs) = (pos (r .0) ∷ r .1) ++ numbersOf rs
