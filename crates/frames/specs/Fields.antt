@@ -10,7 +10,6 @@ use Rattle.cbor.specs.Item.{Item, Pairs}
 use Rattle.cbor.specs.Int.{intOf}
 use Rattle.cbor.specs.declared.ints.Int.{Int}
 use Rattle.messages.specs.declared.Field.{Field}
-use Rattle.messages.specs.declared.Target.{Target}
 use Rattle.messages.specs.declared.Amount.{Amount}
 use Rattle.messages.specs.declared.Aim.{Aim}
 
@@ -83,18 +82,9 @@ mostValue = 2 ^ 63 - 1
 unfoldable pub durationIn : Option Item → Option ℕ
 durationIn o = optional 0 (λ d. d) (upTo most32) o
 
--- "Each limit field is absent, null or a number"
-unfoldable pub limitIn : Option Item → Option Field
-limitIn o = optional Field.Absent (λ f. f) (signed true) o
-
-abbrev pub targetOf : Field → Target
-targetOf Field.Absent = Target.Absent
-targetOf Field.Null = Target.Absent
-targetOf (Field.Value z) = Target.Value z
-
--- "the same keys, without null"
-unfoldable pub targetIn : Option Item → Option Target
-targetIn o = optional Target.Absent targetOf (signed false) o
+-- "Each limit field is absent, null or a number"; setpoints are "without null"
+unfoldable pub valueIn : Bool → Option Item → Option Field
+valueIn null o = optional Field.Absent (λ f. f) (signed null) o
 
 -- "an optional direction (key 1, 0 or 1)"
 unfoldable pub aimIn : Option Item → Option Aim
@@ -120,17 +110,10 @@ abbrev pub truthItem : Bool → Item
 truthItem false = Item.simple 20
 truthItem true = Item.simple 21
 
-unfoldable pub limitItem : Field → Option Item
-limitItem Field.Absent = none
-limitItem Field.Null = some (Item.simple 22)
-limitItem (Field.Value z) = some (intItem z)
-
-abbrev pub fieldOf : Target → Field
-fieldOf Target.Absent = Field.Absent
-fieldOf (Target.Value z) = Field.Value z
-
-unfoldable pub targetItem : Target → Option Item
-targetItem t = limitItem (fieldOf t)
+unfoldable pub valueItem : Field → Option Item
+valueItem Field.Absent = none
+valueItem Field.Null = some (Item.simple 22)
+valueItem (Field.Value z) = some (intItem z)
 
 -- "A zero duration is omitted"
 unfoldable pub durationItem : ℕ → Option Item

@@ -85,10 +85,13 @@ unfoldable pub answerIn : ℕ → Option Item → Answer
 answerIn command (some i) = answerOf (bind (mapIn i) (responseIn command))
 answerIn command none = Answer.Refused 2
 
+-- 1, then the payload
+unfoldable pub answerFrom : ℕ → List ℕ → Answer
+answerFrom command frame = cond (framed frame) (answerIn command (payloadOf (payloadIn frame))) (Answer.Refused 1)
+
 -- "Responses are read for a command that the caller names; an unserved one is 4, tested first"; then 1, 2, 3
 unfoldable pub readResponse : ℕ → List ℕ → Answer
-readResponse command frame =
-    cond (servedCommand command) (cond (framed frame) (answerIn command (payloadOf (payloadIn frame))) (Answer.Refused 1)) (Answer.Refused 4)
+readResponse command frame = cond (servedCommand command) (answerFrom command frame) (Answer.Refused 4)
 
 -- document 01's number for each case
 abbrev pub answerNumber : Answer → ℕ
@@ -96,22 +99,25 @@ answerNumber (Answer.Is r) = 0
 answerNumber (Answer.Refused n) = n
 
 -- WRITING
-abbrev pub limitFields : LimitResult → Fields
+unfoldable pub limitFields : LimitResult → Fields
 limitFields l =
     (1, some (truthItem (l .applied))) ∷ (2, some (Item.uint (l .state))) ∷ (3, amountItem (l .consumption)) ∷ (4, amountItem (l .production))
     ∷ (5, amountItem (l .reason)) ∷ []
 
-abbrev pub setpointFields : SetpointResult → Fields
+unfoldable pub setpointFields : SetpointResult → Fields
 setpointFields l = (1, some (truthItem true)) ∷ (2, amountItem (l .consumption)) ∷ (3, amountItem (l .production)) ∷ []
 
-abbrev pub clearFields : Fields
+unfoldable pub clearFields : Fields
 clearFields = (1, some (truthItem true)) ∷ []
+
+abbrev pub mapItem : Fields → Option Item
+mapItem fs = some (Item.map (present fs))
 
 unfoldable pub outcomeItem : Outcome → Option Item
 outcomeItem Outcome.Nothing = none
-outcomeItem (Outcome.Limit l) = some (Item.map (present (limitFields l)))
-outcomeItem (Outcome.Setpoint l) = some (Item.map (present (setpointFields l)))
-outcomeItem Outcome.Success = some (Item.map (present clearFields))
+outcomeItem (Outcome.Limit l) = mapItem (limitFields l)
+outcomeItem (Outcome.Setpoint l) = mapItem (setpointFields l)
+outcomeItem Outcome.Success = mapItem clearFields
 
 unfoldable pub responseFields : Response → Fields
 responseFields r = (1, some (Item.uint (r .id))) ∷ (2, some (Item.uint (r .status))) ∷ (3, outcomeItem (r .outcome)) ∷ []
@@ -124,12 +130,18 @@ abbrev pub amountUpTo : ℕ → Amount → Bool
 amountUpTo most Amount.Absent = true
 amountUpTo most (Amount.Is v) = leb v most
 
+unfoldable pub limitInRange : LimitResult → Bool
+limitInRange l =
+    leb (l .state) 4 && amountUpTo mostValue (l .consumption) && amountUpTo mostValue (l .production) && amountUpTo 4 (l .reason)
+
+unfoldable pub setpointInRange : SetpointResult → Bool
+setpointInRange l = amountUpTo mostValue (l .consumption) && amountUpTo mostValue (l .production)
+
 -- a result of that command, its values in range
 unfoldable pub goesWith : ℕ → Outcome → Bool
 goesWith command Outcome.Nothing = false
-goesWith command (Outcome.Limit l) =
-    eqb command 1 && leb (l .state) 4 && amountUpTo mostValue (l .consumption) && amountUpTo mostValue (l .production) && amountUpTo 4 (l .reason)
-goesWith command (Outcome.Setpoint l) = eqb command 3 && amountUpTo mostValue (l .consumption) && amountUpTo mostValue (l .production)
+goesWith command (Outcome.Limit l) = eqb command 1 && limitInRange l
+goesWith command (Outcome.Setpoint l) = eqb command 3 && setpointInRange l
 goesWith command Outcome.Success = eqb command 2 || eqb command 4
 
 abbrev pub isNothing : Outcome → Bool
@@ -142,17 +154,20 @@ isNothing Outcome.Success = false
 unfoldable pub fits : ℕ → ℕ → Outcome → Bool
 fits command status o = cond (stands command status) (goesWith command o) (isNothing o)
 
--- 3: a value out of range, or a result that does not go with the command and the status
-unfoldable pub responseWide : ℕ → Response → Bool
-responseWide command r = ltb most32 (r .id) || not (isStatus (r .status)) || not (fits command (r .status) (r .outcome))
+-- 3 unless: the id in range, a status, and a result that goes with the command and the status
+unfoldable pub responseFits : ℕ → Response → Bool
+responseFits command r = leb (r .id) most32 && isStatus (r .status) && fits command (r .status) (r .outcome)
 
 -- 4, 3; 15 is in Writing
 unfoldable pub responseNumber : ℕ → Response → ℕ
-responseNumber command r = firstOf ((not (servedCommand command), 4) ∷ (responseWide command r, 3) ∷ [])
+responseNumber command r = firstOf ((not (servedCommand command), 4) ∷ (not (responseFits command r), 3) ∷ [])
 
 -- an answer with a status and no result, which names no command; status 0 has a result for every command
 abbrev pub statusAlone : ℕ → ℕ → Response
 statusAlone i status = record { id = i; status = status; outcome = Outcome.Nothing }
 
+unfoldable pub statusFits : ℕ → ℕ → Bool
+statusFits i status = leb i most32 && isStatus status && ltb 0 status
+
 unfoldable pub statusNumber : ℕ → ℕ → ℕ
-statusNumber i status = firstOf ((ltb most32 i || not (isStatus status) || eqb status 0, 3) ∷ [])
+statusNumber i status = firstOf ((not (statusFits i status), 3) ∷ [])

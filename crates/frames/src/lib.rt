@@ -1,9 +1,17 @@
 // Frames: requests and responses behind their length, read and written.
-mod fields; // fields.rt: the fields of a map
-mod prefix; // prefix.rt: the length prefix
-mod requests; // requests.rt: requests, read and written
-mod responses; // responses.rt: responses, read and written
+mod fields; // fields.rt: the fields of a map, read
+mod prefix; // prefix.rt: the length prefix, tested and written
+mod puts; // puts.rt: the fields of a map, written
+mod requests; // requests.rt: requests, read
+mod responses; // responses.rt: responses, read
+mod write_requests; // write_requests.rt: requests, written
+mod write_responses; // write_responses.rt: responses, written
 
 pub use prefix::Written;
 pub use requests::Reading;
+pub use requests::read_request;
 pub use responses::Answer;
+pub use responses::read_response;
+pub use write_requests::write_request;
+pub use write_responses::write_response;
+pub use write_responses::write_status;

@@ -1,7 +1,69 @@
 // The length prefix: tested, and written with the payload.
+ghost use mathlib.Core.Path.{_≡_};
+ghost use Prim.Native.Nat.{_+_, _≤_, _<_, _^_};
+ghost use lib.ListN.{length, take};
+ghost use lib.Seq.{paste};
+ghost use Rattle.frames.specs.Prefix.{framed, frameOf};
+ghost use Rattle.frames.specs.Writing.{writtenOf, leftBy};
+
+// How many bytes a payload has at most.
+pub const MOST: usize = 2048;
 
 // What a writer answers: the refusal number or 0, and the length of the frame written.
 pub struct Written {
     pub number: u64,
     pub length: usize,
+}
+
+// Whether the prefix says how many bytes follow it, and they are 1 to 2,048.
+pub fn is_framed(frame: &[u8]) -> bool
+    ensures { λ r. ⌜ r ≡ framed (now (frame .entry)) ⌝ }
+{
+    if frame.len() < 5 {
+        return false;
+    }
+    let n = frame.len() - 4;
+    if MOST < n {
+        return false;
+    }
+    cbor::get_u32(frame, 0) == n as u64
+}
+
+// Refuses with n, and writes nothing.
+pub fn refused(n: u64) -> Written
+    ensures { λ r. ⌜ (r .number ≡ n) × (r .length ≡ 0) ⌝ }
+{
+    Written {
+        number: n,
+        length: 0,
+    }
+}
+
+// Stores the first n bytes of `from` at `at`.
+fn copy(out: &mut [u8], at: usize, from: &[u8], n: usize)
+    requires { ⌜ (at + n ≤ length (now out)) × (n ≤ length (now from)) ⌝ }
+    ensures { λ _. ⌜ now (out .exit) ≡ paste (now (out .entry)) at (now (from .entry)) n ⌝ }
+{
+    let mut i = 0;
+    while i < n {
+        out[at + i] = from[i];
+        i += 1;
+    }
+}
+
+// Writes the first n bytes of a payload behind their length, where all of it fits.
+pub fn send(out: &mut [u8], payload: &[u8], n: usize) -> Written
+    requires { ⌜ (n ≤ length (now payload)) × (n < 2 ^ 32) ⌝ }
+    ensures { λ r. ⌜ (r ≡ writtenOf 0 (frameOf (take n (now (payload .entry)))) (length (now (out .entry)))) × (now (out .exit) ≡ leftBy 0 (frameOf (take n (now (payload .entry)))) (now (out .entry))) ⌝ }
+{
+    let all = n + 4;
+    if out.len() < all {
+        return refused(15);
+    }
+    cbor::put_u32(out, 0, n as u64);
+    copy(out, 4, payload, n);
+    Written {
+        number: 0,
+        length: all,
+    }
 }

@@ -1,0 +1,208 @@
+// Requests, written.
+use crate::prefix::Written;
+use crate::prefix::refused;
+use crate::prefix::send;
+use crate::puts::count_amount;
+use crate::puts::count_value;
+use crate::puts::put_amount;
+use crate::puts::put_pair;
+use crate::puts::put_uint;
+use crate::puts::put_value;
+use crate::requests::MOST32;
+use crate::requests::is_served;
+use messages::Aim;
+use messages::Amount;
+use messages::Command;
+use messages::Field;
+use messages::Limits;
+use messages::Request;
+use messages::Setpoints;
+use messages::Target;
+ghost use mathlib.Core.Path.{_≡_};
+ghost use Prim.Native.Nat.{_+_, _≤_};
+ghost use lib.ListN.{length, take};
+ghost use Rattle.cbor.specs.Item.{encode, encodePairs, countPairs};
+ghost use Rattle.frames.specs.Fields.{present, aimItem, durationItem, amountItem};
+ghost use Rattle.frames.specs.Requests.{fieldOf, limitsOf, limitsFields, commandFields, requestItem, aimWide, commandWide, isServed, requestWide, requestNumber};
+ghost use Rattle.frames.specs.Puts.{Adds, paramsRoom, payloadRoom};
+ghost use Rattle.frames.specs.Writing.{itemFrame, writtenOf, leftBy};
+
+// More bytes than any payload written here has.
+pub const ROOM: usize = 192;
+
+// A direction as an amount.
+fn aim_amount(a: Aim) -> Amount
+    ensures { λ r. ⌜ amountItem r ≡ aimItem a ⌝ }
+{
+    match a {
+        Aim::Both => Amount::Absent,
+        Aim::One(d) => Amount::Is(d),
+    }
+}
+
+// A duration as an amount: 0 is omitted.
+fn duration_amount(d: u64) -> Amount
+    ensures { λ r. ⌜ amountItem r ≡ durationItem d ⌝ }
+{
+    if d == 0 {
+        Amount::Absent
+    } else {
+        Amount::Is(d)
+    }
+}
+
+fn field_of(t: Target) -> Field
+    ensures { λ r. ⌜ r ≡ fieldOf t ⌝ }
+{
+    match t {
+        Target::Absent => Field::Absent,
+        Target::Value(v) => Field::Value(v),
+    }
+}
+
+fn limits_of(l: Setpoints) -> Limits
+    ensures { λ r. ⌜ r ≡ limitsOf l ⌝ }
+{
+    let c = l.consumption;
+    let p = l.production;
+    Limits {
+        consumption: field_of(c),
+        production: field_of(p),
+        duration: l.duration,
+        cause: l.cause,
+    }
+}
+
+fn count_limits(l: Limits) -> u64
+    ensures { λ r. ⌜ r ≡ countPairs (present (limitsFields l)) ⌝ }
+{
+    let c = l.consumption;
+    let p = l.production;
+    let d = duration_amount(l.duration);
+    count_value(c) + count_value(p) + count_amount(d) + 1
+}
+
+// How many pairs the parameters of a command are.
+fn count_command(c: Command) -> u64
+    ensures { λ r. ⌜ r ≡ countPairs (present (commandFields c)) ⌝ }
+{
+    match c {
+        Command::SetLimit(l) => count_limits(l),
+        Command::ClearLimit(a) => count_amount(aim_amount(a)),
+        Command::SetSetpoint(l) => count_limits(limits_of(l)),
+        Command::ClearSetpoint(a) => count_amount(aim_amount(a)),
+        Command::Unserved(_) => 0,
+    }
+}
+
+fn put_limits(out: &mut [u8], at: usize, l: Limits) -> usize
+    requires { ⌜ at + paramsRoom ≤ length (now out) ⌝ }
+    ensures { λ r. ⌜ Adds (now (out .entry)) at (encodePairs (present (limitsFields l))) paramsRoom (now (out .exit)) r ⌝ }
+{
+    let c = l.consumption;
+    let p = l.production;
+    let d = duration_amount(l.duration);
+    let after_c = put_value(out, at, 1, c);
+    let after_p = put_value(out, after_c, 2, p);
+    let after_d = put_amount(out, after_p, 3, d);
+    put_uint(out, after_d, 4, l.cause)
+}
+
+// The parameters' pairs.
+fn put_command(out: &mut [u8], at: usize, c: Command) -> usize
+    requires { ⌜ at + paramsRoom ≤ length (now out) ⌝ }
+    ensures { λ r. ⌜ Adds (now (out .entry)) at (encodePairs (present (commandFields c))) paramsRoom (now (out .exit)) r ⌝ }
+{
+    match c {
+        Command::SetLimit(l) => put_limits(out, at, l),
+        Command::ClearLimit(a) => put_amount(out, at, 1, aim_amount(a)),
+        Command::SetSetpoint(l) => put_limits(out, at, limits_of(l)),
+        Command::ClearSetpoint(a) => put_amount(out, at, 1, aim_amount(a)),
+        Command::Unserved(_) => at,
+    }
+}
+
+// The payload of a request.
+fn put_request(out: &mut [u8], r: Request) -> usize
+    requires { ⌜ payloadRoom ≤ length (now out) ⌝ }
+    ensures { λ n. ⌜ Adds (now (out .entry)) 0 (encode (requestItem r)) payloadRoom (now (out .exit)) n ⌝ }
+{
+    let command = r.command;
+    let a = cbor::put_head(out, 0, 5, 5);
+    let b = put_uint(out, a, 1, r.id);
+    let c = put_uint(out, b, 2, r.endpoint);
+    let d = put_uint(out, c, 3, r.feature);
+    let e = put_uint(out, d, 4, messages::wire_number(command));
+    let f = put_pair(out, e, 5, 5, count_command(command));
+    put_command(out, f, command)
+}
+
+fn aim_wide(a: Aim) -> bool
+    ensures { λ r. ⌜ r ≡ aimWide a ⌝ }
+{
+    match a {
+        Aim::Both => false,
+        Aim::One(d) => 1 < d,
+    }
+}
+
+// Whether a number of the command is out of the wire's range.
+fn command_wide(c: Command) -> bool
+    ensures { λ r. ⌜ r ≡ commandWide c ⌝ }
+{
+    match c {
+        Command::SetLimit(l) => MOST32 < l.duration || 255 < l.cause,
+        Command::ClearLimit(a) => aim_wide(a),
+        Command::SetSetpoint(l) => MOST32 < l.duration || 255 < l.cause,
+        Command::ClearSetpoint(a) => aim_wide(a),
+        Command::Unserved(n) => 65535 < n,
+    }
+}
+
+fn has_parameters(c: Command) -> bool
+    ensures { λ r. ⌜ r ≡ isServed c ⌝ }
+{
+    match c {
+        Command::SetLimit(_) => true,
+        Command::ClearLimit(_) => true,
+        Command::SetSetpoint(_) => true,
+        Command::ClearSetpoint(_) => true,
+        Command::Unserved(_) => false,
+    }
+}
+
+fn request_wide(r: Request) -> bool
+    ensures { λ w. ⌜ w ≡ requestWide r ⌝ }
+{
+    let command = r.command;
+    MOST32 < r.id || 255 < r.endpoint || 65535 < r.feature || command_wide(command)
+}
+
+// The refusal of a request, whatever the room: 3, then 4.
+fn request_number(r: Request) -> u64
+    ensures { λ n. ⌜ n ≡ requestNumber r ⌝ }
+{
+    let command = r.command;
+    if request_wide(r) {
+        return 3;
+    }
+    if is_served(r.endpoint, r.feature) {
+        if has_parameters(command) {
+            return 0;
+        }
+    }
+    4
+}
+
+// Writes a request's frame to the front of `out`.
+pub fn write_request(out: &mut [u8], r: Request) -> Written
+    ensures { λ w. ⌜ (w ≡ writtenOf (requestNumber r) (itemFrame (requestItem r)) (length (now (out .entry)))) × (now (out .exit) ≡ leftBy (requestNumber r) (itemFrame (requestItem r)) (now (out .entry))) ⌝ }
+{
+    let number = request_number(r);
+    if number != 0 {
+        return refused(number);
+    }
+    let mut payload = [0u8; ROOM];
+    let n = put_request(&mut payload, r);
+    send(out, &payload, n)
+}

@@ -1,0 +1,237 @@
+// Responses, written.
+use crate::prefix::Written;
+use crate::prefix::refused;
+use crate::prefix::send;
+use crate::puts::count_amount;
+use crate::puts::put_amount;
+use crate::puts::put_pair;
+use crate::puts::put_truth;
+use crate::puts::put_uint;
+use crate::requests::MOST32;
+use crate::requests::all2;
+use crate::requests::all3;
+use crate::requests::all4;
+use crate::requests::is_command;
+use crate::responses::MOST_VALUE;
+use crate::responses::has_result;
+use crate::responses::is_status;
+use crate::write_requests::ROOM;
+use messages::Amount;
+use messages::LimitResult;
+use messages::Outcome;
+use messages::Response;
+use messages::SetpointResult;
+ghost use mathlib.Core.Path.{_≡_};
+ghost use Prim.Native.Nat.{_+_, _≤_};
+ghost use lib.ListN.{length};
+ghost use Rattle.cbor.specs.Item.{encode, encodePairs, countPairs};
+ghost use Rattle.frames.specs.Fields.{present};
+ghost use Rattle.frames.specs.Responses.{mapItem, limitFields, setpointFields, clearFields, outcomeItem, responseItem, amountUpTo, limitInRange, setpointInRange, goesWith, isNothing, fits, responseFits, responseNumber, statusAlone, statusFits, statusNumber};
+ghost use Rattle.frames.specs.Puts.{Adds, fieldBytes, pairsOf, outcomeRoom, payloadRoom};
+ghost use Rattle.frames.specs.Writing.{itemFrame, writtenOf, leftBy};
+
+// The result of SetLimit, under key 3.
+fn put_limit(out: &mut [u8], at: usize, l: LimitResult) -> usize
+    requires { ⌜ at + outcomeRoom ≤ length (now out) ⌝ }
+    ensures { λ r. ⌜ Adds (now (out .entry)) at (fieldBytes 3 (mapItem (limitFields l))) outcomeRoom (now (out .exit)) r ⌝ }
+{
+    let consumption = l.consumption;
+    let production = l.production;
+    let reason = l.reason;
+    let n = 2 + count_amount(consumption) + count_amount(production) + count_amount(reason);
+    let a = put_pair(out, at, 3, 5, n);
+    let b = put_truth(out, a, 1, l.applied);
+    let c = put_uint(out, b, 2, l.state);
+    let d = put_amount(out, c, 3, consumption);
+    let e = put_amount(out, d, 4, production);
+    put_amount(out, e, 5, reason)
+}
+
+// The result of SetSetpoint, under key 3.
+fn put_setpoint(out: &mut [u8], at: usize, l: SetpointResult) -> usize
+    requires { ⌜ at + outcomeRoom ≤ length (now out) ⌝ }
+    ensures { λ r. ⌜ Adds (now (out .entry)) at (fieldBytes 3 (mapItem (setpointFields l))) outcomeRoom (now (out .exit)) r ⌝ }
+{
+    let consumption = l.consumption;
+    let production = l.production;
+    let n = 1 + count_amount(consumption) + count_amount(production);
+    let a = put_pair(out, at, 3, 5, n);
+    let b = put_truth(out, a, 1, true);
+    let c = put_amount(out, b, 2, consumption);
+    put_amount(out, c, 3, production)
+}
+
+// The result of a clear, under key 3.
+fn put_success(out: &mut [u8], at: usize) -> usize
+    requires { ⌜ at + outcomeRoom ≤ length (now out) ⌝ }
+    ensures { λ r. ⌜ Adds (now (out .entry)) at (fieldBytes 3 (mapItem clearFields)) outcomeRoom (now (out .exit)) r ⌝ }
+{
+    let a = put_pair(out, at, 3, 5, 1);
+    put_truth(out, a, 1, true)
+}
+
+fn put_outcome(out: &mut [u8], at: usize, o: Outcome) -> usize
+    requires { ⌜ at + outcomeRoom ≤ length (now out) ⌝ }
+    ensures { λ r. ⌜ Adds (now (out .entry)) at (fieldBytes 3 (outcomeItem o)) outcomeRoom (now (out .exit)) r ⌝ }
+{
+    match o {
+        Outcome::Nothing => at,
+        Outcome::Limit(l) => put_limit(out, at, l),
+        Outcome::Setpoint(l) => put_setpoint(out, at, l),
+        Outcome::Success => put_success(out, at),
+    }
+}
+
+fn count_outcome(o: Outcome) -> u64
+    ensures { λ r. ⌜ r ≡ pairsOf (outcomeItem o) ⌝ }
+{
+    match o {
+        Outcome::Nothing => 0,
+        Outcome::Limit(_) => 1,
+        Outcome::Setpoint(_) => 1,
+        Outcome::Success => 1,
+    }
+}
+
+// The payload of a response.
+fn put_response(out: &mut [u8], r: Response) -> usize
+    requires { ⌜ payloadRoom ≤ length (now out) ⌝ }
+    ensures { λ n. ⌜ Adds (now (out .entry)) 0 (encode (responseItem r)) payloadRoom (now (out .exit)) n ⌝ }
+{
+    let outcome = r.outcome;
+    let a = cbor::put_head(out, 0, 5, 2 + count_outcome(outcome));
+    let b = put_uint(out, a, 1, r.id);
+    let c = put_uint(out, b, 2, r.status);
+    put_outcome(out, c, outcome)
+}
+
+fn amount_up_to(most: u64, a: Amount) -> bool
+    ensures { λ r. ⌜ r ≡ amountUpTo most a ⌝ }
+{
+    match a {
+        Amount::Absent => true,
+        Amount::Is(v) => v <= most,
+    }
+}
+
+fn limit_in_range(l: LimitResult) -> bool
+    ensures { λ r. ⌜ r ≡ limitInRange l ⌝ }
+{
+    let consumption = l.consumption;
+    let production = l.production;
+    let reason = l.reason;
+    all4(
+        l.state <= 4,
+        amount_up_to(MOST_VALUE, consumption),
+        amount_up_to(MOST_VALUE, production),
+        amount_up_to(4, reason),
+    )
+}
+
+fn setpoint_in_range(l: SetpointResult) -> bool
+    ensures { λ r. ⌜ r ≡ setpointInRange l ⌝ }
+{
+    let consumption = l.consumption;
+    let production = l.production;
+    all2(
+        amount_up_to(MOST_VALUE, consumption),
+        amount_up_to(MOST_VALUE, production),
+    )
+}
+
+// Whether it is a result of that command, its values in range.
+fn goes_with(command: u64, o: Outcome) -> bool
+    ensures { λ r. ⌜ r ≡ goesWith command o ⌝ }
+{
+    match o {
+        Outcome::Nothing => false,
+        Outcome::Limit(l) => all2(command == 1, limit_in_range(l)),
+        Outcome::Setpoint(l) => all2(command == 3, setpoint_in_range(l)),
+        Outcome::Success => command == 2 || command == 4,
+    }
+}
+
+fn is_nothing(o: Outcome) -> bool
+    ensures { λ r. ⌜ r ≡ isNothing o ⌝ }
+{
+    match o {
+        Outcome::Nothing => true,
+        Outcome::Limit(_) => false,
+        Outcome::Setpoint(_) => false,
+        Outcome::Success => false,
+    }
+}
+
+fn outcome_fits(command: u64, status: u64, o: Outcome) -> bool
+    ensures { λ r. ⌜ r ≡ fits command status o ⌝ }
+{
+    if has_result(command, status) {
+        return goes_with(command, o);
+    }
+    is_nothing(o)
+}
+
+// The refusal of a response, whatever the room: 4, then 3.
+fn response_number(command: u64, r: Response) -> u64
+    ensures { λ n. ⌜ n ≡ responseNumber command r ⌝ }
+{
+    let outcome = r.outcome;
+    if is_command(command) {
+        if all3(
+            r.id <= MOST32,
+            is_status(r.status),
+            outcome_fits(command, r.status, outcome),
+        ) {
+            return 0;
+        }
+        return 3;
+    }
+    4
+}
+
+fn status_number(id: u64, status: u64) -> u64
+    ensures { λ n. ⌜ n ≡ statusNumber id status ⌝ }
+{
+    if all3(id <= MOST32, is_status(status), 0 < status) {
+        return 0;
+    }
+    3
+}
+
+// Writes a frame that holds a response which was tested.
+fn send_response(out: &mut [u8], r: Response) -> Written
+    ensures { λ w. ⌜ (w ≡ writtenOf 0 (itemFrame (responseItem r)) (length (now (out .entry)))) × (now (out .exit) ≡ leftBy 0 (itemFrame (responseItem r)) (now (out .entry))) ⌝ }
+{
+    let mut payload = [0u8; ROOM];
+    let n = put_response(&mut payload, r);
+    send(out, &payload, n)
+}
+
+// Writes a response to a command that the caller names, to the front of `out`.
+pub fn write_response(out: &mut [u8], command: u64, r: Response) -> Written
+    ensures { λ w. ⌜ (w ≡ writtenOf (responseNumber command r) (itemFrame (responseItem r)) (length (now (out .entry)))) × (now (out .exit) ≡ leftBy (responseNumber command r) (itemFrame (responseItem r)) (now (out .entry))) ⌝ }
+{
+    let number = response_number(command, r);
+    if number != 0 {
+        return refused(number);
+    }
+    send_response(out, r)
+}
+
+// Writes an answer with a status and no result, which names no command.
+pub fn write_status(out: &mut [u8], id: u64, status: u64) -> Written
+    ensures { λ w. ⌜ (w ≡ writtenOf (statusNumber id status) (itemFrame (responseItem (statusAlone id status))) (length (now (out .entry)))) × (now (out .exit) ≡ leftBy (statusNumber id status) (itemFrame (responseItem (statusAlone id status))) (now (out .entry))) ⌝ }
+{
+    let number = status_number(id, status);
+    if number != 0 {
+        return refused(number);
+    }
+    send_response(
+        out,
+        Response {
+            id,
+            status,
+            outcome: Outcome::Nothing,
+        },
+    )
+}
