@@ -13,10 +13,10 @@ use Rattle.cbor.specs.declared.heads.Head.{Head}
 use Rattle.cbor.specs.declared.items.Key.{Key}
 use Rattle.cbor.proofs.Numbers.{past, room}
 use Rattle.cbor.proofs.Widths.{head-length}
-use Rattle.cbor.proofs.HeadLaws.{head-reads}
+use Rattle.cbor.proofs.HeadLaws.{head-reads-back}
 
 alone : (s t : List ℕ) (p m v : ℕ) → Within m v → v < 2 ^ 64 → drop p s ≡ headBytes m v ++ t → headAt s p ≡ Head.Is m v (p + length (headBytes m v))
-alone s t p m v ok small e = head-reads s t p m v ok small e ∙ ap (λ (n : ℕ). Head.Is m v (p + n)) (sym (head-length m v))
+alone s t p m v ok small e = head-reads-back s t p m v ok small e ∙ ap (λ (n : ℕ). Head.Is m v (p + n)) (sym (head-length m v))
 
 -- the head of a longer run of bytes, and what is behind it
 module _ (s bs t : List ℕ) (p m v : ℕ) (ok : Within m v) (small : v < 2 ^ 64) (e : drop p s ≡ (headBytes m v ++ bs) ++ t) where
@@ -116,19 +116,19 @@ complete s (suc d) =
     (λ xs ok. ok .0)
     (λ xs ok. ok .0)
 
-pub item-reads : ItemReadsBack
+pub item-reads-back : ItemReadsBack
 unfolding Complete
-item-reads s t d p i ok e = complete s d i p t ok e
+item-reads-back s t d p i ok e = complete s d i p t ok e
 
 -- where an item's encoding stands, its head is read
 pub item-head : (s t : List ℕ) (d p : ℕ) (i : Item) → Ok i d → drop p s ≡ encode i ++ t → headAt s p ≡ Head.Is (majorOf i) (argOf i) (p + headLen (argOf i))
 unfolding encode Ok
-item-head s t d p (Item.uint v) ok e = head-reads s t p 0 v refl ok e
-item-head s t d p (Item.nint v) ok e = head-reads s t p 1 v refl ok e
-item-head s t d p (Item.bytes b) ok e = head-reads s (b ++ t) p 2 (length b) refl (ok .0) (e ∙ append-assoc (headBytes 2 (length b)) b t)
-item-head s t d p (Item.text b) ok e = head-reads s (b ++ t) p 3 (length b) refl (ok .0) (e ∙ append-assoc (headBytes 3 (length b)) b t)
+item-head s t d p (Item.uint v) ok e = head-reads-back s t p 0 v refl ok e
+item-head s t d p (Item.nint v) ok e = head-reads-back s t p 1 v refl ok e
+item-head s t d p (Item.bytes b) ok e = head-reads-back s (b ++ t) p 2 (length b) refl (ok .0) (e ∙ append-assoc (headBytes 2 (length b)) b t)
+item-head s t d p (Item.text b) ok e = head-reads-back s (b ++ t) p 3 (length b) refl (ok .0) (e ∙ append-assoc (headBytes 3 (length b)) b t)
 item-head s t zero p (Item.array xs) ok e = absurd ok
-item-head s t (suc d) p (Item.array xs) ok e = head-reads s (encodeItems xs ++ t) p 4 (count xs) refl (ok .0) (e ∙ append-assoc (headBytes 4 (count xs)) (encodeItems xs) t)
+item-head s t (suc d) p (Item.array xs) ok e = head-reads-back s (encodeItems xs ++ t) p 4 (count xs) refl (ok .0) (e ∙ append-assoc (headBytes 4 (count xs)) (encodeItems xs) t)
 item-head s t zero p (Item.map xs) ok e = absurd ok
-item-head s t (suc d) p (Item.map xs) ok e = head-reads s (encodePairs xs ++ t) p 5 (countPairs xs) refl (ok .0) (e ∙ append-assoc (headBytes 5 (countPairs xs)) (encodePairs xs) t)
-item-head s t d p (Item.simple v) ok e = let small : v < 2 ^ 64 = omega (arith, ok .1) in head-reads s t p 7 v (simp (le-leb 20 v (ok .0), le-leb v 22 (ok .1))) small e
+item-head s t (suc d) p (Item.map xs) ok e = head-reads-back s (encodePairs xs ++ t) p 5 (countPairs xs) refl (ok .0) (e ∙ append-assoc (headBytes 5 (countPairs xs)) (encodePairs xs) t)
+item-head s t d p (Item.simple v) ok e = let small : v < 2 ^ 64 = omega (arith, ok .1) in head-reads-back s t p 7 v (simp (le-leb 20 v (ok .0), le-leb v 22 (ok .1))) small e

@@ -48,9 +48,9 @@ arg-reads s t q v small e = ⊎-elim
     rw (le-ltb (infoOf v) 24 (info-high v h), le-leb w (length s - q) r, n, eq-eqb (infoOf v) (infoOf v) refl))
     (below v 24)
 
-pub head-reads : HeadReadsBack
+pub head-reads-back : HeadReadsBack
 unfolding headAt headBytes headLen
-head-reads s t p m v ok small e =
+head-reads-back s t p m v ok small e =
     let w : ℕ = widthOf (infoOf v) in
     let i = info-small v in
     let r : 1 ≤ length s - p = room ((m * 32 + infoOf v) ∷ []) (bytesOf w v ++ t) s p e in
@@ -148,5 +148,5 @@ head-found s ok p m v e = go (leb (length s) p) (allowed (b / 32) (b % 32)) refl
 pub head-exact : HeadExact
 head-exact s ok p m v e = (
   (λ h. let f = head-found s ok p m v e h in (f .within, f .small, f .stands)),
-  (λ f. head-reads s (drop e s) p m v (f .0) (f .1) (f .2 .bytes) ∙ ap (Head.Is m v) (omega (arith, f .2 .len, head-length m v))),
+  (λ f. head-reads-back s (drop e s) p m v (f .0) (f .1) (f .2 .bytes) ∙ ap (Head.Is m v) (omega (arith, f .2 .len, head-length m v))),
 )

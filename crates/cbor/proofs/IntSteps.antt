@@ -21,16 +21,16 @@ use Rattle.cbor.proofs.Order.{below}
 to-pos : (n : ℕ) → n < 2 ^ 63 → toZ w64 n ≡ pos n
 to-pos n h = rw (lt-ltb n (2 ^ 63) h)
 
-pub negsuc-is : MinusOneMinus
-negsuc-is zero = refl
-negsuc-is (suc n) = ap (λ (k : ℕ). negsuc (suc k)) (sym (zero-add n))
+pub minus-one-minus : MinusOneMinus
+minus-one-minus zero = refl
+minus-one-minus (suc n) = ap (λ (k : ℕ). negsuc (suc k)) (sym (zero-add n))
 
 module _ (n : ℕ) (h : n < 2 ^ 63) where
   pub negative-fits : SFits w64 (negsuc 0 -ℤ toZ w64 n)
-  negative-fits = rw (to-pos n h, ← negsuc-is n) (record { sfits = h })
+  negative-fits = rw (to-pos n h, ← minus-one-minus n) (record { sfits = h })
 
   negative : toZ w64 (ofZ w64 (negsuc 0 -ℤ toZ w64 n)) ≡ negsuc n
-  negative = rw (to-pos n h, ← negsuc-is n) (toZ-ofZ w64 (negsuc n) (record { sfits = h }))
+  negative = rw (to-pos n h, ← minus-one-minus n) (toZ-ofZ w64 (negsuc n) (record { sfits = h }))
 
 module _ (s : List ℕ) (p : ℕ) (h : Head) (e : h ≡ headAt s p) where
   pub int-none : h ≡ Head.Bad → Int.Other ≡ intAt s p

@@ -9,7 +9,8 @@ use lib.ListN.{length, getD, drop, length-append, length-drop, List·getD-eq-def
 use lib.Seq.{getD-drop, drop-drop, drop-cons, drop-append-seam}
 use mir.Val.{Fits}
 use mir.Syntax.{w8}
-use Rattle.cbor.specs.Bytes.{numberAt, bytesOf, Bytes}
+use Rattle.cbor.specs.Bytes.{numberAt, bytesOf, Bytes, Stands}
+use Rattle.cbor.specs.Laws.{NumberExact}
 
 -- a slice of bytes holds bytes
 pub all-bytes : (s : List ℕ) → ((k : ℕ) → Fits w8 (getD s k 0)) → Bytes s
@@ -68,3 +69,9 @@ module _ (s : List ℕ) (ok : Bytes s) where
       let k : q + w + 1 ≡ q + suc w = omega arith in
       let c = rw k at (cons-at s (q + w) (omega arith)) in
       rw (d, r) (number-there w q (omega arith) ∙ ap (λ (l : List ℕ). bytesOf w (numberAt s q w) ++ l) c ∙ sym (append-assoc (bytesOf w (numberAt s q w)) (getD s (q + w) 0 ∷ []) (drop (q + suc w) s)))
+
+pub number-exact : NumberExact
+number-exact s ok w p v h = (
+  (λ e. rw (← e) (number-small s ok w p, record { bytes = number-there s ok w p h; len = ap (λ (n : ℕ). p + n) (sym (bytes-length w (numberAt s p w))); fits = h })),
+  (λ x. number-of w s (drop (p + w) s) p v (x .0) (x .1 .bytes)),
+)

@@ -10,16 +10,20 @@ use lib.Seq.{drop-length}
 use lib.Dec.{eqb}
 use borrow.Author.Tests.{eqb-true, eq-eqb}
 use Rattle.cbor.specs.Bytes.{Bytes, Stands}
+use Rattle.cbor.specs.Head.{headBytes}
 use Rattle.cbor.specs.Item.{Item, Got, got, bad, itemAt, encode, Ok, levels, endsAt, payloadOf}
-use Rattle.cbor.specs.Laws.{ItemExact, PayloadExact, NoneBeginsAnother, OneItem}
+use Rattle.cbor.specs.Laws.{ItemExact, PayloadExact, NoneBeginsAnother, OneItem, HeadWritten, ItemWritten}
+use Rattle.cbor.proofs.Widths.{head-length}
+use Rattle.cbor.proofs.Puts.{put-stands}
+use Rattle.cbor.proofs.HeadLaws.{head-reads-back}
 use Rattle.cbor.proofs.Sound.{Sound, item-sound}
-use Rattle.cbor.proofs.Complete.{item-reads}
+use Rattle.cbor.proofs.Complete.{item-reads-back}
 
 pub item-exact : ItemExact
 unfolding Sound
 item-exact s ok d p e i = (
   (λ h. let x = item-sound s ok d p e i h in (x .1, x .0)),
-  (λ x. item-reads s (drop e s) d p i (x .0) (x .1 .bytes) ∙ ap (got i) (sym (x .1 .len))),
+  (λ x. item-reads-back s (drop e s) d p i (x .0) (x .1 .bytes) ∙ ap (got i) (sym (x .1 .len))),
 )
 
 ends-at : (n : ℕ) (g : Got Item) (i : Item) → endsAt n g ≡ some i → g ≡ got i n
@@ -34,18 +38,30 @@ pub payload-exact : PayloadExact
 unfolding payloadOf
 payload-exact s ok i = (
   (λ h.
-  let x = item-exact s ok levels 0 (length s) i .0 (ends-at (length s) (itemAt s levels 0) i h) in
-  (x .0, sym (x .1 .bytes ∙ ap (λ (l : List ℕ). encode i ++ l) (drop-length s) ∙ append-nil (encode i)))),
+      let x = item-exact s ok levels 0 (length s) i .0 (ends-at (length s) (itemAt s levels 0) i h) in
+      (x .0, sym (x .1 .bytes ∙ ap (λ (l : List ℕ). encode i ++ l) (drop-length s) ∙ append-nil (encode i)))),
   (λ x.
-  let r = item-reads s [] levels 0 i (x .0) (sym (append-nil (encode i) ∙ x .1)) in
-  rw (r, eq-eqb (0 + length (encode i)) (length s) (omega (arith, ap length (x .1))))),
+      let r = item-reads-back s [] levels 0 i (x .0) (sym (append-nil (encode i) ∙ x .1)) in
+      rw (r, eq-eqb (0 + length (encode i)) (length s) (omega (arith, ap length (x .1))))),
 )
 
-pub none-begins : NoneBeginsAnother
-none-begins d i j t u oi oj e =
-    let a = item-reads (encode i ++ t) t d 0 i oi refl in
-    let b = item-reads (encode i ++ t) u d 0 j oj e in
+-- the same for an item at the front
+pub item-front : (t : List ℕ) (d : ℕ) (i : Item) → Ok i d → itemAt (encode i ++ t) d 0 ≡ got i (length (encode i))
+item-front t d i ok = item-reads-back (encode i ++ t) t d 0 i ok refl ∙ ap (got i) (omega arith)
+
+pub none-begins-another : NoneBeginsAnother
+none-begins-another d i j t u oi oj e =
+    let a = item-reads-back (encode i ++ t) t d 0 i oi refl in
+    let b = item-reads-back (encode i ++ t) u d 0 j oj e in
     cc
 
 pub one-item : OneItem
-one-item d i j oi oj e = none-begins d i j [] [] oi oj (ap (λ (l : List ℕ). l ++ []) e)
+one-item d i j oi oj e = none-begins-another d i j [] [] oi oj (ap (λ (l : List ℕ). l ++ []) e)
+
+pub head-written : HeadWritten
+head-written s p m v ok small h =
+    let x = put-stands s (headBytes m v) p (omega (arith, head-length m v)) in
+    head-reads-back _ _ p m v ok small (x .bytes)
+
+pub item-written : ItemWritten
+item-written s d p i ok h = item-reads-back _ _ d p i ok (put-stands s (encode i) p h .bytes)

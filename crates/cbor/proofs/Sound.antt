@@ -82,7 +82,7 @@ items-sound s d f hf (suc n) p e is le h =
     let x = hf p (u .1) (u .0) (u .2) in
     let y = items-sound s d f hf n (u .1) (v .1) (v .0) (x .0 .fits) (v .2) in
     subst₂ (λ (z : Items) (j : ℕ). Stands s p (encodeItems z) j × (count z ≡ suc n) × OkItems z d) a b
-    (join s _ _ p (u .1) (v .1) (x .0) (y .0), ap suc (y .1), (x .1, y .2))
+    (join s (encode (u .0)) (encodeItems (v .0)) p (u .1) (v .1) (x .0) (y .0), ap suc (y .1), (x .1, y .2))
 
 pairs-sound : (s : List ℕ) → Bytes s → (d : ℕ) (f : ℕ → Got Item) → Sound s d f → (n lo p e : ℕ) (ps : Pairs) → p ≤ length s → pairsAt s f n lo p ≡ got ps e → Stands s p (encodePairs ps) e × (countPairs ps ≡ n) × OkPairs ps lo d
 unfolding pairsAt Sound encode countPairs Ok
@@ -101,7 +101,7 @@ pairs-sound s ok d f hf (suc n) lo p e ps le h =
     let x = hf (w .1) (u .1) (u .0) (u .2) in
     let y = pairs-sound s ok d f hf n (w .0 + 1) (u .1) (v .1) (v .0) (x .0 .fits) (v .2) in
     subst₂ (λ (z : Pairs) (j : ℕ). Stands s p (encodePairs z) j × (countPairs z ≡ suc n) × OkPairs z lo d) a b
-    (join s _ _ p (w .1) (v .1) (hd .stands) (join s _ _ (w .1) (u .1) (v .1) (x .0) (y .0)), ap suc (y .1), (k .1, hd .small, x .1, y .2))
+    (join s (headBytes 0 (w .0)) (encode (u .0) ++ encodePairs (v .0)) p (w .1) (v .1) (hd .stands) (join s (encode (u .0)) (encodePairs (v .0)) (w .1) (u .1) (v .1) (x .0) (y .0)), ap suc (y .1), (k .1, hd .small, x .1, y .2))
 
 -- above 5 the subset has false, true and null alone
 pub allowed-rest : (m v : ℕ) → Within m v → leb m 5 ≡ false → (m ≡ 7) × (20 ≤ v) × (v ≤ 22)

@@ -6,52 +6,58 @@ use mathlib.Core.List.{List}
 use native.Mathlib.Omega.{arith}
 use borrow.Author.Tests.{lt-ltb, le-ltb, eq-eqb, ne-eqb}
 use Rattle.cbor.specs.Head.{headAt}
-use Rattle.cbor.specs.Item.{keyAt}
-use Rattle.cbor.specs.Find.{stopped, walk, seekAt, findFrom, findAt}
+use Rattle.cbor.specs.Item.{itemAt, keyAt, endOf}
+use Rattle.cbor.specs.Find.{passed, stepAt, stopped, onward, seekAt, findFrom, findAt}
 use Rattle.cbor.specs.declared.heads.Head.{Head}
 use Rattle.cbor.specs.declared.items.Key.{Key}
 use Rattle.cbor.specs.declared.items.End.{End}
+use Rattle.cbor.specs.declared.pairs.Step.{Step}
 use Rattle.cbor.specs.declared.pairs.Stop.{Stop}
 use Rattle.cbor.specs.declared.pairs.Found.{Found}
 use Rattle.cbor.proofs.Order.{one-more}
 
-module _ (s : List ℕ) (ends : ℕ → End) (key p n : ℕ) where
-  pub walk-end : n ≡ 0 → stopped false p 0 ≡ walk s ends key n p
-  unfolding walk
+-- a look at a pair
+module _ (s : List ℕ) (d key p : ℕ) (h : Key) (e : h ≡ keyAt s 0 p) where
+  pub no-pair : h ≡ Key.Bad → Step.Halt ≡ stepAt s d key p
+  unfolding stepAt
+  no-pair w = rw (sym e ∙ w)
+
+  module _ (k q : ℕ) (w : h ≡ Key.Is k q) where
+    pub pair-there : k ≡ key → Step.There q ≡ stepAt s d key p
+    unfolding stepAt
+    pair-there z = rw (sym e ∙ w, eq-eqb k key z)
+
+    module _ (ne : k ≡ key → ⊥) where
+      pub pair-larger : key < k → Step.Halt ≡ stepAt s d key p
+      unfolding stepAt
+      pair-larger lt = rw (sym e ∙ w, ne-eqb k key ne, lt-ltb key k lt)
+
+      module _ (le : k ≤ key) (r : End) (v : r ≡ endOf (itemAt s d q)) where
+        pub pair-smaller : passed r ≡ stepAt s d key p
+        unfolding stepAt
+        pair-smaller = rw (sym e ∙ w, ne-eqb k key ne, le-ltb key k le, v)
+
+-- the walk, pair by pair
+module _ (s : List ℕ) (d key p n : ℕ) where
+  pub walk-end : n ≡ 0 → stopped false p 0 ≡ seekAt s d key n p
+  unfolding seekAt
   walk-end z = rw z
 
-  module _ (nz : n ≡ 0 → ⊥) (h : Key) (e : h ≡ keyAt s 0 p) where
-    here : (t : Stop) → t ≡ walk s ends key (suc (n - 1)) p → t ≡ walk s ends key n p
-    here t g = g ∙ ap (λ (k : ℕ). walk s ends key k p) (sym (one-more n nz))
+  module _ (nz : n ≡ 0 → ⊥) (t : Step) (e : t ≡ stepAt s d key p) where
+    next : seekAt s d key n p ≡ onward t p (n - 1) (seekAt s d key (n - 1))
+    unfolding seekAt
+    next = rw e (ap (λ (k : ℕ). seekAt s d key k p) (one-more n nz))
 
-    stays : stopped false p n ≡ stopped false p (suc (n - 1))
-    stays = ap (stopped false p) (one-more n nz)
+    pub walk-halt : t ≡ Step.Halt → stopped false p n ≡ seekAt s d key n p
+    walk-halt w = ap (stopped false p) (one-more n nz) ∙ sym (next ∙ rw w)
 
-    pub walk-bad : h ≡ Key.Bad → stopped false p n ≡ walk s ends key n p
-    unfolding walk
-    walk-bad w = here _ (stays ∙ rw (sym e ∙ w))
+    pub walk-there : (q : ℕ) → t ≡ Step.There q → stopped true q (n - 1) ≡ seekAt s d key n p
+    walk-there q w = sym (next ∙ rw w)
 
-    module _ (k q : ℕ) (w : h ≡ Key.Is k q) where
-      pub walk-larger : key < k → stopped false p n ≡ walk s ends key n p
-      unfolding walk
-      walk-larger g = here _ (stays ∙ rw (sym e ∙ w, le-ltb k key (omega arith), ne-eqb k key (λ z. omega arith)))
+    pub walk-past : (e′ : ℕ) → t ≡ Step.Past e′ → seekAt s d key (n - 1) e′ ≡ seekAt s d key n p
+    walk-past e′ w = sym (next ∙ rw w)
 
-      pub walk-there : k ≡ key → stopped true q (n - 1) ≡ walk s ends key n p
-      unfolding walk
-      walk-there z = here _ (rw (sym e ∙ w, le-ltb k key (omega arith), eq-eqb k key z))
-
-      module _ (le : k ≤ key) (ne : k ≡ key → ⊥) (r : End) (v : r ≡ ends q) where
-        smaller : k < key
-        smaller = omega arith
-
-        pub walk-no-value : r ≡ End.Bad → stopped false p n ≡ walk s ends key n p
-        unfolding walk
-        walk-no-value b = here _ (stays ∙ rw (sym e ∙ w, lt-ltb k key smaller, sym v ∙ b))
-
-        pub walk-on : (e′ : ℕ) → r ≡ End.At e′ → walk s ends key (n - 1) e′ ≡ walk s ends key n p
-        unfolding walk
-        walk-on e′ b = here _ (rw (sym e ∙ w, lt-ltb k key smaller, sym v ∙ b))
-
+-- the map whose head is at p
 module _ (s : List ℕ) (p key d : ℕ) where
   pub find-deep : d ≡ 0 → Found.Nothing ≡ findAt s d key p
   unfolding findAt

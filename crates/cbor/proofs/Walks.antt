@@ -11,7 +11,7 @@ use borrow.Author.Tests.{le-leb, lt-ltb, le-ltb, eq-eqb, ne-eqb}
 use Rattle.cbor.specs.Bytes.{Bytes, Stands}
 use Rattle.cbor.specs.Head.{headAt, headLen}
 use Rattle.cbor.specs.Item.{Item, Pairs, Got, got, andThen, keyAt, keyed, pairsAt, fromHead, itemAt, endOf, countPairs}
-use Rattle.cbor.specs.Find.{valueOf, stopped, walk, seekAt, foundBy, findAt}
+use Rattle.cbor.specs.Find.{valueOf, stopped, stepAt, seekAt, foundBy, findAt}
 use Rattle.cbor.specs.Int.{intOf, intFrom, intAt}
 use Rattle.cbor.specs.Laws.{IntExact, Walking, Sought, WalkStarts, SeekExact, Finds, FindExact}
 use Rattle.cbor.specs.declared.heads.Head.{Head}
@@ -97,8 +97,8 @@ none-below s f (suc n) lo p e k ps h lt =
 
 module _ (s : List ℕ) (d key : ℕ) (all : Pairs) where
   sought : (n lo p end : ℕ) (rest : Pairs) → pairsAt s (itemAt s d) n lo p ≡ got rest end → ((k : ℕ) → lo ≤ k → valueOf rest k ≡ valueOf all k) → lo ≤ key
-      → Sought s d all key (valueOf all key) (walk s (λ q. endOf (itemAt s d q)) key n p)
-  unfolding pairsAt walk valueOf
+      → Sought s d all key (valueOf all key) (seekAt s d key n p)
+  unfolding pairsAt seekAt stepAt valueOf
   sought zero lo p end rest h same le =
       let a : rest ≡ Pairs.empty = cc in
       let v : valueOf all key ≡ none = sym (same key le) ∙ ap (λ (x : Pairs). valueOf x key) a in
@@ -110,21 +110,20 @@ module _ (s : List ℕ) (d key : ℕ) (all : Pairs) where
       let w : valueOf all key ≡ valueOf (Pairs.pair (t .key) (t .item) (t .rest)) key = sym (same key le) ∙ ap (λ (x : Pairs). valueOf x key) (t .whole) in
       let behind : ((k : ℕ) → t .key + 1 ≤ k → valueOf (t .rest) k ≡ valueOf all k) = λ k g. sym (value-there (t .key) k (t .item) (t .rest) (λ z. omega arith)) ∙ ap (λ (x : Pairs). valueOf x k) (sym (t .whole)) ∙ same k (omega arith) in
       ⊎-elim
-      (λ (lt : t .key < key). rw (a, lt-ltb (t .key) key lt, t .value) (sought n (t .key + 1) (t .next) end (t .rest) (t .behind) behind (omega arith)))
+      (λ (lt : t .key < key). rw (a, ne-eqb (t .key) key (λ z. omega arith), le-ltb key (t .key) (omega arith), t .value) (sought n (t .key + 1) (t .next) end (t .rest) (t .behind) behind (omega arith)))
       (λ (ge : key ≤ t .key). ⊎-elim
       (λ (gt : key < t .key).
       let v : valueOf all key ≡ none = w ∙ value-there (t .key) key (t .item) (t .rest) (λ z. omega arith) ∙ none-below s (itemAt s d) n (t .key + 1) (t .next) end key (t .rest) (t .behind) (omega arith) in
       let again : pairsAt s (itemAt s d) (suc n) (key + 1) p ≡ got rest end = rw (key-again s (key + 1) p (t .key) (t .at) (t .head) (omega arith), t .value, t .behind) (ap (λ (x : Pairs). got x end) (sym (t .whole))) in
-      rw (v, a, le-ltb (t .key) key ge, ne-eqb (t .key) key (λ z. omega arith)) (refl, record { rest = rest; end = end; reads = again; same = λ k g. same k (omega arith) }))
+      rw (v, a, ne-eqb (t .key) key (λ z. omega arith), lt-ltb key (t .key) gt) (refl, record { rest = rest; end = end; reads = again; same = λ k g. same k (omega arith) }))
       (λ (eq : t .key ≤ key).
       let z : t .key ≡ key = omega arith in
       let v : valueOf all key ≡ some (t .item) = w ∙ value-here (t .key) key (t .item) (t .rest) z in
-      rw (v, a, le-ltb (t .key) key ge, eq-eqb (t .key) key z) (refl, t .next, t .value, record { rest = t .rest; end = end; reads = ap (λ (j : ℕ). pairsAt s (itemAt s d) n (j + 1) (t .next)) (sym z) ∙ t .behind; same = λ k g. behind k (omega arith) }))
+      rw (v, a, eq-eqb (t .key) key z) (refl, t .next, t .value, record { rest = t .rest; end = end; reads = ap (λ (j : ℕ). pairsAt s (itemAt s d) n (j + 1) (t .next)) (sym z) ∙ t .behind; same = λ k g. behind k (omega arith) }))
       (below key (t .key)))
       (below (t .key) key)
 
 pub seek-exact : SeekExact
-unfolding seekAt
 seek-exact s d lo p n key all w le = sought s d key all n lo p (w .end) (w .rest) (w .reads) (w .same) le
 
 found-sought : (s : List ℕ) (d key : ℕ) (all : Pairs) (o : Option Item) (w : Stop) → Sought s d all key o w → Finds s d o (foundBy w)

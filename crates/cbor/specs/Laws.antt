@@ -1,4 +1,5 @@
--- What is proved of the definitions, each stated once; proofs/Laws.antt has the proofs. Assumes nothing: these are statements.
+-- What is proved of the definitions, each stated once. The proof of HeadExact is head-exact, in proofs/, and so for the others.
+-- Assumes nothing: these are statements.
 use Prim.Native.Nat.{ℕ, suc, _+_, _^_, _≤_, _<_}
 use mathlib.Core.Path.{_≡_}
 use mathlib.Core.Bool.{true, false}
@@ -7,7 +8,7 @@ use mathlib.Core.List.{List, _++_}
 use mathlib.Core.Option.{Option, some, none}
 use lib.ListN.{length, drop}
 use lib.IntN.{pos, negsuc, _-ℤ_}
-use Rattle.cbor.specs.Bytes.{Bytes, Stands, put, putWhole, pastWhole}
+use Rattle.cbor.specs.Bytes.{numberAt, bytesOf, Bytes, Stands, putWhole, pastWhole}
 use Rattle.cbor.specs.Head.{headBytes, headAt, headLen, Within}
 use Rattle.cbor.specs.Item.{Item, Pairs, Got, got, itemAt, pairsAt, encode, Ok, OkPairs, levels, payloadOf}
 use Rattle.cbor.specs.Int.{intOf, intAt}
@@ -15,6 +16,10 @@ use Rattle.cbor.specs.Find.{valueOf, seekAt, findAt}
 use Rattle.cbor.specs.declared.heads.Head.{Head}
 use Rattle.cbor.specs.declared.pairs.Stop.{Stop}
 use Rattle.cbor.specs.declared.pairs.Found.{Found}
+
+-- a number is read exactly where its bytes stand, whatever its width
+abbrev pub NumberExact : Type 0
+NumberExact = (s : List ℕ) → Bytes s → (w p v : ℕ) → p + w ≤ length s → (numberAt s p w ≡ v) ↔ ((v < 256 ^ w) × Stands s p (bytesOf w v) (p + w))
 
 -- a head is as long as headLen says
 abbrev pub HeadLength : Type 0
@@ -98,3 +103,11 @@ PutsJoin = (s a b : List ℕ) (p : ℕ) → p + length (a ++ b) ≤ length s →
 -- what is written stands there
 abbrev pub PutStands : Type 0
 PutStands = (s bs : List ℕ) (p : ℕ) → p + length bs ≤ length s → Stands (putWhole s p bs) p bs (pastWhole s p bs)
+
+-- a head that is written reads back
+abbrev pub HeadWritten : Type 0
+HeadWritten = (s : List ℕ) (p m v : ℕ) → Within m v → v < 2 ^ 64 → p + headLen v ≤ length s → headAt (putWhole s p (headBytes m v)) p ≡ Head.Is m v (p + headLen v)
+
+-- an item that is written reads back
+abbrev pub ItemWritten : Type 0
+ItemWritten = (s : List ℕ) (d p : ℕ) (i : Item) → Ok i d → p + length (encode i) ≤ length s → itemAt (putWhole s p (encode i)) d p ≡ got i (p + length (encode i))

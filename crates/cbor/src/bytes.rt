@@ -6,7 +6,7 @@ ghost use lib.Dec.{leb};
 ghost use Rattle.cbor.specs.Bytes.{numberAt, bytesOf, put, putWhole, pastWhole};
 
 // The byte `i` places behind `at`; 0 past the end.
-pub fn byte(s: &[u8], at: usize, i: usize) -> u64
+pub(crate) fn byte(s: &[u8], at: usize, i: usize) -> u64
     ensures { λ r. ⌜ (r ≡ getD (now (s .entry)) (at + i) 0) × (r < 256) ⌝ }
 {
     if s.len() <= at {
@@ -19,7 +19,7 @@ pub fn byte(s: &[u8], at: usize, i: usize) -> u64
 }
 
 // The number that `width` bytes at `at` say.
-pub fn number(s: &[u8], at: usize, width: usize) -> u64
+pub(crate) fn number(s: &[u8], at: usize, width: usize) -> u64
     requires { ⌜ width ≤ 8 ⌝ }
     ensures { λ r. ⌜ r ≡ numberAt (now (s .entry)) at width ⌝ }
 {
@@ -40,7 +40,7 @@ pub fn get_u32(s: &[u8], at: usize) -> u64
 }
 
 // Stores the low `width` bytes of `v`.
-pub fn put_number(out: &mut [u8], at: usize, width: usize, v: u64)
+pub(crate) fn put_number(out: &mut [u8], at: usize, width: usize, v: u64)
     requires { ⌜ at + width ≤ length (now out) ⌝ }
     ensures { λ _. ⌜ now (out .exit) ≡ put (now (out .entry)) at (bytesOf width v) ⌝ }
 {
@@ -54,7 +54,7 @@ pub fn put_number(out: &mut [u8], at: usize, width: usize, v: u64)
 }
 
 // Whether `n` bytes fit at `at` into `len`.
-pub fn has_room(len: usize, at: usize, n: usize) -> bool
+pub(crate) fn has_room(len: usize, at: usize, n: usize) -> bool
     ensures { λ r. ⌜ r ≡ leb (at + n) len ⌝ }
 {
     if len < at {

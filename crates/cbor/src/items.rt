@@ -22,7 +22,7 @@ pub enum Key {
 }
 
 // The key at `at`: any if it is the first, else above the last.
-pub fn read_key(s: &[u8], at: usize, first: bool, last: u64) -> Key
+pub(crate) fn read_key(s: &[u8], at: usize, first: bool, last: u64) -> Key
     ensures { λ r. ⌜ r ≡ keyAt (now (s .entry)) (least first last) at ⌝ }
 {
     match read_head(s, at) {

@@ -6,7 +6,7 @@ use crate::items::Key;
 use crate::items::check_item;
 use crate::items::read_key;
 ghost use mathlib.Core.Path.{_≡_};
-ghost use Rattle.cbor.specs.Find.{seekAt, findAt};
+ghost use Rattle.cbor.specs.Find.{stepAt, stopped, seekAt, findAt};
 
 // Where a walk over pairs stopped. There: at the value, `left` pairs behind it. Not there: at the first pair not passed, `left` counting it.
 pub struct Stop {
@@ -21,6 +21,44 @@ pub enum Found {
     Nothing,
 }
 
+// A look at one pair: its value where the key is the one sought, the position past it where its key is smaller, or a halt.
+pub enum Step {
+    There(usize),
+    Past(usize),
+    Halt,
+}
+
+// Looks at the pair at `at`, whose value has at most `depth` levels.
+fn look(s: &[u8], at: usize, key: u64, depth: u64) -> Step
+    ensures { λ r. ⌜ r ≡ stepAt (now (s .entry)) depth key at ⌝ }
+{
+    match read_key(s, at, true, 0) {
+        Key::Bad => Step::Halt,
+        Key::Is(k, next) => {
+            if k == key {
+                return Step::There(next);
+            }
+            if key < k {
+                return Step::Halt;
+            }
+            match check_item(s, next, depth) {
+                End::Bad => Step::Halt,
+                End::At(e) => Step::Past(e),
+            }
+        }
+    }
+}
+
+fn stopping(there: bool, at: usize, left: u64) -> Stop
+    ensures { λ r. ⌜ r ≡ stopped there at left ⌝ }
+{
+    Stop {
+        there: there,
+        at: at,
+        left: left,
+    }
+}
+
 // Walks from a pair, with `left` pairs left, to the key or to the first larger one; values have at most `depth` levels.
 pub fn seek(s: &[u8], at: usize, left: u64, key: u64, depth: u64) -> Stop
     ensures { λ r. ⌜ r ≡ seekAt (now (s .entry)) depth key left at ⌝ }
@@ -28,50 +66,20 @@ pub fn seek(s: &[u8], at: usize, left: u64, key: u64, depth: u64) -> Stop
     let mut p = at;
     let mut n = left;
     while n != 0 {
-        match read_key(s, p, true, 0) {
-            Key::Bad => {
-                return Stop {
-                    there: false,
-                    at: p,
-                    left: n,
-                };
+        match look(s, p, key, depth) {
+            Step::Halt => {
+                return stopping(false, p, n);
             }
-            Key::Is(k, next) => {
-                if key < k {
-                    return Stop {
-                        there: false,
-                        at: p,
-                        left: n,
-                    };
-                }
-                if k == key {
-                    return Stop {
-                        there: true,
-                        at: next,
-                        left: n - 1,
-                    };
-                }
-                match check_item(s, next, depth) {
-                    End::Bad => {
-                        return Stop {
-                            there: false,
-                            at: p,
-                            left: n,
-                        };
-                    }
-                    End::At(e) => {
-                        p = e;
-                        n -= 1;
-                    }
-                }
+            Step::There(value) => {
+                return stopping(true, value, n - 1);
+            }
+            Step::Past(e) => {
+                p = e;
+                n -= 1;
             }
         }
     }
-    Stop {
-        there: false,
-        at: p,
-        left: 0,
-    }
+    stopping(false, p, 0)
 }
 
 // The position of the value under a key of the map at `at`, which has at most `depth` levels.

@@ -1,5 +1,4 @@
 use native.Mathlib.Omega.{arith}
-use borrow.Author.Needs.{needs}
 use Rattle.cbor.proofs.bytes.get_u32.Statement.{statement}
 use Rattle.cbor.proofs.bytes.get_u32.Tie as tie
 

@@ -1,8 +1,4 @@
-use mathlib.Core.Path.{refl, sym, ap, _∙_}
-use native.Mathlib.Omega.{arith}
 use borrow.Author.Needs.{needs}
-use borrow.Author.Tests.{lt-ltb, le-ltb, le-leb, lt-leb, eq-eqb, ne-eqb}
-use Rattle.cbor.specs.Head.{argAt}
 use Rattle.cbor.proofs.HeadSteps.{arg-low, arg-wide, arg-long, arg-short}
 use Rattle.cbor.proofs.heads.argument.Statement.{statement}
 use Rattle.cbor.proofs.heads.argument.Tie as tie

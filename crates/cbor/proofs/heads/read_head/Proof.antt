@@ -1,4 +1,4 @@
-use Prim.Native.Nat.{ℕ, _+_, _/_}
+use Prim.Native.Nat.{_/_}
 use mathlib.Core.Path.{sym, ap, _∙_}
 use borrow.Author.Needs.{needs}
 use borrow.Author.Tests.{le-leb}

@@ -1,6 +1,6 @@
 use mathlib.Core.Path.{refl}
 use native.Mathlib.Omega.{arith}
-use borrow.Author.Tests.{eq-eqb, ne-eqb}
+use borrow.Author.Tests.{ne-eqb}
 use Rattle.cbor.specs.Head.{widthOf}
 use Rattle.cbor.proofs.heads.width_of.Statement.{statement}
 use Rattle.cbor.proofs.heads.width_of.Tie as tie

@@ -1,5 +1,3 @@
-use Prim.Native.Nat.{ℕ}
-use mathlib.Core.Path.{sym, ap, _∙_}
 use borrow.Author.Needs.{needs}
 use Rattle.cbor.specs.Item.{least}
 use Rattle.cbor.proofs.KeySteps.{no-head, no-key, key-first, key-next, key-order}
