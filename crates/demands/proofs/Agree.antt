@@ -2,20 +2,20 @@
 use mathlib.Core.Path.{_≡_, refl, sym, ap, _∙_, subst}
 use mathlib.Core.Logic.{_≢_, _⊎_, inl, inr}
 use mathlib.Core.Bool.{Bool, true, false, cond, not, _&&_}
-use mathlib.Core.List.{List, [], _∷_}
-use mathlib.Core.Option.{Option, none, some}
+use mathlib.Core.List.{List, _∷_}
+use mathlib.Core.Option.{none}
 use Prim.Native.Nat.{ℕ, _≤_, _<_}
 use native.Mathlib.Omega.{arith}
-use lib.Dec.{ltb, leb, eqb}
+use lib.Dec.{eqb}
 use lib.ListN.{length, set}
 use lib.Seq.{set-out}
-use borrow.Author.Tests.{ne-eqb, eqb-true, leb-true, leb-false}
+use borrow.Author.Tests.{ne-eqb, eqb-true}
 use Rattle.messages.specs.declared.Command.{Command}
 use Rattle.device.specs.declared.Zone.{Zone}
 use Rattle.device.specs.declared.Settings.{Settings}
 use Rattle.device.specs.declared.Change.{Change}
 use Rattle.device.specs.Sizes.{slots, helds, words}
-use Rattle.device.specs.Zones.{freeZone, newZone, linked, slotOf, joined, zoneOf, anyUp}
+use Rattle.device.specs.Zones.{freeZone, newZone, linked, slotOf, zoneOf, anyUp}
 use Rattle.device.specs.Words.{clockOf, sinceOf, overrideOf, settingsOf, zonesOf, applied, after}
 use Rattle.device.specs.Holds.{situationOf, valuesAt}
 use Rattle.device.specs.Calls.{sinceAfter, zoneChange, headChange}
@@ -24,8 +24,8 @@ use Rattle.device.proofs.Lens.{zones-length}
 use Rattle.device.proofs.Effects.{applied-length, applied-settings, applied-clock, applied-since, applied-override, applied-zones}
 use Rattle.demands.specs.History.{Told, joins, leaves, links, commands, overrides, passes, Entry, Log, about, newest, saysOverride, saysClock, clockBy, overrideBy, joinedBy, recordBy, zonesBy, sinceBy, situationBy, kept}
 use Rattle.demands.proofs.Says.{joined-other, record-other, joined-join, record-join, joined-leave, joined-link, record-link, joined-command, record-command, record-size}
-use Rattle.demands.proofs.Claims.{Alike, anyUp-same, values-same}
-use Rattle.demands.proofs.Same.{at, Same, Moves, Found, found, slot-id, same-set, same-log, slots-within, history-within, slots-one}
+use Rattle.demands.proofs.Claims.{anyUp-same, values-same}
+use Rattle.demands.proofs.Same.{Same, Moves, Found, found, slot-mine, same-set, same-log, slots-within, history-within, slots-one}
 
 never : {X : Type 0} → _≡_ {A = Bool} false true → X
 never e = absurd (let w : _≡_ {A = ℕ} 0 1 = cc in omega arith)
@@ -130,7 +130,7 @@ agree-join s ws h z k t a low high n p =
       low = low;
       high = high;
       place = p;
-      mine = inl (slot-id s (zonesOf ws) h (a .zones) 0 p);
+      mine = inl (slot-mine s (zonesOf ws) h (a .zones) 0 p);
       alone = λ j q e. never (sym n ∙ subst (λ (y : ℕ). joinedBy h y ≡ true) e (a .zones .there j q (omega arith) .told));
       others = λ y q. let f = ne-eqb z y (λ e. q (sym e)) in (joined-other h y t (joins z k) f, record-other s h y t (joins z k) f);
       new = inr (joined-join h z t k, sym (record-join s h z t k));

@@ -1,6 +1,6 @@
 -- Each call's number is that of the first test that holds; a refusal leaves the device as it was.
-use mathlib.Core.Path.{_≡_, refl, sym, ap, _∙_, subst}
-use mathlib.Core.Logic.{_≢_, _⊎_, inl, inr}
+use mathlib.Core.Path.{_≡_, refl, sym, _∙_}
+use mathlib.Core.Logic.{_≢_}
 use mathlib.Core.Bool.{Bool, true, false, cond, not, _&&_}
 use mathlib.Core.List.{List, [], _∷_, _++_}
 use mathlib.Core.Option.{Option, none, some, bind}
@@ -18,15 +18,15 @@ use Rattle.frames.specs.Fields.{mapIn}
 use Rattle.frames.specs.Requests.{Envelope, envelopeIn, servedAt, servedCommand, commandIn, withCommand, fromEnvelope, fromPayload, readRequest}
 use Rattle.frames.specs.Writing.{writingNumber}
 use Rattle.frames.specs.declared.requests.Reading.{Reading}
-use Rattle.device.specs.declared.Settings.{Settings}
 use Rattle.device.specs.declared.Change.{Change}
-use Rattle.device.specs.Zones.{joined, zoneOf}
+use Rattle.device.specs.Zones.{any, joined, zoneOf}
 use Rattle.device.specs.Sizes.{words}
-use Rattle.device.specs.Words.{clockOf, overrideOf, settingsOf, zonesOf, applied, after}
-use Rattle.device.specs.Refusals.{firstOf}
+use Rattle.device.specs.Words.{clockOf, overrideOf, settingsOf, zonesOf, after}
+use Rattle.device.specs.Refusals.{firstOf, Numbered}
 use Rattle.device.specs.Calls.{zoneChange, headChange, joinNumber, joinAfter, leaveNumber, leaveAfter, linkNumber, linkAfter, overrideNumber, overrideAfter, clearNumber, clearAfter, askNumber, askAfter}
 use Rattle.device.specs.Commands.{commandTests, commandNumber, commandAfter}
 use Rattle.device.proofs.Effects.{applied-clock}
+use Rattle.device.proofs.FirstOf.{refused-exactly, accepted-exactly}
 use Rattle.planner.specs.Plan.{planNumber, planAfter}
 use Rattle.kernel.specs.Frame.{responseFrame, numberFrom, frameNumber, obeyedBy, frameAfter}
 use Rattle.demands.specs.Run.{Call, join, leave, lost, back, override, clear, ask, plan, frame, number, next}
@@ -152,5 +152,41 @@ accepted-clock ws (ask t) e l = after-clock ws (askNumber ws t) _ e l
 accepted-clock ws (plan t room) e l = after-clock ws (planNumber ws t room) _ e l
 accepted-clock ws (frame z t bytes room) e l = unfold frameAfter frameNumber in rw e (reading-clock ws z t room (readRequest bytes) (refuses bytes) e l)
 
+-- no test has the number 0
+parameter-numbered : (ws : List ℕ) (z t room : ℕ) (e : Envelope) (o : Option Command) → Numbered (parameterTests ws z t room e o)
+unfolding parameterTests requestTests any
+parameter-numbered ws z t room e none = refl
+parameter-numbered ws z t room e (some c) = refl
+
+envelope-numbered : (ws : List ℕ) (z t room : ℕ) (o : Option Envelope) → Numbered (envelopeTests ws z t room o)
+unfolding envelopeTests any
+envelope-numbered ws z t room none = refl
+envelope-numbered ws z t room (some e) = parameter-numbered ws z t room e (commandIn (e .command) (e .parameters))
+
+payload-numbered : (ws : List ℕ) (z t room : ℕ) (o : Option Item) → Numbered (payloadTests ws z t room o)
+unfolding payloadTests any
+payload-numbered ws z t room none = refl
+payload-numbered ws z t room (some i) = envelope-numbered ws z t room (bind (mapIn i) envelopeIn)
+
+numbered : (ws : List ℕ) (c : Call) → Numbered (tests ws c)
+unfolding tests frameTests any
+numbered ws (join z k t) = refl
+numbered ws (leave z t) = refl
+numbered ws (lost z t) = refl
+numbered ws (back z t) = refl
+numbered ws (override r d t) = refl
+numbered ws (clear t) = refl
+numbered ws (ask t) = refl
+numbered ws (plan t room) = refl
+numbered ws (frame z t bytes room) = payload-numbered ws z t room (payloadOf (payloadIn bytes))
+
 pub answers : (ws : List ℕ) (c : Call) → Answers ws c
-answers ws c = record { first = first-same ws c; refused = refused-same ws c; accepted = accepted-clock ws c }
+answers ws c =
+    let e = first-same ws c in
+    let a = accepted-exactly (tests ws c) (numbered ws c) in
+    record {
+      refused = λ n p. let r = refused-exactly (tests ws c) n p in (λ q. r .0 (sym e ∙ q), λ q. e ∙ r .1 q);
+      accepted = (λ q. a .0 (sym e ∙ q), λ q. e ∙ a .1 q);
+      unchanged = refused-same ws c;
+      clock = accepted-clock ws c;
+    }

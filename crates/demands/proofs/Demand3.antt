@@ -1,27 +1,26 @@
 -- Demand 3, proved.
-use mathlib.Core.Path.{_≡_, refl, sym, ap, _∙_, subst, fun-ext}
+use mathlib.Core.Path.{_≡_, refl, sym, ap, subst, fun-ext}
 use mathlib.Core.Bool.{Bool, true, false, cond, _||_}
 use mathlib.Core.List.{List}
-use Prim.Native.Nat.{ℕ, _≤_, _<_}
+use Prim.Native.Nat.{ℕ, _≤_}
 use native.Mathlib.Omega.{arith}
-use lib.Dec.{ltb, leb, eqb}
+use lib.Dec.{ltb, leb}
 use lib.IntN.{ℤ}
 use lib.ListN.{length}
 use borrow.Author.Tests.{leb-false}
 use Rattle.cbor.specs.Bytes.{putWhole}
 use Rattle.frames.specs.Requests.{readRequest}
 use Rattle.kernel.specs.Frame.{frameOut}
-use Rattle.device.specs.declared.Settings.{Settings}
 use Rattle.device.specs.Sizes.{end}
 use Rattle.device.specs.Words.{clockOf, zonesOf}
 use Rattle.device.specs.Holds.{situationOf, valuesAt}
 use Rattle.device.specs.Refusals.{firstOf, late}
 use Rattle.planner.specs.Rows.{last, plan, IsPlan}
-use Rattle.planner.specs.Plan.{planOf, numbersOf, front, planNumber, planAnswer, planSlice}
+use Rattle.planner.specs.Plan.{planOf, planNumber, planAnswer, planSlice}
 use Rattle.planner.proofs.IsPlan.{plan-is, plan-unique}
 use Rattle.planner.proofs.Walk.{planOf-few}
-use Rattle.demands.specs.Run.{Call, run}
-use Rattle.demands.specs.History.{startedWith, history, told, InPairs}
+use Rattle.demands.specs.Run.{run}
+use Rattle.demands.specs.History.{startedWith, history, told}
 use Rattle.demands.specs.Demands.{Lists, Demand3}
 use Rattle.demands.proofs.Count.{at-most}
 use Rattle.demands.proofs.Agree.{agree-values}

@@ -1,6 +1,5 @@
 pub mod Lists
 pub mod Claims
-pub mod Table
 pub mod Says
 pub mod Same
 pub mod Count

@@ -1,16 +1,15 @@
 -- What a log says of a zone is said by that zone's own calls since it last joined.
-use mathlib.Core.Path.{_≡_, refl, sym, ap, _∙_, subst}
-use mathlib.Core.Logic.{_⊎_, inl, inr, ⊎-elim}
+use mathlib.Core.Path.{_≡_, refl, ap}
+use mathlib.Core.Logic.{_⊎_, inl, inr}
 use mathlib.Core.Bool.{Bool, true, false, cond}
-use mathlib.Core.List.{List, [], _∷_, List·Memᴰ, List·Memᴰ·head, List·Memᴰ·tail}
+use mathlib.Core.List.{[], _∷_, List·Memᴰ·head, List·Memᴰ·tail}
 use mathlib.Core.Option.{Option, none, some, Option·getD}
-use Prim.Native.Nat.{ℕ, _<_}
+use Prim.Native.Nat.{ℕ}
 use native.Mathlib.Omega.{arith}
 use lib.Dec.{eqb}
 use borrow.Author.Tests.{eqb-true}
 use Rattle.messages.specs.declared.Command.{Command}
 use Rattle.device.specs.declared.Held.{Held}
-use Rattle.device.specs.declared.Zone.{Zone}
 use Rattle.device.specs.declared.Settings.{Settings}
 use Rattle.device.specs.declared.Action.{Action}
 use Rattle.device.specs.Sizes.{helds}
@@ -18,8 +17,8 @@ use Rattle.device.specs.Zones.{nothing}
 use Rattle.device.specs.Commands.{action, untilOf, durationOf}
 use Rattle.demands.specs.History.{Told, joins, leaves, links, commands, overrides, passes, Entry, Log, about, newest, of, saysRank, saysUp, said, saysHeld, upBy, heldBy, recordBy}
 use Rattle.demands.specs.ReleasedSlot.{isJoin, ownSince, SetTogether}
-use Rattle.demands.proofs.Lists.{upTo-same}
-use Rattle.demands.proofs.Says.{Silent, silent}
+use Rattle.device.proofs.Runs.{upTo-cong}
+use Rattle.demands.proofs.Says.{silent}
 
 -- a question that only zone z's calls speak to, and every join of it does
 record Own {A : Type 0} (z : ℕ) (says : ℕ → Told → Option A) : Type 0 where
@@ -67,7 +66,7 @@ own-held s z q = record { others = λ t e p. silent z t e p .held s q; joined = 
 pub record-own : (s : Settings) (h : Log) (z : ℕ) → recordBy s (ownSince z h) z ≡ recordBy s h z
 unfolding recordBy upBy heldBy
 record-own s h z =
-    let l = upTo-same (λ q. newest (saysHeld s z q) nothing (ownSince z h)) (λ q. newest (saysHeld s z q) nothing h) helds (λ q k. own-newest z (saysHeld s z q) nothing (own-held s z q) h) in
+    let l = upTo-cong (λ q. newest (saysHeld s z q) nothing (ownSince z h)) (λ q. newest (saysHeld s z q) nothing h) helds (λ q k. own-newest z (saysHeld s z q) nothing (own-held s z q) h) in
     λ i. record { id = z; rank = own-newest z (saysRank z) 0 (own-rank z) h i; up = own-newest z (saysUp z) false (own-up z) h i; held = l i }
 
 -- a value and its end are of one command, or nothing is held
@@ -97,7 +96,7 @@ set-together s (e ∷ h) z q = go (e .0) (e .1) (set-together s h z q)
 
     commanding : (t y : ℕ) (c : Command) (b : Bool) → eqb y z ≡ b → (old ≡ nothing) ⊎ SetTogether s h z q old
         → (Option·getD (cond b (said (action s c q) (untilOf t (durationOf c))) none) old ≡ nothing)
-          ⊎ SetTogether s ((t, commands y c) ∷ h) z q (Option·getD (cond b (said (action s c q) (untilOf t (durationOf c))) none) old)
+        ⊎ SetTogether s ((t, commands y c) ∷ h) z q (Option·getD (cond b (said (action s c q) (untilOf t (durationOf c))) none) old)
     commanding t y c true p ih = rw (eqb-true y z p) (told t c (action s c q) refl ih)
     commanding t y c false p ih = older (t, commands y c) ih
 

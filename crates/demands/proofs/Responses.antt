@@ -1,21 +1,20 @@
 -- The output buffer beside a frame's number: a response with that status, or nothing.
-use mathlib.Core.Path.{_≡_, refl, sym, ap, _∙_, subst}
-use mathlib.Core.Logic.{_⊎_, inl, inr}
-use mathlib.Core.Bool.{Bool, true, false, cond, not, _&&_, _||_}
-use mathlib.Core.List.{List, []}
-use Prim.Native.Nat.{ℕ, _≤_}
+use mathlib.Core.Path.{_≡_, refl, sym, _∙_}
+use mathlib.Core.Bool.{Bool, true, false, cond, not}
+use mathlib.Core.List.{List}
+use Prim.Native.Nat.{ℕ}
 use native.Mathlib.Omega.{arith}
 use native.Mathlib.Nat.{zero-add}
 use lib.Dec.{leb, eqb}
 use lib.ListN.{length}
 use lib.Dec.{leb·zero}
-use borrow.Author.Tests.{eqb-true, eqb-false}
+use borrow.Author.Tests.{eqb-true}
 use Rattle.cbor.specs.Bytes.{put, putWhole}
 use Rattle.messages.specs.Refusals
 use Rattle.messages.specs.declared.Request.{Request}
 use Rattle.frames.specs.Requests.{readRequest}
-use Rattle.frames.specs.Responses.{isStatus, statusAlone, responseItem}
-use Rattle.frames.specs.Writing.{itemFrame, writingNumber}
+use Rattle.frames.specs.Responses.{isStatus, statusAlone}
+use Rattle.frames.specs.Writing.{writingNumber}
 use Rattle.frames.specs.declared.requests.Reading.{Reading}
 use Rattle.device.specs.Zones.{joined, zoneOf}
 use Rattle.device.specs.Words.{clockOf, overrideOf, settingsOf, zonesOf}

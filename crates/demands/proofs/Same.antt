@@ -2,20 +2,21 @@
 use mathlib.Core.Path.{_≡_, refl, sym, ap, _∙_, subst}
 use mathlib.Core.Logic.{_≢_, _⊎_, inl, inr, ⊎-elim}
 use mathlib.Core.Bool.{Bool, true, false, cond, _&&_}
-use mathlib.Core.List.{List, [], _∷_, List·Memᴰ, List·Memᴰ·head, List·Memᴰ·tail, List·Memᴰ·cases-cons, List·Memᴰ·not-nil, Memᴰ·cast}
+use mathlib.Core.List.{List, _∷_, List·Memᴰ, List·Memᴰ·head, List·Memᴰ·tail, List·Memᴰ·cases-cons, List·Memᴰ·not-nil, Memᴰ·cast}
 use Prim.Native.Nat.{ℕ, zero, suc, _≤_, _<_}
 use native.Mathlib.Omega.{arith}
 use native.Mathlib.Decide.{ℕ-discrete}
 use lib.Dec.{ltb, eqb}
 use lib.ListN.{length, getD, set, length-set}
 use lib.Seq.{getD-set-same, getD-set-other}
-use borrow.Author.Tests.{ltb-true, ltb-false, lt-ltb, le-ltb, eqb-true, eq-eqb, ne-eqb}
+use borrow.Author.Tests.{ltb-true, ltb-false, eq-eqb, ne-eqb}
 use Rattle.device.specs.declared.Zone.{Zone}
 use Rattle.device.specs.declared.Settings.{Settings}
 use Rattle.device.specs.Sizes.{slots}
 use Rattle.device.specs.Zones.{freeZone, isJoined, slotOf, joined, zoneOf}
 use Rattle.demands.specs.History.{Log, joinedBy, recordBy, zonesTo, zonesBy}
-use Rattle.demands.proofs.Lists.{first-passes, first-least, getD-mem, mem-getD}
+use Rattle.device.proofs.Slots.{slot-id}
+use Rattle.demands.proofs.Lists.{first-least, getD-mem, mem-getD}
 use Rattle.demands.proofs.Claims.{Within, OneId}
 
 never : {X : Type 0} → _≡_ {A = Bool} false true → X
@@ -46,9 +47,8 @@ pub record Found (s : Settings) (zs : List Zone) (h : Log) (z : ℕ) : Type 0 wh
   pub whole : zoneOf zs z ≡ recordBy s h z
 
 module _ (s : Settings) (zs : List Zone) (h : Log) (k : Same s zs h) where
-  pub slot-id : (z : ℕ) → slotOf zs z < slots → at zs (slotOf zs z) .id ≡ z
-  unfolding slotOf
-  slot-id z p = eqb-true _ z (first-passes (λ x. eqb (x .id) z) zs freeZone (omega (arith, k .size)))
+  pub slot-mine : (z : ℕ) → slotOf zs z < slots → at zs (slotOf zs z) .id ≡ z
+  slot-mine z p = slot-id zs z (omega (arith, k .size))
 
   slot-least : (z i : ℕ) → i < slots → at zs i .id ≡ z → slotOf zs z ≤ i
   unfolding slotOf
@@ -59,7 +59,7 @@ module _ (s : Settings) (zs : List Zone) (h : Log) (k : Same s zs h) where
   found z e =
       let b = k .back z e in
       let p : slotOf zs z < slots = omega (arith, slot-least z (b .1) (b .2) (b .3), b .2) in
-      let m = slot-id z p in
+      let m = slot-mine z p in
       let w = k .there (slotOf zs z) p (omega (arith, b .0)) .whole in
       record { low = b .0; place = p; mine = m; whole = subst (λ (i : ℕ). at zs (slotOf zs z) ≡ recordBy s h i) m w }
 
@@ -75,7 +75,7 @@ module _ (s : Settings) (zs : List Zone) (h : Log) (k : Same s zs h) where
       go false e true p false q = refl
       go false e true p true q =
           let i = ltb-true (slotOf zs z) slots q in
-          let m = slot-id z i in
+          let m = slot-mine z i in
           let t = k .there (slotOf zs z) i (omega (arith, ltb-true 0 z p)) .told in
           never (sym e ∙ subst (λ (y : ℕ). joinedBy h y ≡ true) m t)
 

@@ -1,23 +1,20 @@
 -- What one accepted call more says of a zone: nothing unless it is of that zone.
 use mathlib.Core.Path.{_≡_, refl, sym, ap, _∙_}
-use mathlib.Core.Bool.{Bool, true, false, cond}
-use mathlib.Core.List.{List, [], _∷_}
-use mathlib.Core.Option.{Option, none, some, Option·getD}
+use mathlib.Core.Bool.{Bool, true, false}
+use mathlib.Core.List.{_∷_}
+use mathlib.Core.Option.{Option, none, Option·getD}
 use Prim.Native.Nat.{ℕ, _<_}
-use native.Mathlib.Omega.{arith}
-use lib.Dec.{eqb}
-use lib.ListN.{length, getD}
+use lib.ListN.{length}
 use borrow.Author.Tests.{eq-eqb}
 use Rattle.messages.specs.declared.Command.{Command}
 use Rattle.device.specs.declared.Held.{Held}
-use Rattle.device.specs.declared.Zone.{Zone}
 use Rattle.device.specs.declared.Settings.{Settings}
 use Rattle.device.specs.declared.Action.{Action}
 use Rattle.device.specs.Sizes.{helds}
-use Rattle.device.specs.Zones.{upTo, nothing, newZone, linked, holding, heldOf}
+use Rattle.device.specs.Zones.{upTo, nothing, newZone, linked, heldOf}
 use Rattle.device.specs.Commands.{action, untilOf, durationOf, done, obeyed}
 use Rattle.demands.specs.History.{Told, joins, leaves, links, commands, overrides, passes, Log, newest, of, saysJoined, saysRank, saysUp, said, saysHeld, joinedBy, upBy, heldBy, recordBy, about}
-use Rattle.demands.proofs.Lists.{length-upTo, getD-upTo, upTo-same}
+use Rattle.device.proofs.Runs.{length-upTo, getD-upTo, upTo-cong}
 
 -- a call that is not of zone z says nothing of it
 pub record Silent (z t : ℕ) (e : Told) : Type 0 where
@@ -49,7 +46,7 @@ record-other s h z t e p =
     let n = silent z t e p in
     let r = passed-over (saysRank z) 0 h t e (n .rank) in
     let u = passed-over (saysUp z) false h t e (n .up) in
-    let l = upTo-same (λ q. newest (saysHeld s z q) nothing ((t, e) ∷ h)) (λ q. newest (saysHeld s z q) nothing h) helds (λ q k. passed-over (saysHeld s z q) nothing h t e (n .held s q)) in
+    let l = upTo-cong (λ q. newest (saysHeld s z q) nothing ((t, e) ∷ h)) (λ q. newest (saysHeld s z q) nothing h) helds (λ q k. passed-over (saysHeld s z q) nothing h t e (n .held s q)) in
     λ i. record { id = z; rank = r i; up = u i; held = l i }
 
 -- a call of zone z
@@ -94,8 +91,8 @@ held-of s h z q k = getD-upTo (heldBy s h z) helds q nothing k
 pub record-command : (s : Settings) (h : Log) (z t : ℕ) (c : Command) → recordBy s ((t, commands z c) ∷ h) z ≡ obeyed s c t (recordBy s h z)
 unfolding recordBy upBy newest of saysRank saysUp obeyed
 record-command s h z t c =
-    let l = upTo-same (heldBy s ((t, commands z c) ∷ h) z) (λ q. done (action s c q) (untilOf t (durationOf c)) (heldOf (recordBy s h z) q)) helds
-            (λ q k. held-command s h z t q c ∙ ap (done (action s c q) (untilOf t (durationOf c))) (sym (held-of s h z q k))) in
+    let l = upTo-cong (heldBy s ((t, commands z c) ∷ h) z) (λ q. done (action s c q) (untilOf t (durationOf c)) (heldOf (recordBy s h z) q)) helds
+    (λ q k. held-command s h z t q c ∙ ap (done (action s c q) (untilOf t (durationOf c))) (sym (held-of s h z q k))) in
     λ i. record { id = z; rank = newest (saysRank z) 0 h; up = newest (saysUp z) false h; held = l i }
 
 pub record-size : (s : Settings) (h : Log) (z : ℕ) → length (recordBy s h z .held) ≡ helds

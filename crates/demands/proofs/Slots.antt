@@ -1,19 +1,17 @@
 -- Each slot of a device that calls lead to holds what its own zone's calls say.
 use mathlib.Core.Path.{_≡_, refl, sym, ap, _∙_, subst}
-use mathlib.Core.Logic.{_⊎_, inl, inr, ⊎-elim}
-use mathlib.Core.Bool.{true}
+use mathlib.Core.Logic.{_⊎_}
 use mathlib.Core.List.{List}
 use Prim.Native.Nat.{ℕ, _≤_, _<_}
 use native.Mathlib.Omega.{arith}
-use Rattle.device.specs.declared.Held.{Held}
 use Rattle.device.specs.declared.Zone.{Zone}
 use Rattle.device.specs.declared.Settings.{Settings}
 use Rattle.device.specs.Sizes.{slots, helds}
-use Rattle.device.specs.Zones.{freeZone, nothing, isJoined, heldOf}
-use Rattle.device.specs.Words.{zonesOf, zoneAt}
+use Rattle.device.specs.Zones.{freeZone, nothing, heldOf}
+use Rattle.device.specs.Words.{zoneAt}
 use Rattle.device.proofs.Lens.{zones-at}
 use Rattle.demands.specs.Run.{Call, run}
-use Rattle.demands.specs.History.{Log, recordBy, heldBy, history, startedWith, InPairs}
+use Rattle.demands.specs.History.{Log, recordBy, history, startedWith, InPairs}
 use Rattle.demands.specs.ReleasedSlot.{ownSince, SetTogether, ReleasedSlot}
 use Rattle.demands.proofs.Says.{held-of}
 use Rattle.demands.proofs.Own.{record-own, set-together}

@@ -2,9 +2,9 @@
 use mathlib.Core.Path.{_≡_, refl, sym, ap, _∙_, subst, fun-ext}
 use mathlib.Core.Bool.{Bool, true, false, cond, not, _&&_, _||_}
 use mathlib.Core.List.{List, [], _∷_}
-use Prim.Native.Nat.{ℕ, _≤_, _<_}
+use Prim.Native.Nat.{ℕ, _≤_}
 use native.Mathlib.Omega.{arith}
-use lib.Dec.{ltb, leb, eqb}
+use lib.Dec.{leb, eqb}
 use lib.ListN.{length}
 use borrow.Author.Tests.{eqb-true, ne-eqb, leb-true, leb-false}
 use Rattle.messages.specs.declared.Command.{Command}
@@ -12,18 +12,17 @@ use Rattle.device.specs.declared.Zone.{Zone}
 use Rattle.device.specs.declared.Settings.{Settings}
 use Rattle.device.specs.Sizes.{slots}
 use Rattle.device.specs.Zones.{slotOf, joined, zoneOf, newZone, freeZone, linked}
-use Rattle.device.specs.Words.{clockOf, overrideOf, settingsOf, zonesOf, applied, after}
-use Rattle.device.specs.Holds.{situationOf, valuesAt}
+use Rattle.device.specs.Words.{clockOf, overrideOf, settingsOf, zonesOf, applied}
 use Rattle.device.specs.Refusals.{firstOf, late}
-use Rattle.device.specs.Calls.{zoneChange, headChange, badJoin, joinTests, joinNumber, joinAfter, leaveTests, leaveNumber, leaveAfter, same, linkTests, linkNumber, linkAfter, overrideNumber, overrideAfter, overrideWord, clearNumber, clearAfter, askNumber, askAfter}
-use Rattle.device.specs.Commands.{commandTests, isUnserved, unsupported, isSetLimit, invalid, belowTheMinimum, obeyed, commandNumber, commandAfter, commandAnswer, outcomeWith, isCapped}
+use Rattle.device.specs.Calls.{zoneChange, headChange, badJoin, joinTests, joinNumber, joinAfter, leaveTests, leaveNumber, leaveAfter, same, linkNumber, linkAfter, overrideNumber, overrideAfter, overrideWord, clearNumber, clearAfter, askNumber, askAfter}
+use Rattle.device.specs.Commands.{isUnserved, unsupported, isSetLimit, invalid, belowTheMinimum, obeyed, commandNumber, commandAfter, commandAnswer}
 use Rattle.planner.specs.Plan.{planOf, planNumber, planAfter}
 use Rattle.frames.specs.Requests.{readRequest}
 use Rattle.frames.specs.Writing.{writingNumber}
 use Rattle.frames.specs.declared.requests.Reading.{Reading}
 use Rattle.kernel.specs.Frame.{responseTo, responseFrame, numberFrom, frameNumber, obeyedBy, frameAfter}
 use Rattle.demands.specs.Run.{Call, join, leave, lost, back, override, clear, ask, plan, frame, number, next}
-use Rattle.demands.specs.History.{joins, leaves, links, commands, overrides, passes, Log, clockBy, overrideBy, joinedBy, upBy, recordBy, zonesBy, situationBy, linkNumberBy, commandNumberBy, kept, outcomeBy, responseBy, responseFrameBy, numberFromBy, numberBy, tells, entry}
+use Rattle.demands.specs.History.{joins, leaves, links, commands, overrides, passes, Log, clockBy, overrideBy, joinedBy, upBy, recordBy, zonesBy, linkNumberBy, commandNumberBy, kept, outcomeBy, responseBy, responseFrameBy, numberFromBy, numberBy, tells, entry}
 use Rattle.demands.proofs.Readings.{refuses, writes}
 use Rattle.demands.proofs.Same.{found, joined-same}
 use Rattle.demands.proofs.Count.{full-same}

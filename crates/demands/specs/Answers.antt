@@ -1,11 +1,11 @@
 -- What a call answers, and what it leaves alone: its tests in document 01's order, and the table's column "Response frame".
-use Prim.Native.Nat.{ℕ, _<_}
+use Prim.Native.Nat.{ℕ}
 use mathlib.Core.Path.{_≡_}
-use mathlib.Core.Logic.{_≢_}
+use mathlib.Core.Logic.{_≢_, _↔_}
 use mathlib.Core.Bool.{Bool, true, false, cond, not, _&&_}
 use mathlib.Core.List.{List, [], _∷_, _++_}
 use mathlib.Core.Option.{Option, none, some, bind}
-use lib.Dec.{leb, eqb}
+use lib.Dec.{leb}
 use lib.ListN.{length}
 use Rattle.cbor.specs.Bytes.{putWhole}
 use Rattle.cbor.specs.Item.{Item, payloadOf}
@@ -22,7 +22,7 @@ use Rattle.device.specs.Sizes.{slots, words}
 use Rattle.device.specs.Zones.{slotOf, joined, zoneOf}
 use Rattle.device.specs.Words.{clockOf, overrideOf, settingsOf, zonesOf}
 use Rattle.device.specs.Holds.{situationOf}
-use Rattle.device.specs.Refusals.{firstOf}
+use Rattle.device.specs.Refusals.{FirstAt, NoneHolds}
 use Rattle.device.specs.Calls.{joinTests, leaveTests, linkTests, overrideTests, clearTests, askTests}
 use Rattle.device.specs.Commands.{commandTests}
 use Rattle.planner.specs.Plan.{planTests, planOf}
@@ -78,12 +78,14 @@ timeOf (frame z t bytes room) = t
 
 -- a call to a device in any state
 pub record Answers (ws : List ℕ) (c : Call) : Type 0 where
-  -- the number is that of the first test that holds, and 0 where none does
-  pub first : number ws c ≡ firstOf (tests ws c)
+  -- "A refusal carries the number that the table .. gives for that case, and is not given otherwise": that of the first test that holds
+  pub refused : (n : ℕ) → n ≢ 0 → (number ws c ≡ n) ↔ FirstAt (tests ws c) n
+  -- accepted exactly where no test holds
+  pub accepted : (number ws c ≡ 0) ↔ NoneHolds (tests ws c)
   -- "It changes neither state nor clock"
-  pub refused : number ws c ≢ 0 → next ws c ≡ ws
+  pub unchanged : number ws c ≢ 0 → next ws c ≡ ws
   -- "Every accepted call moves the clock to its time"
-  pub accepted : number ws c ≡ 0 → length ws ≡ words → clockOf (next ws c) ≡ timeOf c
+  pub clock : number ws c ≡ 0 → length ws ≡ words → clockOf (next ws c) ≡ timeOf c
 
 -- the output buffer beside a frame's number: a response with that status, written where it fits whole, or nothing where the table allows none
 pub record Responds (n : ℕ) (before after : List ℕ) (written : ℕ) : Type 0 where

@@ -1,5 +1,5 @@
 -- THE TENDER'S THREE DEMANDS, over the definitions that the contracts of the calls cite. Proved in proofs/Demand1, Demand2 and Demand3.
-use Prim.Native.Nat.{ℕ, _+_, _≤_, _<_}
+use Prim.Native.Nat.{ℕ, _≤_}
 use mathlib.Core.Path.{_≡_}
 use mathlib.Core.Logic.{_≢_}
 use mathlib.Core.List.{List, [], _∷_}
@@ -9,7 +9,10 @@ use Rattle.cbor.specs.Bytes.{putWhole}
 use Rattle.cbor.specs.Laws.{PayloadExact, OneItem}
 use Rattle.frames.specs.Requests.{readRequest}
 use Rattle.device.specs.declared.Settings.{Settings}
-use Rattle.device.specs.Holds.{Situation, situationOf, valueAt, stateAt, valuesAt}
+use Rattle.messages.specs.declared.Command.{Command}
+use Rattle.device.specs.declared.Zone.{Zone}
+use Rattle.device.specs.Holds.{Situation, situationOf, valuesAt}
+use Rattle.device.specs.Table.{Table, Expiry}
 use Rattle.device.specs.Refusals.{firstOf}
 use Rattle.device.specs.Calls.{askNumber, askAnswer}
 use Rattle.device.specs.Start.{badSettings, startNumber, startAfter}
@@ -22,7 +25,6 @@ use Rattle.conformance.specs.Report.{numberOf, reportOf, pairsAfter}
 use Rattle.conformance.specs.Statements.{Exact, Ordered}
 use Rattle.demands.specs.Run.{Call, number, run}
 use Rattle.demands.specs.History.{numberBy, responseFrameBy, startedWith, InPairs, history, told}
-use Rattle.demands.specs.Table.{Rows, Control}
 use Rattle.demands.specs.Answers.{Answers, Responds}
 use Rattle.demands.specs.ReleasedSlot.{ReleasedSlot}
 
@@ -50,8 +52,9 @@ pub record Demand2 : Type 0 where
   pub encoded : OneItem
   -- "With a zone's link up, the limit in each direction is the smallest unexpired one, absent exactly when there is none;
   -- the setpoint is that of the highest-ranked zone that has one; other cases follow document 01"
-  pub rows : (s : Situation) (t d : ℕ) → d < 2 → Rows s t d (valueAt s t d) (valueAt s t (2 + d))
-  pub control : (s : Situation) (t : ℕ) → Control s t (stateAt s t)
+  pub table : (s : Situation) (t : ℕ) → Table s t
+  -- "A value set at second n with duration d > 0 holds while t < n + d; duration 0 or omitted holds until replaced or cleared"
+  pub expiry : (s : Settings) (c : Command) (x : Zone) → Expiry s c x
   -- "The conformance report lists every breach of document 01's six groups once"
   pub exact : Exact
   pub ordered : Ordered

@@ -1,7 +1,7 @@
 -- Document 01's marked examples P1 to P10: one table of cases, over the definitions that the calls' contracts cite. d is the direction.
 use Prim.Native.Nat.{ℕ, _+_, _-_, _<_}
 use mathlib.Core.Path.{_≡_}
-use mathlib.Core.Bool.{Bool, true, false, cond}
+use mathlib.Core.Bool.{true, false, cond}
 use mathlib.Core.List.{List, [], _∷_, foldl, map}
 use lib.Dec.{eqb}
 use lib.IntN.{ℤ, pos, negsuc}
@@ -139,9 +139,9 @@ table d =
     ∷ case free (two (tell 3 10 (setpoint d 9000) ∷ leave 3 20 ∷ join 3 1 30 ∷ [])) (setpointAt d 30) (absent ∷ [])
     -- P4 null consumption: production stays
     ∷ case free (two (tell 3 10 (limit d (mw 9000) 0) ∷ tell 3 10 (limit (1 - d) (mw 7000) 0) ∷ tell 3 20 (limit d Field.Null 0) ∷ []))
-      (limitAt d 20) (absent ∷ [])
+    (limitAt d 20) (absent ∷ [])
     ∷ case free (two (tell 3 10 (limit d (mw 9000) 0) ∷ tell 3 10 (limit (1 - d) (mw 7000) 0) ∷ tell 3 20 (limit d Field.Null 0) ∷ []))
-      (limitAt (1 - d) 20) (pos 7000 ∷ [])
+    (limitAt (1 - d) 20) (pos 7000 ∷ [])
     -- P5 -1: refused 13
     ∷ case free (two []) (told 3 20 (limit d (Field.Value (negsuc 0)) 0)) (pos 13 ∷ [])
     -- P6 minimum 1,380,000: that passes, 1,379,999 is 14
@@ -159,7 +159,7 @@ table d =
     ∷ case free (two (join 6 2 10 ∷ tell 6 10 (setpoint d 100) ∷ tell 4 10 (setpoint d 900) ∷ [])) (setpointAt d 10) (pos 900 ∷ [])
     -- P10 two equal limits, expiries 50 and 70: a row at 70 only
     ∷ case free (two (tell 3 10 (limit d (mw 7000) 40) ∷ tell 4 10 (limit d (mw 7000) 60) ∷ []))
-      (rows 10) (pos 70 ∷ pos 1 ∷ absent ∷ absent ∷ absent ∷ absent ∷ [])
+    (rows 10) (pos 70 ∷ pos 1 ∷ absent ∷ absent ∷ absent ∷ absent ∷ [])
     ∷ []
 
 -- "The marked examples are one table under one statement"

@@ -1,6 +1,5 @@
 pub mod Run
 pub mod History
-pub mod Table
 pub mod Answers
 pub mod ReleasedSlot
 pub mod Demands
