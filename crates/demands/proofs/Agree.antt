@@ -23,12 +23,10 @@ use Rattle.device.specs.Commands.{obeyed}
 use Rattle.device.proofs.Lens.{zones-length}
 use Rattle.device.proofs.Effects.{applied-length, applied-settings, applied-clock, applied-since, applied-override, applied-zones}
 use Rattle.demands.specs.History.{Told, joins, leaves, links, commands, overrides, passes, Entry, Log, about, newest, saysOverride, saysClock, clockBy, overrideBy, joinedBy, recordBy, zonesBy, sinceBy, situationBy, kept}
+use Rattle.demands.proofs.Lists.{never}
 use Rattle.demands.proofs.Says.{joined-other, record-other, joined-join, record-join, joined-leave, joined-link, record-link, joined-command, record-command, record-size}
 use Rattle.demands.proofs.Claims.{anyUp-same, values-same}
 use Rattle.demands.proofs.Same.{Same, Moves, Found, found, slot-mine, same-set, same-log, slots-within, history-within, slots-one}
-
-never : {X : Type 0} → _≡_ {A = Bool} false true → X
-never e = absurd (let w : _≡_ {A = ℕ} 0 1 = cc in omega arith)
 
 pub record Agree (s : Settings) (ws : List ℕ) (h : Log) : Type 0 where
   pub size : length ws ≡ words

@@ -17,7 +17,7 @@ use Rattle.device.specs.Table.{Unexpired}
 use Rattle.device.proofs.Before.{not-earlier}
 use Rattle.device.proofs.Winner.{claim-there, wins}
 use Rattle.device.proofs.Runs.{upTo-cong}
-use Rattle.demands.proofs.Lists.{getD-mem, mem-getD, any-mem, mem-any}
+use Rattle.demands.proofs.Lists.{never, getD-mem, mem-getD, any-mem, mem-any}
 
 -- every joined zone of one list is in the other; no two joined zones of a list have one id
 pub record Within (l m : List Zone) : Type 0 where
@@ -27,9 +27,6 @@ unfoldable pub OneId : List Zone → Type 0
 OneId l = (x y : Zone) → List·Memᴰ x l → List·Memᴰ y l → isJoined x ≡ true → x .id ≡ y .id → x ≡ y
 
 -- THE WINNER
-never : {X : Type 0} → _≡_ {A = Bool} false true → X
-never e = absurd (let w : _≡_ {A = ℕ} 0 1 = cc in omega arith)
-
 -- a winner that stands is some joined zone's claim
 pub standing : (t q : ℕ) (l : List Zone) → winner t q l .there ≡ true → (x : Zone) × List·Memᴰ x l × Unexpired t q x × (claimOf t q x ≡ winner t q l)
 standing t q l e = let r = wins t q l .held e in (getD l (r .0) freeZone, getD-mem l (r .0) freeZone (r .1), r .2, r .3)

@@ -2,10 +2,11 @@
 use mathlib.Core.Path.{_≡_, refl}
 use mathlib.Core.Logic.{_≢_}
 use mathlib.Core.List.{List}
-use Prim.Native.Nat.{ℕ}
+use Prim.Native.Nat.{ℕ, _+_}
 use lib.IntN.{ℤ, negsuc}
 use lib.ListN.{length, replicate}
 use borrow.Author.Tests.{ne-eqb}
+use Rattle.device.specs.Sizes.{helds}
 use Rattle.device.specs.Calls.{askNumber, askAnswer}
 use Rattle.device.specs.Start.{startNumber, startAfter}
 use Rattle.planner.specs.Plan.{planNumber, planAnswer, planSlice}
@@ -16,7 +17,7 @@ use Rattle.demands.specs.Demands.{Demand1}
 use Rattle.demands.proofs.Answers.{answers}
 use Rattle.demands.proofs.Responses.{responds}
 
-no-values : (ws : List ℕ) (t : ℕ) → askNumber ws t ≢ 0 → askAnswer ws t .values ≡ replicate 5 (negsuc 0)
+no-values : (ws : List ℕ) (t : ℕ) → askNumber ws t ≢ 0 → askAnswer ws t .values ≡ replicate (1 + helds) (negsuc 0)
 unfolding askAnswer
 no-values ws t p = rw (ne-eqb (askNumber ws t) 0 p)
 

@@ -8,6 +8,9 @@ use native.Mathlib.Omega.{arith}
 use lib.ListN.{length, getD}
 use Rattle.device.specs.Zones.{first, any}
 
+pub never : {X : Type 0} → _≡_ {A = Bool} false true → X
+never e = absurd (let w : _≡_ {A = ℕ} 0 1 = cc in omega arith)
+
 module _ {A : Type 0} where
   -- the first that passes the test stands at or before any other that does
   pub first-least : (p : A → Bool) (l : List A) (i : ℕ) (d : A) → i < length l → p (getD l i d) ≡ true → first p l ≤ i

@@ -15,7 +15,12 @@ use Rattle.planner.proofs.Walk.{planOf-walk}
 use Rattle.demands.specs.Examples.{reached, found, table, Marked}
 
 pub marked : Marked
-unfolding found reached table numbersOf walk step nearest nearer alike sameNumber dues heldDues zoneDues upTo first any isJoined isUp slotOf joined zoneOf heldOf anyJoined anyUp settingsOf heldIn zoneAt zonesOf bit heldWords putZone applied after settingWords fresh supports claimOf goesBefore better winner inFailsafe failsafeValue valueAt present stateAt shown valuesAt firstOf late sinceAfter zoneChange headChange badJoin joinNumber joinAfter leaveNumber leaveAfter same linkNumber linkAfter unsupported invalid tooLow belowTheMinimum commandNumber fieldAction targetAction aimAction action untilOf done obeyed commandAfter isCapped reasonOf outcomeWith commandAnswer badMaximum badSettings startAfter
+unfolding found reached table numbersOf walk step nearest nearer alike sameNumber dues heldDues zoneDues upTo first any isJoined isUp slotOf
+    joined zoneOf heldOf anyJoined anyUp settingsOf heldIn zoneAt zonesOf bit heldWords putZone applied after settingWords fresh supports
+    claimOf goesBefore better winner inFailsafe failsafeValue valueAt present stateAt shown valuesAt firstOf late sinceAfter zoneChange
+    headChange badJoin joinNumber joinAfter leaveNumber leaveAfter same linkNumber linkAfter unsupported invalid tooLow belowTheMinimum
+    commandNumber fieldAction targetAction aimAction action untilOf done obeyed commandAfter isCapped reasonOf outcomeWith commandAnswer
+    badMaximum badSettings startAfter
 marked zero h = rw planOf-walk
 marked (suc zero) h = rw planOf-walk
 marked (suc (suc d)) h = absurd (not-suc-le-zero (le-of-suc-le-suc (le-of-suc-le-suc h)))

@@ -18,6 +18,7 @@ use Rattle.device.specs.Commands.{action, untilOf, durationOf}
 use Rattle.demands.specs.History.{Told, joins, leaves, links, commands, overrides, passes, Entry, Log, about, newest, of, saysRank, saysUp, said, saysHeld, upBy, heldBy, recordBy}
 use Rattle.demands.specs.ReleasedSlot.{isJoin, ownSince, SetTogether}
 use Rattle.device.proofs.Runs.{upTo-cong}
+use Rattle.demands.proofs.Lists.{never}
 use Rattle.demands.proofs.Says.{silent}
 
 -- a question that only zone z's calls speak to, and every join of it does
@@ -35,9 +36,6 @@ own-newest {A} z says d o (e ∷ h) = go (about z (e .1)) refl (isJoin (e .1)) r
     go true p true q ih = let r = o .joined (e .0) (e .1) p q in rw (r .1)
     go true p false q ih = ap (Option·getD (says (e .0) (e .1))) ih
     go false p j q ih = rw (o .others (e .0) (e .1) p) ih
-
-never : {X : Type 0} → _≡_ {A = Bool} false true → X
-never e = absurd (let w : _≡_ {A = ℕ} 0 1 = cc in omega arith)
 
 -- a join of zone z speaks to every question about it
 record Opens (z t : ℕ) (e : Told) : Type 0 where

@@ -21,11 +21,9 @@ use Rattle.device.specs.Words.{clockOf, overrideOf, settingsOf, zonesOf}
 use Rattle.device.specs.Commands.{commandTests, commandNumber}
 use Rattle.kernel.specs.Frame.{responseTo, responseFrame, numberFrom, frameNumber, frameAnswer, frameOut}
 use Rattle.demands.specs.Answers.{Responds}
+use Rattle.demands.proofs.Lists.{never}
 use Rattle.demands.proofs.Readings.{refused-with}
 use Rattle.demands.proofs.Answers.{each, first-passes}
-
-never : {X : Type 0} → _≡_ {A = Bool} false true → X
-never e = absurd (let w : _≡_ {A = ℕ} 0 1 = cc in omega arith)
 
 -- a command's number is one that a response has
 command-status : (ws : List ℕ) (z t : ℕ) (r : Request) → isStatus (commandNumber ws z t (r .command)) ≡ true

@@ -16,11 +16,8 @@ use Rattle.device.specs.Sizes.{slots}
 use Rattle.device.specs.Zones.{freeZone, isJoined, slotOf, joined, zoneOf}
 use Rattle.demands.specs.History.{Log, joinedBy, recordBy, zonesTo, zonesBy}
 use Rattle.device.proofs.Slots.{slot-id}
-use Rattle.demands.proofs.Lists.{first-least, getD-mem, mem-getD}
+use Rattle.demands.proofs.Lists.{never, first-least, getD-mem, mem-getD}
 use Rattle.demands.proofs.Claims.{Within, OneId}
-
-never : {X : Type 0} → _≡_ {A = Bool} false true → X
-never e = absurd (let w : _≡_ {A = ℕ} 0 1 = cc in omega arith)
 
 -- the record in slot i
 abbrev pub at : List Zone → ℕ → Zone

@@ -1,5 +1,5 @@
 -- THE TENDER'S THREE DEMANDS, over the definitions that the contracts of the calls cite. Proved in proofs/Demand1, Demand2 and Demand3.
-use Prim.Native.Nat.{ℕ, _≤_}
+use Prim.Native.Nat.{ℕ, _+_, _≤_}
 use mathlib.Core.Path.{_≡_}
 use mathlib.Core.Logic.{_≢_}
 use mathlib.Core.List.{List, [], _∷_}
@@ -7,10 +7,11 @@ use lib.IntN.{ℤ, negsuc}
 use lib.ListN.{length, replicate}
 use Rattle.cbor.specs.Bytes.{putWhole}
 use Rattle.cbor.specs.Laws.{PayloadExact, OneItem}
+use Rattle.messages.specs.declared.Command.{Command}
 use Rattle.frames.specs.Requests.{readRequest}
 use Rattle.device.specs.declared.Settings.{Settings}
-use Rattle.messages.specs.declared.Command.{Command}
 use Rattle.device.specs.declared.Zone.{Zone}
+use Rattle.device.specs.Sizes.{helds}
 use Rattle.device.specs.Holds.{Situation, situationOf, valuesAt}
 use Rattle.device.specs.Table.{Table, Expiry}
 use Rattle.device.specs.Refusals.{firstOf}
@@ -37,7 +38,7 @@ pub record Demand1 : Type 0 where
   pub frame : (device : List ℕ) (z t : ℕ) (bytes out : List ℕ)
       → Responds (frameNumber device z t bytes (length out)) out (frameOut device z t bytes out) (frameAnswer device z t bytes (length out) .length)
   -- "Beside a refusal, values are -1 and counts 0"
-  pub ask : (device : List ℕ) (t : ℕ) → askNumber device t ≢ 0 → askAnswer device t .values ≡ replicate 5 (negsuc 0)
+  pub ask : (device : List ℕ) (t : ℕ) → askNumber device t ≢ 0 → askAnswer device t .values ≡ replicate (1 + helds) (negsuc 0)
   pub plan : (device : List ℕ) (t : ℕ) (out : List ℤ) → planNumber device t (length out) ≢ 0
       → (planSlice device t out ≡ out) × (planAnswer device t (length out) .count ≡ 0)
   pub report : (i : Inputs) (attributes out : List ℕ) → numberOf i attributes (length out) ≢ 0

@@ -14,7 +14,7 @@ use Rattle.device.specs.declared.Held.{Held}
 use Rattle.device.specs.declared.Zone.{Zone}
 use Rattle.device.specs.declared.Settings.{Settings}
 use Rattle.device.specs.declared.Action.{Action}
-use Rattle.device.specs.Sizes.{slots, helds}
+use Rattle.device.specs.Sizes.{helds}
 use Rattle.device.specs.Zones.{upTo, nothing}
 use Rattle.device.specs.Holds.{Situation, valuesAt}
 use Rattle.device.specs.Refusals.{firstOf}
@@ -184,7 +184,7 @@ numberFromBy s h z t (Reading.Unserved i) room = 4
 numberFromBy s h z t (Reading.Is r) room = writingNumber (commandNumberBy s h z t (r .command)) (responseFrameBy s h z t (Reading.Is r)) room
 
 unfoldable pub numberBy : Settings → Log → Call → ℕ
-numberBy s h (join z k t) = firstOf (joinTests (clockBy h) (joinedBy h z) (leb slots (length (zonesBy s h))) z k t)
+numberBy s h (join z k t) = firstOf (joinTests (clockBy h) (joinedBy h z) (leb 8 (length (zonesBy s h))) z k t)
 numberBy s h (leave z t) = firstOf (leaveTests (clockBy h) (joinedBy h z) t)
 numberBy s h (lost z t) = linkNumberBy h z false t
 numberBy s h (back z t) = linkNumberBy h z true t
