@@ -21,6 +21,6 @@ unfolding found reached table numbersOf walk step nearest nearer alike sameNumbe
     headChange badJoin joinNumber joinAfter leaveNumber leaveAfter same linkNumber linkAfter unsupported invalid tooLow belowTheMinimum
     commandNumber fieldAction targetAction aimAction action untilOf done obeyed commandAfter isCapped reasonOf outcomeWith commandAnswer
     badMaximum badSettings startAfter
-marked zero h = rw planOf-walk
-marked (suc zero) h = rw planOf-walk
+marked zero h = simp planOf-walk
+marked (suc zero) h = simp planOf-walk
 marked (suc (suc d)) h = absurd (not-suc-le-zero (le-of-suc-le-suc (le-of-suc-le-suc h)))

@@ -1,4 +1,4 @@
--- Document 01's marked examples P1 to P10: one table of cases, over the definitions that the calls' contracts cite. d is the direction.
+-- Document 01's marked examples P1 to P10 and the bench's: one table of cases, over the definitions that the calls' contracts cite. d is the direction.
 use Prim.Native.Nat.{ℕ, _+_, _-_, _<_}
 use mathlib.Core.Path.{_≡_}
 use mathlib.Core.Bool.{true, false, cond}
@@ -36,19 +36,27 @@ reached c = foldl (λ d call. call d) (startAfter (c .settings)) (c .calls)
 unfoldable pub found : Case → List ℤ
 found c = c .question (reached c)
 
--- THE DEVICE: both directions, all accepted, a minimum and a maximum for each direction, failsafe 7,200 s
-abbrev pub box : ℕ → ℕ → Settings
-box minimum top =
+-- THE DEVICES: both directions, all accepted, failsafe 4,200,000 and 0 for 7,200 s, no energy manager
+abbrev pub device : ℕ → List ℕ → Settings
+device minimum maxima =
     record {
       directions = 2;
       limits = true;
       setpoints = true;
       minimum = minimum;
-      maxima = top ∷ top ∷ [];
+      maxima = maxima;
       failsafe = 4200000 ∷ 0 ∷ [];
       duration = 7200;
       manager = false;
     }
+
+-- one minimum, and one maximum for both directions
+abbrev pub box : ℕ → ℕ → Settings
+box minimum top = device minimum (top ∷ top ∷ [])
+
+-- the bench program's device
+abbrev pub bench : Settings
+bench = device 1380000 (43000000 ∷ most ∷ [])
 
 -- THE CALLS
 abbrev pub join : ℕ → ℕ → ℕ → Step
@@ -160,6 +168,10 @@ table d =
     -- P10 two equal limits, expiries 50 and 70: a row at 70 only
     ∷ case free (two (tell 3 10 (limit d (mw 7000) 40) ∷ tell 4 10 (limit d (mw 7000) 60) ∷ []))
     (rows 10) (pos 70 ∷ pos 1 ∷ absent ∷ absent ∷ absent ∷ absent ∷ [])
+    -- the bench program's input, of which the last two lines of output are the plan at 110
+    ∷ case bench (join 3 1 100 ∷ join 9 2 100 ∷ tell 3 100 (limit 0 (mw 11040000) 60) ∷ tell 9 100 (limit 0 (mw 4600000) 20) ∷ [])
+    (rows 110)
+    (pos 120 ∷ pos 2 ∷ pos 11040000 ∷ absent ∷ absent ∷ absent ∷ pos 160 ∷ pos 1 ∷ absent ∷ absent ∷ absent ∷ absent ∷ [])
     ∷ []
 
 -- "The marked examples are one table under one statement"
