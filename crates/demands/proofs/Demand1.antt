@@ -6,6 +6,7 @@ use Prim.Native.Nat.{ℕ, _+_}
 use lib.IntN.{ℤ, negsuc}
 use lib.ListN.{length, replicate}
 use borrow.Author.Tests.{ne-eqb}
+use Rattle.frames.specs.Writing.{writingNumber, writtenOf, leftBy}
 use Rattle.device.specs.Sizes.{helds}
 use Rattle.device.specs.Calls.{askNumber, askAnswer}
 use Rattle.device.specs.Start.{startNumber, startAfter}
@@ -25,6 +26,10 @@ no-rows : (ws : List ℕ) (t : ℕ) (out : List ℤ) → planNumber ws t (length
 unfolding planSlice planAnswer
 no-rows ws t out p = let e = ne-eqb (planNumber ws t (length out)) 0 p in (rw e, rw e)
 
+no-frame : (n : ℕ) (bytes out : List ℕ) → writingNumber n bytes (length out) ≢ 0 → (leftBy n bytes out ≡ out) × (writtenOf n bytes (length out) .length ≡ 0)
+unfolding leftBy writtenOf
+no-frame n bytes out p = let e = ne-eqb (writingNumber n bytes (length out)) 0 p in (rw e, rw e)
+
 no-pairs : (i : Inputs) (attributes out : List ℕ) → numberOf i attributes (length out) ≢ 0
     → (pairsAfter i attributes out ≡ out) × (reportOf i attributes (length out) .count ≡ 0)
 unfolding pairsAfter reportOf
@@ -38,6 +43,7 @@ demand-1 =
       frame = λ ws z t bytes out. responds ws z t out bytes;
       ask = no-values;
       plan = no-rows;
+      write = no-frame;
       report = no-pairs;
       start = λ s. (refl, refl);
     }

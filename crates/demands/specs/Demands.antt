@@ -9,6 +9,7 @@ use Rattle.cbor.specs.Bytes.{putWhole}
 use Rattle.cbor.specs.Laws.{PayloadExact, OneItem}
 use Rattle.messages.specs.declared.Command.{Command}
 use Rattle.frames.specs.Requests.{readRequest}
+use Rattle.frames.specs.Writing.{writingNumber, writtenOf, leftBy}
 use Rattle.device.specs.declared.Settings.{Settings}
 use Rattle.device.specs.declared.Zone.{Zone}
 use Rattle.device.specs.Sizes.{helds}
@@ -41,6 +42,8 @@ pub record Demand1 : Type 0 where
   pub ask : (device : List ℕ) (t : ℕ) → askNumber device t ≢ 0 → askAnswer device t .values ≡ replicate (1 + helds) (negsuc 0)
   pub plan : (device : List ℕ) (t : ℕ) (out : List ℤ) → planNumber device t (length out) ≢ 0
       → (planSlice device t out ≡ out) × (planAnswer device t (length out) .count ≡ 0)
+  pub write : (n : ℕ) (frame out : List ℕ) → writingNumber n frame (length out) ≢ 0
+      → (leftBy n frame out ≡ out) × (writtenOf n frame (length out) .length ≡ 0)
   pub report : (i : Inputs) (attributes out : List ℕ) → numberOf i attributes (length out) ≢ 0
       → (pairsAfter i attributes out ≡ out) × (reportOf i attributes (length out) .count ≡ 0)
   -- "A refused start hands back a fresh device" with settings of its own
