@@ -1,8 +1,7 @@
 -- Between two expiries nothing moves: the seconds at which what holds can change, and that it changes at no other.
 use Prim.Native.Nat.{ℕ, zero, suc, _+_, _*_, _<_, _≤_}
-use mathlib.Core.Bool.{Bool, true, false, cond, not, _&&_, _||_}
-use mathlib.Core.Path.{_≡_, refl, sym, ap, ap₂, _∙_}
-use mathlib.Core.Logic.{⊎-elim}
+use mathlib.Core.Bool.{Bool, true, false, cond, not, _&&_}
+use mathlib.Core.Path.{_≡_, refl, ap}
 use mathlib.Core.List.{List, [], _∷_, _++_, foldl, List·Memᴰ, List·Memᴰ·head, Memᴰ·append-left, Memᴰ·append-right, Memᴰ·cast}
 use native.Mathlib.Decide.{ℕ-discrete}
 use native.Mathlib.Omega.{arith}
@@ -13,7 +12,7 @@ use borrow.Author.Tests.{ltb-true, ltb-false}
 use Rattle.device.specs.Sizes.{helds, slots}
 use Rattle.device.specs.Zones.{upTo, heldOf, isJoined, anyJoined, anyUp}
 use Rattle.device.specs.Words.{zonesOf, sinceOf, settingsOf}
-use Rattle.device.specs.Holds.{Situation, situationOf, noClaim, claimOf, better, winner, amountOf, inFailsafe, failsafeValue, valueAt, present, stateAt, shown, valuesAt}
+use Rattle.device.specs.Holds.{Situation, situationOf, noClaim, claimOf, better, winner, amountOf, inFailsafe, failsafeValue, valueAt, stateAt, shown, valuesAt}
 use Rattle.messages.specs.declared.Amount.the-variants.{Absent}
 use Rattle.device.specs.declared.Zone.{Zone}
 use Rattle.device.specs.declared.Claim.{Claim}
