@@ -12,7 +12,7 @@ use Rattle.frames.specs.Responses.{responseItem, statusAlone}
 use Rattle.frames.specs.Writing.{itemFrame, writingNumber}
 use Rattle.frames.specs.declared.requests.Reading.{Reading}
 use Rattle.device.specs.Commands.{commandNumber, commandAfter, commandAnswer}
-use Rattle.kernel.specs.declared.Framed.{Framed}
+use Rattle.kernel.specs.declared.frame_call.Framed.{Framed}
 
 -- the response to a request: its message id, the number as status, and the result where one stands
 unfoldable pub responseTo : List ℕ → ℕ → ℕ → Request → Response
@@ -31,15 +31,12 @@ numberFrom ws z t (Reading.Refused n) room = n
 numberFrom ws z t (Reading.Unserved i) room = 4
 numberFrom ws z t (Reading.Is r) room = writingNumber (commandNumber ws z t (r .command)) (responseFrame ws z t (Reading.Is r)) room
 
-unfoldable pub frameNumber : List ℕ → ℕ → ℕ → List ℕ → ℕ → ℕ
-frameNumber ws z t bytes room = numberFrom ws z t (readRequest bytes) room
-
 -- "where that frame has no room, the number stands and nothing is written"
-unfoldable pub frameAnswer : List ℕ → ℕ → ℕ → List ℕ → ℕ → Framed
-frameAnswer ws z t bytes room =
+abbrev pub answerFrom : List ℕ → ℕ → ℕ → Reading → ℕ → Framed
+answerFrom ws z t reading room =
     record {
-      number = frameNumber ws z t bytes room;
-      length = cond (leb (length (responseFrame ws z t (readRequest bytes))) room) (length (responseFrame ws z t (readRequest bytes))) 0;
+      number = numberFrom ws z t reading room;
+      length = cond (leb (length (responseFrame ws z t reading)) room) (length (responseFrame ws z t reading)) 0;
     }
 
 -- the device: the command's effect where the number is 0
@@ -48,9 +45,22 @@ obeyedBy ws z t (Reading.Refused n) = ws
 obeyedBy ws z t (Reading.Unserved i) = ws
 obeyedBy ws z t (Reading.Is r) = commandAfter ws z t (r .command)
 
-unfoldable pub frameAfter : List ℕ → ℕ → ℕ → List ℕ → ℕ → List ℕ
-frameAfter ws z t bytes room = cond (eqb (frameNumber ws z t bytes room) 0) (obeyedBy ws z t (readRequest bytes)) ws
+abbrev pub afterFrom : List ℕ → ℕ → ℕ → Reading → ℕ → List ℕ
+afterFrom ws z t reading room = cond (eqb (numberFrom ws z t reading room) 0) (obeyedBy ws z t reading) ws
 
 -- the output: "the response frame from the front of the output buffer", past it as it was
+abbrev pub outFrom : List ℕ → ℕ → ℕ → Reading → List ℕ → List ℕ
+outFrom ws z t reading out = putWhole out 0 (responseFrame ws z t reading)
+
+-- THE CALL: zone z, second t, the frame's bytes, the output
+unfoldable pub frameNumber : List ℕ → ℕ → ℕ → List ℕ → ℕ → ℕ
+frameNumber ws z t bytes room = numberFrom ws z t (readRequest bytes) room
+
+unfoldable pub frameAnswer : List ℕ → ℕ → ℕ → List ℕ → ℕ → Framed
+frameAnswer ws z t bytes room = answerFrom ws z t (readRequest bytes) room
+
+unfoldable pub frameAfter : List ℕ → ℕ → ℕ → List ℕ → ℕ → List ℕ
+frameAfter ws z t bytes room = afterFrom ws z t (readRequest bytes) room
+
 unfoldable pub frameOut : List ℕ → ℕ → ℕ → List ℕ → List ℕ → List ℕ
-frameOut ws z t bytes out = putWhole out 0 (responseFrame ws z t (readRequest bytes))
+frameOut ws z t bytes out = outFrom ws z t (readRequest bytes) out

@@ -1,5 +1,28 @@
-// The calls that a driver makes. The driver lends the device's words, the frame, the output and the rows.
-pub struct Framed {
-    pub number: u64,
-    pub length: usize,
-}
+// The calls that a driver makes. It lends the device's words, a frame, room for the response and room for a plan's rows.
+//
+// Every call ends with an answer, for every content of what is lent, every zone number and every time. The answer
+// has a number: 0 where the call is accepted, else document 01's refusal. A refusal leaves the words as they were,
+// the clock among them, and writes nothing, save the response frame of `frame` where document 01 allows one.
+//
+// start(d, settings)                    a fresh device; 16 for bad settings, and then a device that accepts nothing
+// join(d, zone, rank, t)                5, 6, 7, 8
+// leave(d, zone, t)                     5, 9
+// lost(d, zone, t), back(d, zone, t)    5, 9, 7
+// set_override(d, reason, direction, t) 5, 18
+// clear_override(d, t)                  5, 7
+// ask(d, t)                             5; the control state, limits and setpoints at t, -1 absent
+// frame(d, zone, t, bytes, out)         1, 2, 3, 4, 5, 9 to 15; the response frame from the front of `out`
+// plan(d, t, rows)                      5, 15; rows of six numbers from the front of `rows`
+mod frame_call; // frame_call.rt: bytes in, the device, bytes out
+
+pub use device::calls::ask;
+pub use device::calls::back;
+pub use device::calls::clear_override;
+pub use device::calls::join;
+pub use device::calls::leave;
+pub use device::calls::lost;
+pub use device::calls::set_override;
+pub use device::calls::start;
+pub use frame_call::Framed;
+pub use frame_call::frame;
+pub use planner::plan;
