@@ -11,8 +11,9 @@ use crate::features::PROCESS;
 use crate::features::V2X;
 use crate::features::has;
 
-pub const TYPES: usize = 11;
+const TYPES: usize = 11;
 
+// What most types forbid: the bits of batteries and of vehicles.
 const STORES: u64 = 1 << BATTERY | 1 << EMOB | 1 << V2X;
 
 const REQUIRED: [u64; TYPES] = [
