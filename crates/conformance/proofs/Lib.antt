@@ -10,3 +10,4 @@ pub mod Listed
 pub mod Answers
 pub mod Laws
 pub mod Witnesses
+pub mod Rises

@@ -49,7 +49,7 @@ lacksAttribute i listed n = not (eqb (i .endpoint) 0) && mandatory i n && not (l
 unfoldable pub bitRules : Inputs → ℕ → List Bool
 bitRules i b = lacksNeed i b ∷ clashes i b ∷ lacksSupply i b ∷ lacksRequired i b ∷ hasInvalid i b ∷ []
 
--- the rule of the pair's group is broken for its number
+-- the rule of the pair's group, 1 to 6, is broken for its number; there is no group 0
 unfoldable pub broken : Inputs → (ℕ → Bool) → Pair → Bool
 broken i listed p = getD (false ∷ bitRules i (p .number) ++ lacksAttribute i listed (p .number) ∷ []) (p .group) false
 

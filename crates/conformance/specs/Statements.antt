@@ -1,10 +1,11 @@
 -- What is proved of the list of breaches, beside the call's contract (proofs/Laws has the proofs).
-use Prim.Native.Nat.{ℕ, _<_}
+use Prim.Native.Nat.{ℕ, suc, _<_}
 use mathlib.Core.Bool.{true}
 use mathlib.Core.Path.{_≡_}
 use mathlib.Core.Logic.{_⊎_}
 use mathlib.Core.List.{List, [], _∷_, List·Memᴰ}
-use Rattle.conformance.specs.Lists.{member}
+use lib.ListN.{length, getD}
+use Rattle.conformance.specs.Lists.{member, ascends}
 use Rattle.conformance.specs.Rules.{broken, breaches}
 use Rattle.conformance.specs.Report.{inRange}
 use Rattle.conformance.specs.declared.Inputs.{Inputs}
@@ -31,6 +32,13 @@ Ascending (p ∷ ps) = ((q : Pair) → List·Memᴰ q ps → Before p q) × Asce
 
 unfoldable pub Ordered : Type 0
 Ordered = (i : Inputs) (attributes : List ℕ) → Ascending (breaches i attributes)
+
+-- the test behind refusal 17: each number of a list is below the next
+unfoldable pub Rising : List ℕ → Type 0
+Rising ns = (k : ℕ) → suc k < length ns → getD ns k 0 < getD ns (suc k) 0
+
+unfoldable pub Strict : Type 0
+Strict = (ns : List ℕ) → (ascends ns ≡ true → Rising ns) × (Rising ns → ascends ns ≡ true)
 
 -- the report is empty exactly when no rule is broken
 unfoldable pub Sound : Type 0

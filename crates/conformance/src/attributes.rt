@@ -1,6 +1,6 @@
 // The EnergyControl attributes (document 003 section 3.3): a fixed table of number and condition.
 ghost use mathlib.Core.Path.{_≡_};
-ghost use mathlib.Core.Bool.{_&&_, true, false};
+ghost use mathlib.Core.Bool.{true, false};
 ghost use mathlib.Core.List.{foldl};
 ghost use Prim.Native.Nat.{_<_};
 ghost use lib.ListN.{getD, set};
@@ -14,41 +14,41 @@ use crate::features::PROCESS;
 use crate::features::V2X;
 use crate::features::has;
 
-// A row of the table: the attribute's number, and the code of its condition.
-pub struct Row(pub usize, pub usize);
+// A row of the table: the attribute's number, and the code of its condition. Bytes, since a constant is laid out at each use.
+pub struct Row(pub u8, pub u8);
 
 pub const ROWS: usize = 33;
 
 // One more than the largest number of the table.
 pub const NUMBERS: usize = 82;
 
-const OPTIONAL: usize = 0;
+const OPTIONAL: u8 = 0;
 
-const ALWAYS: usize = 1;
+const ALWAYS: u8 = 1;
 
-const IF_V2X: usize = 2;
+const IF_V2X: u8 = 2;
 
-const IF_PROCESS: usize = 3;
+const IF_PROCESS: u8 = 3;
 
-const IF_LIMITS: usize = 4;
+const IF_LIMITS: u8 = 4;
 
-const IF_LIMITS_OUT: usize = 5;
+const IF_LIMITS_OUT: u8 = 5;
 
-const IF_ASYMMETRIC_CURRENTS: usize = 6;
+const IF_ASYMMETRIC_CURRENTS: u8 = 6;
 
-const IF_ASYMMETRIC_BOTH: usize = 7;
+const IF_ASYMMETRIC_BOTH: u8 = 7;
 
-const IF_SETPOINTS: usize = 8;
+const IF_SETPOINTS: u8 = 8;
 
-const IF_SETPOINTS_OUT: usize = 9;
+const IF_SETPOINTS_OUT: u8 = 9;
 
-const IF_FLEX: usize = 10;
+const IF_FLEX: u8 = 10;
 
-const IF_FORECAST: usize = 11;
+const IF_FORECAST: u8 = 11;
 
-const IF_OUT: usize = 12;
+const IF_OUT: u8 = 12;
 
-const IF_PROCESS_STATE: usize = 13;
+const IF_PROCESS_STATE: u8 = 13;
 
 const CONDITIONS: usize = 14;
 

@@ -1,6 +1,5 @@
 // The pairs that can stand in a report, in its order: counted, then written, where their rule is broken.
 ghost use mathlib.Core.Path.{_≡_};
-ghost use mathlib.Core.Bool.{false};
 ghost use mathlib.Core.List.{_∷_, []};
 ghost use Prim.Native.Nat.{_+_, _≤_, _<_};
 ghost use lib.ListN.{length, getD};
@@ -50,7 +49,7 @@ fn lacks_attribute(i: Inputs, holds: &[bool], listed: &[bool], k: usize) -> bool
     ensures { λ r. ⌜ r ≡ lacksAttribute i (flagged (now (listed .entry))) (getD rows k noRow .0) ⌝ }
 {
     let r = row_at(k);
-    (i.endpoint != 0) & flag(holds, r.1) & !flag(listed, r.0)
+    (i.endpoint != 0) & flag(holds, r.1 as usize) & !flag(listed, r.0 as usize)
 }
 
 // Whether the rule of the k-th pair is broken.

@@ -11,11 +11,12 @@ use crate::features::PROCESS;
 use crate::features::V2X;
 use crate::features::has;
 
-pub const TYPES: usize = 11;
+const TYPES: usize = 11;
 
-const STORES: u64 = 1 << BATTERY | 1 << EMOB | 1 << V2X;
+// What most types forbid: the bits of batteries and of vehicles.
+const STORES: u16 = 1 << BATTERY | 1 << EMOB | 1 << V2X;
 
-const REQUIRED: [u64; TYPES] = [
+const REQUIRED: [u16; TYPES] = [
     0, // DEVICE_ROOT
     1 << CORE, // GRID_CONNECTION
     1 << CORE, // INVERTER
@@ -29,7 +30,7 @@ const REQUIRED: [u64; TYPES] = [
     0, // SUB_METER
 ];
 
-const INVALID: [u64; TYPES] = [
+const INVALID: [u16; TYPES] = [
     2047, // DEVICE_ROOT
     STORES | 1 << FLEX | 1 << PROCESS, // GRID_CONNECTION
     STORES, // INVERTER
@@ -43,12 +44,18 @@ const INVALID: [u64; TYPES] = [
     0, // SUB_METER
 ];
 
+fn wide(mask: u16) -> u64
+    ensures { λ r. ⌜ r ≡ mask ⌝ }
+{
+    mask as u64
+}
+
 // Whether an endpoint type requires a bit.
 pub fn requires_bit(endpoint: u64, b: u64) -> bool
     requires { ⌜ (endpoint < 11) × (b < 11) ⌝ }
     ensures { λ r. ⌜ r ≡ member b (bitsOf required endpoint) ⌝ }
 {
-    has(REQUIRED[endpoint as usize], b)
+    has(wide(REQUIRED[endpoint as usize]), b)
 }
 
 // Whether an endpoint type forbids a bit.
@@ -56,5 +63,5 @@ pub fn forbids_bit(endpoint: u64, b: u64) -> bool
     requires { ⌜ (endpoint < 11) × (b < 11) ⌝ }
     ensures { λ r. ⌜ r ≡ member b (bitsOf invalid endpoint) ⌝ }
 {
-    has(INVALID[endpoint as usize], b)
+    has(wide(INVALID[endpoint as usize]), b)
 }

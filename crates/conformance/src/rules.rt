@@ -1,7 +1,7 @@
 // Groups 1 to 5: whether a rule is broken for one bit of the feature map.
 ghost use mathlib.Core.Path.{_≡_};
 ghost use mathlib.Core.Bool.{false};
-ghost use Prim.Native.Nat.{_<_, _≤_};
+ghost use Prim.Native.Nat.{_<_};
 ghost use lib.ListN.{getD};
 ghost use Rattle.conformance.specs.Rules.{need, lacksNeed, clashes, lacksSupply, lacksRequired, hasInvalid, bitRules};
 use crate::Inputs;

@@ -11,4 +11,5 @@ candidate-spec =
     tie.close
     (tie.spec
     (λ c. search needs) (λ c. sym (bit-pair (c .before .args .k) (c .if1 .taken))) (λ c κs. search needs)
-    (λ c. row-read (c .before .before .args .k - 55) (c .before .before .args .k) _ (omega arith) (omega arith) (c .row-at .ensures)))
+    (λ c. search needs)
+    (λ c. row-read (c .before .before .before .args .k - 55) (c .before .before .before .args .k) _ (omega arith) (omega arith) (c .before .row-at .ensures)))
