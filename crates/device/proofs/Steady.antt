@@ -94,8 +94,8 @@ module _ (s : Situation) (t : ℕ) (idle : Idle (suc t) (dues s)) where
   value-steady q k = rw (failsafe-steady, go (anyUp (s .zones)) idle)
     where
       go : (u : Bool) → Idle (suc t) (cond u (heldDues (s .zones)) (cond (anyJoined (s .zones)) ((s .since + s .settings .duration) ∷ []) []))
-          → cond u (amountOf (winner (suc t) q (s .zones))) (cond (inFailsafe s t) (failsafeValue s q) Absent)
-          ≡ cond u (amountOf (winner t q (s .zones))) (cond (inFailsafe s t) (failsafeValue s q) Absent)
+          → cond u (amountOf (winner (suc t) q (s .zones))) (cond (inFailsafe s t) (failsafeValue (s .settings) q) Absent)
+          ≡ cond u (amountOf (winner t q (s .zones))) (cond (inFailsafe s t) (failsafeValue (s .settings) q) Absent)
       go true h = ap amountOf (winner-steady t q k (s .zones) h)
       go false h = refl
 

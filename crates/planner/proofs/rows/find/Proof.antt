@@ -10,7 +10,7 @@ use Rattle.device.specs.Sizes.{end}
 use Rattle.device.specs.Holds.{situationOf}
 use Rattle.device.proofs.Tests.{via}
 use Rattle.device.proofs.Steady.{dues}
-use Rattle.planner.proofs.Walk.{nearest-later}
+use Rattle.planner.proofs.Due.{nearest-later}
 use Rattle.planner.proofs.Find.{Finding, finding-start, finding-end, finding-room, finding-same, finding-new}
 use Rattle.planner.proofs.rows.find.Statement.{statement}
 use Rattle.planner.proofs.rows.find.Tie as tie
