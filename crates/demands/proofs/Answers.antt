@@ -127,7 +127,7 @@ refused-same ws (override r d t) p = after-refused ws (overrideNumber ws r d t) 
 refused-same ws (clear t) p = after-refused ws (clearNumber ws t) _ p
 refused-same ws (ask t) p = after-refused ws (askNumber ws t) _ p
 refused-same ws (plan t room) p = after-refused ws (planNumber ws t room) _ p
-refused-same ws (frame z t bytes room) p = rw (ne-eqb (frameNumber ws z t bytes room) 0 p)
+refused-same ws (frame z t bytes room) p = unfold frameNumber in rw (ne-eqb (numberFrom ws z t (readRequest bytes) room) 0 p)
 
 after-clock : (ws : List ℕ) (n : ℕ) (c : Change) → n ≡ 0 → length ws ≡ words → clockOf (after ws n c) ≡ c .time
 unfolding after
