@@ -22,7 +22,8 @@ use Rattle.device.specs.Calls.{sinceAfter, zoneChange, headChange}
 use Rattle.device.specs.Commands.{obeyed}
 use Rattle.device.proofs.Lens.{zones-length}
 use Rattle.device.proofs.Effects.{applied-length, applied-settings, applied-clock, applied-since, applied-override, applied-zones}
-use Rattle.demands.specs.History.{Told, joins, leaves, links, commands, overrides, passes, Entry, Log, about, newest, saysOverride, saysClock, clockBy, overrideBy, joinedBy, recordBy, zonesBy, sinceBy, situationBy, kept}
+use Rattle.demands.specs.History.{Told, joins, leaves, links, commands, overrides, passes, Entry, Log, about, newest, saysOverride, saysClock, clockBy, overrideBy, joinedBy, recordBy, zonesBy, sinceBy, situationBy}
+use Rattle.demands.specs.Accepted.{kept}
 use Rattle.demands.proofs.Lists.{never}
 use Rattle.demands.proofs.Says.{joined-other, record-other, joined-join, record-join, joined-leave, joined-link, record-link, joined-command, record-command, record-size}
 use Rattle.demands.proofs.Claims.{anyUp-same, values-same}

@@ -13,7 +13,7 @@ use Rattle.device.specs.Start.{startNumber, startAfter}
 use Rattle.planner.specs.Plan.{planNumber, planAnswer, planSlice}
 use Rattle.conformance.specs.declared.Inputs.{Inputs}
 use Rattle.conformance.specs.Report.{numberOf, reportOf, pairsAfter}
-use Rattle.demands.specs.History.{startedWith}
+use Rattle.demands.specs.Accepted.{startedWith}
 use Rattle.demands.specs.Demands.{Demand1}
 use Rattle.demands.proofs.Answers.{answers}
 use Rattle.demands.proofs.Responses.{responds}

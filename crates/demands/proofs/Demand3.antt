@@ -20,7 +20,7 @@ use Rattle.planner.specs.Plan.{planOf, planNumber, planAnswer, planSlice}
 use Rattle.planner.proofs.IsPlan.{plan-is, plan-unique}
 use Rattle.planner.proofs.Walk.{planOf-few}
 use Rattle.demands.specs.Run.{run}
-use Rattle.demands.specs.History.{startedWith, history, told}
+use Rattle.demands.specs.Accepted.{startedWith, history, told}
 use Rattle.demands.specs.Demands.{Lists, Demand3}
 use Rattle.demands.proofs.Count.{at-most}
 use Rattle.demands.proofs.Agree.{agree-values}

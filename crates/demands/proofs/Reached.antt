@@ -13,7 +13,8 @@ use Rattle.device.specs.Words.{fresh}
 use Rattle.device.specs.Start.{badSettings, refusedSettings, startAfter}
 use Rattle.device.proofs.Effects.{fresh-length, fresh-settings, fresh-clock, fresh-since, fresh-override, fresh-zones}
 use Rattle.demands.specs.Run.{Call, run}
-use Rattle.demands.specs.History.{newest, clockBy, overrideBy, joinedBy, sinceBy, log, startedWith, InPairs}
+use Rattle.demands.specs.History.{newest, clockBy, overrideBy, joinedBy, sinceBy}
+use Rattle.demands.specs.Accepted.{log, startedWith, InPairs}
 use Rattle.demands.proofs.Same.{at, Same}
 use Rattle.demands.proofs.Agree.{Agree}
 use Rattle.demands.proofs.Steps.{agree-next}

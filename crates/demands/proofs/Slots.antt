@@ -11,7 +11,8 @@ use Rattle.device.specs.Zones.{freeZone, nothing, heldOf}
 use Rattle.device.specs.Words.{zoneAt}
 use Rattle.device.proofs.Lens.{zones-at}
 use Rattle.demands.specs.Run.{Call, run}
-use Rattle.demands.specs.History.{Log, recordBy, history, startedWith, InPairs}
+use Rattle.demands.specs.History.{Log, recordBy}
+use Rattle.demands.specs.Accepted.{history, startedWith, InPairs}
 use Rattle.demands.specs.ReleasedSlot.{ownSince, SetTogether, ReleasedSlot}
 use Rattle.demands.proofs.Says.{held-of}
 use Rattle.demands.proofs.Own.{record-own, set-together}

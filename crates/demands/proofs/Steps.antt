@@ -22,7 +22,8 @@ use Rattle.frames.specs.Writing.{writingNumber}
 use Rattle.frames.specs.declared.requests.Reading.{Reading}
 use Rattle.kernel.specs.Frame.{responseTo, responseFrame, numberFrom, frameNumber, obeyedBy, frameAfter}
 use Rattle.demands.specs.Run.{Call, join, leave, lost, back, override, clear, ask, plan, frame, number, next}
-use Rattle.demands.specs.History.{joins, leaves, links, commands, overrides, passes, Log, clockBy, overrideBy, joinedBy, upBy, recordBy, zonesBy, linkNumberBy, commandNumberBy, kept, outcomeBy, responseBy, responseFrameBy, numberFromBy, numberBy, tells, entry}
+use Rattle.demands.specs.History.{joins, leaves, links, commands, overrides, passes, Log, clockBy, overrideBy, joinedBy, upBy, recordBy, zonesBy}
+use Rattle.demands.specs.Accepted.{linkNumberBy, commandNumberBy, kept, outcomeBy, responseBy, responseFrameBy, numberFromBy, numberBy, tells, entry}
 use Rattle.demands.proofs.Readings.{refuses, writes}
 use Rattle.demands.proofs.Same.{found, joined-same}
 use Rattle.demands.proofs.Count.{full-same}

@@ -26,7 +26,7 @@ use Rattle.conformance.specs.declared.Inputs.{Inputs}
 use Rattle.conformance.specs.Report.{numberOf, reportOf, pairsAfter}
 use Rattle.conformance.specs.Statements.{Exact, Ordered}
 use Rattle.demands.specs.Run.{Call, number, run}
-use Rattle.demands.specs.History.{numberBy, responseFrameBy, startedWith, InPairs, history, told}
+use Rattle.demands.specs.Accepted.{numberBy, responseFrameBy, startedWith, InPairs, history, told}
 use Rattle.demands.specs.Answers.{Answers, Responds}
 use Rattle.demands.specs.ReleasedSlot.{ReleasedSlot}
 

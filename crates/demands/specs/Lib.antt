@@ -1,5 +1,6 @@
 pub mod Run
 pub mod History
+pub mod Accepted
 pub mod Answers
 pub mod ReleasedSlot
 pub mod Demands

@@ -14,7 +14,8 @@ use Rattle.device.specs.Zones.{nothing, isJoined, heldOf}
 use Rattle.device.specs.Words.{zoneAt}
 use Rattle.device.specs.Commands.{action, untilOf, durationOf}
 use Rattle.demands.specs.Run.{Call, run}
-use Rattle.demands.specs.History.{Told, joins, leaves, links, commands, overrides, passes, Log, about, recordBy, history, startedWith}
+use Rattle.demands.specs.History.{Told, joins, leaves, links, commands, overrides, passes, Log, about, recordBy}
+use Rattle.demands.specs.Accepted.{history, startedWith}
 
 unfoldable pub isJoin : Told → Bool
 isJoin (joins y k) = true
