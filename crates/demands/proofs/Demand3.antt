@@ -7,13 +7,13 @@ use native.Mathlib.Omega.{arith}
 use lib.Dec.{ltb, leb}
 use lib.IntN.{ℤ}
 use lib.ListN.{length}
-use borrow.Author.Tests.{leb-false}
+use borrow.Author.Tests.{leb-false, lt-ltb}
 use Rattle.cbor.specs.Bytes.{putWhole}
 use Rattle.frames.specs.Requests.{readRequest}
 use Rattle.kernel.specs.Frame.{frameOut}
-use Rattle.device.specs.Sizes.{end}
+use Rattle.device.specs.Sizes.{end, valueEnd}
 use Rattle.device.specs.Words.{clockOf, zonesOf}
-use Rattle.device.specs.Holds.{situationOf, valuesAt}
+use Rattle.device.specs.Holds.{situationOf, shown, valuesAt}
 use Rattle.device.specs.Refusals.{firstOf, late}
 use Rattle.planner.specs.Rows.{last, plan, IsPlan}
 use Rattle.planner.specs.Plan.{planOf, planNumber, planAnswer, planSlice}
@@ -26,6 +26,7 @@ use Rattle.demands.proofs.Count.{at-most}
 use Rattle.demands.proofs.Agree.{agree-values}
 use Rattle.demands.proofs.Steps.{number-same, response-same}
 use Rattle.demands.proofs.Reached.{agree-run}
+use Rattle.demands.proofs.Ranges.{value-small}
 use Rattle.demands.proofs.Slots.{released-slot}
 
 -- an accepted plan's time is one that the clock can show
@@ -62,6 +63,7 @@ demand-3 s k calls =
     record {
       plan = lists d (valuesAt (told s calls)) (fun-ext v);
       values = v;
+      whole = λ t q n l e. unfold shown in rw (e, lt-ltb n valueEnd (value-small s calls t q n l e));
       numbers = number-same (startedWith s) d h a;
       responses = λ z t bytes out. unfold frameOut in ap (putWhole out 0) (response-same (startedWith s) d h a z t (readRequest bytes));
       eight = at-most (startedWith s) (zonesOf d) h (a .zones);

@@ -9,7 +9,9 @@ pub mod Steps
 pub mod Reached
 pub mod Answers
 pub mod Responses
+pub mod Small
 pub mod Own
+pub mod Ranges
 pub mod Slots
 pub mod Demand1
 pub mod Demand2

@@ -1,19 +1,20 @@
 -- THE TENDER'S THREE DEMANDS, over the definitions that the contracts of the calls cite. Proved in proofs/Demand1, Demand2 and Demand3.
-use Prim.Native.Nat.{ℕ, _+_, _≤_}
+use Prim.Native.Nat.{ℕ, _+_, _≤_, _<_}
 use mathlib.Core.Path.{_≡_}
 use mathlib.Core.Logic.{_≢_}
 use mathlib.Core.List.{List, [], _∷_}
-use lib.IntN.{ℤ, negsuc}
+use lib.IntN.{ℤ, pos, negsuc}
 use lib.ListN.{length, replicate}
 use Rattle.cbor.specs.Bytes.{putWhole}
 use Rattle.cbor.specs.Laws.{PayloadExact, OneItem}
+use Rattle.messages.specs.declared.Amount.the-variants.{Is}
 use Rattle.messages.specs.declared.Command.{Command}
 use Rattle.frames.specs.Requests.{readRequest}
 use Rattle.frames.specs.Writing.{writingNumber, writtenOf, leftBy}
 use Rattle.device.specs.declared.Settings.{Settings}
 use Rattle.device.specs.declared.Zone.{Zone}
 use Rattle.device.specs.Sizes.{helds}
-use Rattle.device.specs.Holds.{Situation, situationOf, valuesAt}
+use Rattle.device.specs.Holds.{Situation, situationOf, valueAt, shown, valuesAt}
 use Rattle.device.specs.Table.{Table, Expiry}
 use Rattle.device.specs.Refusals.{firstOf}
 use Rattle.device.specs.Calls.{askNumber, askAnswer}
@@ -80,7 +81,9 @@ pub record FromHistory (s : Settings) (calls : List Call) : Type 0 where
       → Lists (valuesAt (told s calls)) t out (planSlice (run s calls) t out) (planAnswer (run s calls) t (length out) .count)
   -- "Those values come from the history alone": the control state, each limit and each setpoint, at every second
   pub values : (t : ℕ) → valuesAt (situationOf (run s calls)) t ≡ valuesAt (told s calls) t
-  -- so do the number of each call, and the response to each frame
+  -- a value that is there is shown as it is: none is as large as 2^63, so -1 is absent alone
+  pub whole : (t q v : ℕ) → q < helds → valueAt (told s calls) t q ≡ Is v → shown (valueAt (told s calls) t q) ≡ pos v
+  -- the number of each call and the response to each frame come from the history too
   pub numbers : (c : Call) → number (run s calls) c ≡ numberBy (startedWith s) (history s calls) c
   pub responses : (z t : ℕ) (bytes out : List ℕ)
       → frameOut (run s calls) z t bytes out ≡ putWhole out 0 (responseFrameBy (startedWith s) (history s calls) z t (readRequest bytes))
