@@ -68,7 +68,7 @@ unfolding Small
 held-small s h k z q =
     ⊎-elim (λ e. let v : heldBy s h z q .value ≡ 0 = ap (λ (x : Held). x .value) e in omega arith)
     (λ r. let v : heldBy s h z q .value ≡ r .value = ap (λ (x : Held). x .value) (r .both) in
-        let n = small-action s (r .command) q (r .value) (k (r .time) z (r .command) (r .accepted)) (r .sets) in omega arith)
+    let n = small-action s (r .command) q (r .value) (k (r .time) z (r .command) (r .accepted)) (r .sets) in omega arith)
     (set-together s h z q)
 
 zone-small : (s : Settings) (h : Log) → Small h → (q : ℕ) → q < helds → (x : Zone) → List·Memᴰ x (zonesBy s h) → heldOf x q .value < valueEnd
