@@ -10,7 +10,7 @@ use Rattle.messages.specs.Numbers.{CONTROLLED, LIMITED, FAILSAFE, OVERRIDE}
 use Rattle.messages.specs.declared.Amount.the-variants.{Absent, Is}
 use Rattle.device.specs.Sizes.{helds, most}
 use Rattle.device.specs.Zones.{freeZone, isJoined, anyJoined, anyUp, heldOf}
-use Rattle.device.specs.Holds.{isLimit, directionOf, supports, claimOf, goesBefore, winner, Situation, inFailsafe, failsafeValue, valueAt, present, stateAt}
+use Rattle.device.specs.Holds.{isLimit, directionOf, supports, noClaim, claimOf, goesBefore, winner, Situation, inFailsafe, failsafeValue, valueAt, present, stateAt}
 use Rattle.device.specs.Refusals.{firstOf}
 use Rattle.device.specs.Commands.{action, durationOf, obeyed}
 use Rattle.device.specs.declared.Zone.{Zone}
@@ -88,4 +88,4 @@ Expiry s c x =
     → claimOf t q (obeyed s c n x)
     ≡ cond (ltb t (endOf n (durationOf c)))
     (record { there = true; value = v; rank = x .rank; id = x .id })
-    (record { there = false; value = 0; rank = 0; id = 0 })
+    noClaim
