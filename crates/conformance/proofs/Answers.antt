@@ -6,20 +6,18 @@ use mathlib.Core.List.{List, [], _∷_}
 use native.Mathlib.Omega.{arith}
 use lib.Dec.{eqb}
 use lib.ListN.{length}
-use borrow.Author.Tests.{not-false, ltb-true, lt-ltb, le-ltb}
+use borrow.Author.Tests.{not-false, lt-ltb, le-ltb}
 use Rattle.conformance.specs.Lists.{keep, ascends, firstOf, front}
 use Rattle.conformance.specs.Rules.{broken, brokenIn, breaches, candidates}
 use Rattle.conformance.specs.Report.{inRange, numberOf, reportOf, flat, pairsAfter}
 use Rattle.conformance.specs.declared.Inputs.{Inputs}
 use Rattle.conformance.specs.declared.Answer.{Answer}
 use Rattle.conformance.specs.declared.breaches.Pair.{Pair}
-use Rattle.conformance.proofs.Bools.{and-left}
+use Rattle.conformance.proofs.Bounds.{type-below}
 use Rattle.conformance.proofs.Tables.{length-candidates}
 
-pub type-below : (i : Inputs) {b : Bool} → b ≡ inRange i → not b ≡ false → i .endpoint < 11
-unfolding inRange
-type-below i {b} range e =
-    ltb-true _ _ (and-left _ _ (and-left _ _ (and-left _ _ (and-left _ _ (sym range ∙ not-false b e)))))
+pub judged-type : (i : Inputs) {b : Bool} → b ≡ inRange i → not b ≡ false → i .endpoint < 11
+judged-type i {b} range e = type-below i (sym range ∙ not-false b e)
 
 length-flat : (ps : List Pair) → length (flat ps) ≡ 2 * length ps
 unfolding flat

@@ -50,14 +50,14 @@ required-below : (t b : ℕ) → t < 11 → member b (bitsOf required t) ≡ tru
 unfolding required
 required-below t b h m = member-below b (bitsOf required t) (passes (λ t. below (bitsOf required t)) 11 t refl h) m
 
+pub type-below : (i : Inputs) → inRange i ≡ true → i .endpoint < 11
+unfolding inRange
+type-below i range = ltb-true _ _ (and-left _ _ (and-left _ _ (and-left _ _ (and-left _ _ range))))
+
 module _ (i : Inputs) (b : ℕ) (range : inRange i ≡ true) where
   features-below : i .features < 2048
   unfolding inRange
   features-below = ltb-true _ _ (and-right (ltb (i .endpoint) 11) _ (and-left _ _ (and-left _ _ (and-left _ _ range))))
-
-  type-below : i .endpoint < 11
-  unfolding inRange
-  type-below = ltb-true _ _ (and-left _ _ (and-left _ _ (and-left _ _ (and-left _ _ range))))
 
   has-below : has i b ≡ true → b < 11
   has-below e = bit-below (i .features) b features-below e
@@ -79,7 +79,7 @@ module _ (i : Inputs) (b : ℕ) (range : inRange i ≡ true) where
 
   pub required-bit-below : lacksRequired i b ≡ true → b < 11
   unfolding lacksRequired
-  required-bit-below e = required-below (i .endpoint) b type-below (and-left _ (not (has i b)) e)
+  required-bit-below e = required-below (i .endpoint) b (type-below i range) (and-left _ (not (has i b)) e)
 
   pub invalid-below : hasInvalid i b ≡ true → b < 11
   unfolding hasInvalid

@@ -1,4 +1,4 @@
--- What is proved of the list of breaches, beside the call's contract (proofs/Laws has the proofs).
+-- What is proved of the list of breaches, beside the call's contract (proofs/Laws and proofs/Rises have the proofs).
 use Prim.Native.Nat.{ℕ, suc, _<_}
 use mathlib.Core.Bool.{true}
 use mathlib.Core.Path.{_≡_}
