@@ -6,7 +6,7 @@ use Prim.Native.Nat.{ℕ, _≤_}
 use native.Mathlib.Omega.{arith}
 use lib.Dec.{leb, eqb}
 use lib.ListN.{length}
-use borrow.Author.Tests.{eqb-true, ne-eqb, leb-true, leb-false}
+use borrow.Author.Tests.{eqb-true, ne-eqb, leb-true, leb-false, not-false}
 use Rattle.messages.specs.declared.Command.{Command}
 use Rattle.device.specs.declared.Zone.{Zone}
 use Rattle.device.specs.declared.Settings.{Settings}
@@ -39,10 +39,6 @@ unheard : (there u v : Bool) (n : ℕ) (l : List (Bool × ℕ)) → (there ≡ t
 unfolding firstOf
 unheard true u v n l e = rw (e refl)
 unheard false u v n l e = refl
-
-not-false : (b : Bool) → not b ≡ false → b ≡ true
-not-false true e = refl
-not-false false e = sym e
 
 module _ (s : Settings) (ws : List ℕ) (h : Log) (a : Agree s ws h) where
   there : (z : ℕ) → joined (zonesOf ws) z ≡ joinedBy h z
