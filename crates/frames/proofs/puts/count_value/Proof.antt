@@ -1,0 +1,33 @@
+use borrow.Author.Needs.{needs}
+use Rattle.frames.proofs.puts.count_value.Statement.{statement}
+use Rattle.frames.proofs.puts.count_value.Tie as tie
+use Rattle.frames.proofs.puts.count_value.Reads as reads
+use Rattle.frames.proofs.puts.count_value.Lts as lts
+
+-- src/puts.rt:77:26
+enum-told : tie.Need-enum-told
+enum-told c = search needs
+
+-- src/puts.rt:78:24
+enum-told-2 : tie.Need-enum-told-2
+enum-told-2 c = search needs
+
+-- src/puts.rt:79:28
+enum-told-3 : tie.Need-enum-told-3
+enum-told-3 c = search needs
+
+-- src/puts.rt:72:1
+returns : tie.Need-returns
+returns c = ?
+
+-- src/puts.rt:72:1
+returns-2 : tie.Need-returns-2
+returns-2 c = ?
+
+-- src/puts.rt:72:1
+returns-3 : tie.Need-returns-3
+returns-3 c = ?
+
+pub count-value-spec : {M : Type 1} → statement M
+count-value-spec =
+    tie.close (tie.spec enum-told enum-told-2 enum-told-3 returns returns-2 returns-3)

@@ -1,0 +1,21 @@
+use borrow.Author.Needs.{needs}
+use Rattle.frames.proofs.requests.setpoints_of.Statement.{statement}
+use Rattle.frames.proofs.requests.setpoints_of.Tie as tie
+use Rattle.frames.proofs.requests.setpoints_of.Reads as reads
+use Rattle.frames.proofs.requests.setpoints_of.Lts as lts
+use Rattle.frames.proofs.requests.target_of.Reads as target-of-reads
+
+-- src/requests.rt:157:22
+target-of-requires : tie.Need-target-of-requires
+target-of-requires c κs = search needs
+
+-- src/requests.rt:158:21
+target-of-requires-2 : tie.Need-target-of-requires-2
+target-of-requires-2 c κs = search needs
+
+-- src/requests.rt:150:1
+returns : tie.Need-returns
+returns c = ?
+
+pub setpoints-of-spec : {M : Type 1} → statement M
+setpoints-of-spec = tie.close (tie.spec target-of-requires target-of-requires-2 returns)

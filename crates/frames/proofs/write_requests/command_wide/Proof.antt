@@ -1,0 +1,82 @@
+use borrow.Author.Needs.{needs}
+use Rattle.frames.proofs.write_requests.command_wide.Statement.{statement}
+use Rattle.frames.proofs.write_requests.command_wide.Tie as tie
+use Rattle.frames.proofs.write_requests.command_wide.Reads as reads
+use Rattle.frames.proofs.write_requests.command_wide.Lts as lts
+use Rattle.frames.proofs.tests.either.Reads as either-reads
+use Rattle.frames.proofs.write_requests.aim_wide.Reads as aim-wide-reads
+
+-- src/write_requests.rt:156:27
+enum-known-c : tie.Need-enum-known-c
+enum-known-c c = search needs
+
+-- src/write_requests.rt:156:33
+either-requires : tie.Need-either-requires
+either-requires c κs = search needs
+
+-- src/write_requests.rt:157:29
+enum-known-c-2 : tie.Need-enum-known-c-2
+enum-known-c-2 c = search needs
+
+-- src/write_requests.rt:157:35
+aim-wide-requires : tie.Need-aim-wide-requires
+aim-wide-requires c κs = search needs
+
+-- src/write_requests.rt:158:30
+enum-known-c-3 : tie.Need-enum-known-c-3
+enum-known-c-3 c = search needs
+
+-- src/write_requests.rt:158:36
+either-requires-2 : tie.Need-either-requires-2
+either-requires-2 c κs = search needs
+
+-- src/write_requests.rt:159:32
+enum-known-c-4 : tie.Need-enum-known-c-4
+enum-known-c-4 c = search needs
+
+-- src/write_requests.rt:159:38
+aim-wide-requires-2 : tie.Need-aim-wide-requires-2
+aim-wide-requires-2 c κs = search needs
+
+-- src/write_requests.rt:160:27
+enum-known-c-5 : tie.Need-enum-known-c-5
+enum-known-c-5 c = search needs
+
+-- src/write_requests.rt:152:1
+returns : tie.Need-returns
+returns c = ?
+
+-- src/write_requests.rt:152:1
+returns-2 : tie.Need-returns-2
+returns-2 c = ?
+
+-- src/write_requests.rt:152:1
+returns-3 : tie.Need-returns-3
+returns-3 c = ?
+
+-- src/write_requests.rt:152:1
+returns-4 : tie.Need-returns-4
+returns-4 c = ?
+
+-- src/write_requests.rt:152:1
+returns-5 : tie.Need-returns-5
+returns-5 c = ?
+
+pub command-wide-spec : {M : Type 1} → statement M
+command-wide-spec =
+    tie.close
+    (tie.spec
+    enum-known-c
+    either-requires
+    enum-known-c-2
+    aim-wide-requires
+    enum-known-c-3
+    either-requires-2
+    enum-known-c-4
+    aim-wide-requires-2
+    enum-known-c-5
+    returns
+    returns-2
+    returns-3
+    returns-4
+    returns-5)

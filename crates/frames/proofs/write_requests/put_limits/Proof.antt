@@ -1,0 +1,49 @@
+use borrow.Author.Needs.{needs}
+use Rattle.frames.proofs.write_requests.put_limits.Statement.{statement}
+use Rattle.frames.proofs.write_requests.put_limits.Tie as tie
+use Rattle.frames.proofs.write_requests.put_limits.Reads as reads
+use Rattle.frames.proofs.write_requests.put_limits.Lts as lts
+use Rattle.frames.proofs.puts.put_amount.Reads as put-amount-reads
+use Rattle.frames.proofs.puts.put_uint.Reads as put-uint-reads
+use Rattle.frames.proofs.puts.put_value.Reads as put-value-reads
+use Rattle.frames.proofs.write_requests.duration_amount.Reads as duration-amount-reads
+
+-- src/write_requests.rt:112:9
+duration-amount-requires : tie.Need-duration-amount-requires
+duration-amount-requires c κs = search needs
+
+-- src/write_requests.rt:113:9
+put-value-requires : tie.Need-put-value-requires
+put-value-requires c κs = search needs
+
+-- src/write_requests.rt:114:9
+put-value-requires-2 : tie.Need-put-value-requires-2
+put-value-requires-2 c κs = search needs
+
+-- src/write_requests.rt:115:9
+put-amount-requires : tie.Need-put-amount-requires
+put-amount-requires c κs = search needs
+
+-- src/write_requests.rt:116:5
+put-uint-requires : tie.Need-put-uint-requires
+put-uint-requires c κs = search needs
+
+-- src/write_requests.rt:105:1
+same-length : tie.Need-same-length
+same-length c = search needs
+
+-- src/write_requests.rt:105:1
+returns : tie.Need-returns
+returns c = ?
+
+pub put-limits-spec : {M : Type 1} → statement M
+put-limits-spec =
+    tie.close
+    (tie.spec
+    duration-amount-requires
+    put-value-requires
+    put-value-requires-2
+    put-amount-requires
+    put-uint-requires
+    same-length
+    returns)

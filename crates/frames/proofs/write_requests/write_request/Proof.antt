@@ -1,0 +1,59 @@
+use borrow.Author.Needs.{needs}
+use Rattle.frames.proofs.write_requests.write_request.Statement.{statement}
+use Rattle.frames.proofs.write_requests.write_request.Tie as tie
+use Rattle.frames.proofs.write_requests.write_request.Reads as reads
+use Rattle.frames.proofs.write_requests.write_request.Lts as lts
+use Rattle.frames.proofs.prefix.refused.Reads as refused-reads
+use Rattle.frames.proofs.prefix.send.Reads as send-reads
+use Rattle.frames.proofs.write_requests.put_request.Reads as put-request-reads
+use Rattle.frames.proofs.write_requests.request_number.Reads as request-number-reads
+
+-- src/write_requests.rt:204:9
+request-number-requires : tie.Need-request-number-requires
+request-number-requires c κs = search needs
+
+-- src/write_requests.rt:206:9
+refused-requires : tie.Need-refused-requires
+refused-requires c κs = search needs
+
+-- src/write_requests.rt:206:9
+returns : tie.Need-returns
+returns c = ?
+
+-- src/write_requests.rt:209:25
+slice-aggregate-put-request : tie.Need-slice-aggregate-put-request
+slice-aggregate-put-request c = search needs
+
+-- src/write_requests.rt:209:9
+put-request-requires : tie.Need-put-request-requires
+put-request-requires c κs = search needs
+
+-- src/write_requests.rt:210:15
+slice-aggregate-send : tie.Need-slice-aggregate-send
+slice-aggregate-send c = search needs
+
+-- src/write_requests.rt:210:5
+send-requires : tie.Need-send-requires
+send-requires c κs = search needs
+
+-- src/write_requests.rt:201:1
+same-length : tie.Need-same-length
+same-length c = search needs
+
+-- src/write_requests.rt:201:1
+returns-2 : tie.Need-returns-2
+returns-2 c = ?
+
+pub write-request-spec : {M : Type 1} → statement M
+write-request-spec =
+    tie.close
+    (tie.spec
+    request-number-requires
+    refused-requires
+    returns
+    slice-aggregate-put-request
+    put-request-requires
+    slice-aggregate-send
+    send-requires
+    same-length
+    returns-2)

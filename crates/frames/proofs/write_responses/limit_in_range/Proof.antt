@@ -1,0 +1,37 @@
+use borrow.Author.Needs.{needs}
+use Rattle.frames.proofs.write_responses.limit_in_range.Statement.{statement}
+use Rattle.frames.proofs.write_responses.limit_in_range.Tie as tie
+use Rattle.frames.proofs.write_responses.limit_in_range.Reads as reads
+use Rattle.frames.proofs.write_responses.limit_in_range.Lts as lts
+use Rattle.frames.proofs.requests.all4.Reads as all4-reads
+use Rattle.frames.proofs.write_responses.amount_up_to.Reads as amount-up-to-reads
+
+-- src/write_responses.rt:134:9
+amount-up-to-requires : tie.Need-amount-up-to-requires
+amount-up-to-requires c κs = search needs
+
+-- src/write_responses.rt:135:9
+amount-up-to-requires-2 : tie.Need-amount-up-to-requires-2
+amount-up-to-requires-2 c κs = search needs
+
+-- src/write_responses.rt:136:9
+amount-up-to-requires-3 : tie.Need-amount-up-to-requires-3
+amount-up-to-requires-3 c κs = search needs
+
+-- src/write_responses.rt:132:5
+all4-requires : tie.Need-all4-requires
+all4-requires c κs = search needs
+
+-- src/write_responses.rt:125:1
+returns : tie.Need-returns
+returns c = ?
+
+pub limit-in-range-spec : {M : Type 1} → statement M
+limit-in-range-spec =
+    tie.close
+    (tie.spec
+    amount-up-to-requires
+    amount-up-to-requires-2
+    amount-up-to-requires-3
+    all4-requires
+    returns)
