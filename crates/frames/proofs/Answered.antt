@@ -175,23 +175,26 @@ module _ (c : ℕ) (frame : List ℕ) (b : Bool) (be : b ≡ framed frame) where
   unfolding answerFrom
   not-framed y = rw (sym be ∙ y) refl
 
-  module _ (y : b ≡ true) (t : Bool) (te : t ≡ isSome (payloadOf (payloadIn frame))) where
+  module _ (y : b ≡ true) (p : List ℕ) (pe : p ≡ payloadIn frame) (t : Bool) (te : t ≡ isSome (payloadOf p)) where
+    tested : t ≡ isSome (payloadOf (payloadIn frame))
+    tested = te ∙ ap (λ (q : List ℕ). isSome (payloadOf q)) pe
+
     pub not-item : t ≡ false → Answer.Refused 2 ≡ answerFrom c frame
     unfolding answerFrom answerIn
-    not-item z = rw (sym be ∙ y, is-none (payloadOf (payloadIn frame)) (sym te ∙ z)) refl
+    not-item z = rw (sym be ∙ y, is-none (payloadOf (payloadIn frame)) (sym tested ∙ z)) refl
 
-    module _ (z : t ≡ true) (root : Inner) (rr : RootReads (payloadIn frame) root) where
+    module _ (z : t ≡ true) (root : Inner) (rr : RootReads p root) where
       pub root-not-map : root .ok ≡ false → Answer.Refused 3 ≡ answerFrom c frame
       unfolding answerFrom answerIn RootReads bind
       root-not-map q =
-          let x = is-some (payloadOf (payloadIn frame)) (sym te ∙ z) in
-          rw (sym be ∙ y, x .1, rr (x .0) (x .1) .0 q) refl
+          let x = is-some (payloadOf (payloadIn frame)) (sym tested ∙ z) in
+          rw (sym be ∙ y, x .1, rr (x .0) (ap payloadOf pe ∙ x .1) .0 q) refl
 
-      pub root-is-map : root .ok ≡ true → (r : Answer) → BodyReads (payloadIn frame) (root .next) c r → r ≡ answerFrom c frame
+      pub root-is-map : root .ok ≡ true → (r : Answer) → BodyReads p (root .next) c r → r ≡ answerFrom c frame
       unfolding RootReads BodyReads
       root-is-map q r h =
-          let x = is-some (payloadOf (payloadIn frame)) (sym te ∙ z) in
-          let m = rr (x .0) (x .1) .1 q in
+          let x = is-some (payloadOf (payloadIn frame)) (sym tested ∙ z) in
+          let m = rr (x .0) (ap payloadOf pe ∙ x .1) .1 q in
           h (m .0) (m .2) ∙ sym (answer-map-of c frame (x .0) (m .0) (sym be ∙ y) (x .1) (m .1))
 
 pub named : (c : ℕ) (frame : List ℕ) (b : Bool) → b ≡ servedCommand c → b ≡ true → (r : Answer) → r ≡ answerFrom c frame → r ≡ readResponse c frame

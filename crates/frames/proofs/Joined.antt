@@ -1,6 +1,6 @@
 -- Joined tests taken apart. Assumes nothing.
 use Prim.Native.Nat.{ℕ}
-use mathlib.Core.Path.{_≡_, refl, sym, _∙_}
+use mathlib.Core.Path.{_≡_, refl, sym, ap, _∙_}
 use mathlib.Core.Bool.{Bool, true, false, not, _&&_, _||_}
 use native.Mathlib.Omega.{arith}
 
@@ -31,3 +31,9 @@ or-right false b e = e
 pub not-is-false : (a : Bool) → not a ≡ false → a ≡ true
 not-is-false true e = refl
 not-is-false false e = absurd (no-both e)
+
+pub and-same : {a b c d : Bool} → a ≡ c → b ≡ d → (a && b) ≡ (c && d)
+and-same {a} {b} {c} {d} e f = ap (λ (x : Bool). x && b) e ∙ ap (λ (x : Bool). c && x) f
+
+pub or-same : {a b c d : Bool} → a ≡ c → b ≡ d → (a || b) ≡ (c || d)
+or-same {a} {b} {c} {d} e f = ap (λ (x : Bool). x || b) e ∙ ap (λ (x : Bool). c || x) f

@@ -6,6 +6,9 @@ use mathlib.Core.List.{List}
 use mathlib.Core.Option.{Option, some, none}
 use lib.Dec.{leb, eqb, ltb}
 use lib.IntN.{ℤ}
+use lib.ListN.{getD}
+use mir.Val.{Fits}
+use mir.Syntax.{w8}
 use Rattle.cbor.specs.Bytes.{Bytes}
 use Rattle.cbor.specs.Head.{headAt}
 use Rattle.cbor.specs.Item.{Item, Pairs, payloadOf, levels}
@@ -101,3 +104,8 @@ module _ (s : List ℕ) (ok : Bytes s) (h : Head) (he : h ≡ headAt s 0) where
   pub root-wrong : h ≡ Head.Bad → (r : Inner) → RootReads s r
   unfolding RootReads
   root-wrong q r i it = absurd (root-head s ok i it (sym he ∙ q))
+
+-- the bytes of a slice
+pub all-bytes : (s : List ℕ) → ((k : ℕ) → Fits w8 (getD s k 0)) → Bytes s
+unfolding Bytes
+all-bytes s h k = h k .fits

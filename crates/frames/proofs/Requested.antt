@@ -123,21 +123,24 @@ module _ (frame : List ℕ) (b : Bool) (be : b ≡ framed frame) where
   unfolding readRequest
   not-framed y = rw (sym be ∙ y) refl
 
-  module _ (y : b ≡ true) (t : Bool) (te : t ≡ isSome (payloadOf (payloadIn frame))) where
+  module _ (y : b ≡ true) (p : List ℕ) (pe : p ≡ payloadIn frame) (t : Bool) (te : t ≡ isSome (payloadOf p)) where
+    tested : t ≡ isSome (payloadOf (payloadIn frame))
+    tested = te ∙ ap (λ (q : List ℕ). isSome (payloadOf q)) pe
+
     pub not-item : t ≡ false → Reading.Refused 2 ≡ readRequest frame
     unfolding readRequest fromPayload
-    not-item z = rw (sym be ∙ y, is-none (payloadOf (payloadIn frame)) (sym te ∙ z)) refl
+    not-item z = rw (sym be ∙ y, is-none (payloadOf (payloadIn frame)) (sym tested ∙ z)) refl
 
-    module _ (z : t ≡ true) (root : Inner) (rr : RootReads (payloadIn frame) root) where
+    module _ (z : t ≡ true) (root : Inner) (rr : RootReads p root) where
       pub root-not-map : root .ok ≡ false → Reading.Refused 3 ≡ readRequest frame
       unfolding readRequest fromPayload RootReads fromEnvelope bind
       root-not-map q =
-          let x = is-some (payloadOf (payloadIn frame)) (sym te ∙ z) in
-          rw (sym be ∙ y, x .1, rr (x .0) (x .1) .0 q) refl
+          let x = is-some (payloadOf (payloadIn frame)) (sym tested ∙ z) in
+          rw (sym be ∙ y, x .1, rr (x .0) (ap payloadOf pe ∙ x .1) .0 q) refl
 
-      pub root-is-map : root .ok ≡ true → (r : Reading) → MessageReads (payloadIn frame) (root .next) r → r ≡ readRequest frame
+      pub root-is-map : root .ok ≡ true → (r : Reading) → MessageReads p (root .next) r → r ≡ readRequest frame
       unfolding RootReads MessageReads
       root-is-map q r h =
-          let x = is-some (payloadOf (payloadIn frame)) (sym te ∙ z) in
-          let m = rr (x .0) (x .1) .1 q in
+          let x = is-some (payloadOf (payloadIn frame)) (sym tested ∙ z) in
+          let m = rr (x .0) (ap payloadOf pe ∙ x .1) .1 q in
           h (m .0) (m .2) ∙ sym (read-map-of frame (x .0) (m .0) (sym be ∙ y) (x .1) (m .1))

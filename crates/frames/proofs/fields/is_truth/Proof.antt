@@ -1,10 +1,6 @@
 use borrow.Author.Needs.{needs}
 use Rattle.frames.proofs.fields.is_truth.Statement.{statement}
 use Rattle.frames.proofs.fields.is_truth.Tie as tie
-use Rattle.frames.proofs.fields.is_truth.Reads as reads
-use Rattle.frames.proofs.fields.is_truth.Lts as lts
-use Rattle.frames.proofs.tests.both.Reads as both-reads
-use Rattle.frames.proofs.tests.either.Reads as either-reads
 
 -- src/fields.rt:218:22
 either-requires : tie.Need-either-requires
@@ -16,7 +12,7 @@ both-requires c κs = search needs
 
 -- src/fields.rt:215:1
 returns : tie.Need-returns
-returns c = ?
+returns c = rw (c .both .ensures, c .before .either .ensures)
 
 pub is-truth-spec : {M : Type 1} → statement M
 is-truth-spec = tie.close (tie.spec either-requires both-requires returns)

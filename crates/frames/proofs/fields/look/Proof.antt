@@ -1,11 +1,7 @@
+use Rattle.frames.proofs.Looks.{look-there, look-bad, look-gone}
 use borrow.Author.Needs.{needs}
 use Rattle.frames.proofs.fields.look.Statement.{statement}
 use Rattle.frames.proofs.fields.look.Tie as tie
-use Rattle.frames.proofs.fields.look.Reads as reads
-use Rattle.frames.proofs.fields.look.Lts as lts
-use Rattle.cbor.proofs.read_head.Reads as read-head-reads
-use Rattle.cbor.proofs.seek.Reads as seek-reads
-use Rattle.frames.proofs.fields.nowhere.Reads as nowhere-reads
 
 -- src/fields.rt:61:9
 seek-requires : tie.Need-seek-requires
@@ -29,15 +25,15 @@ nowhere-requires c κs = search needs
 
 -- src/fields.rt:56:1
 returns : tie.Need-returns
-returns c = ?
+returns c = look-there (c .before .before .before .before .before .before .before .args .s .now) (c .before .before .before .before .before .before .before .args .w) (c .before .before .before .before .before .before .before .args .key) _ (c .before .before .before .before .before .seek .ensures) (c .before .before .before .before .if1 .taken) _ (c .before .before .before .read-head .ensures) _ _ _ (c .before .major .given .1)
 
 -- src/fields.rt:56:1
 returns-2 : tie.Need-returns-2
-returns-2 c = ?
+returns-2 c = look-bad (c .before .before .before .before .before .before .before .args .s .now) (c .before .before .before .before .before .before .before .args .w) (c .before .before .before .before .before .before .before .args .key) _ (c .before .before .before .before .before .seek .ensures) (c .before .before .before .before .if1 .taken) _ (c .before .before .before .read-head .ensures) (c .before .enum-told .given .1) _ (c .nowhere .ensures)
 
 -- src/fields.rt:56:1
 returns-3 : tie.Need-returns-3
-returns-3 c = ?
+returns-3 c = look-gone (c .before .before .before .args .s .now) (c .before .before .before .args .w) (c .before .before .before .args .key) _ (c .before .seek .ensures) (c .if1 .left)
 
 pub look-spec : {M : Type 1} → statement M
 look-spec =

@@ -1,10 +1,7 @@
+use Rattle.frames.proofs.Looks.{all-bytes, map-there}
 use borrow.Author.Needs.{needs}
 use Rattle.frames.proofs.fields.read_map.Statement.{statement}
 use Rattle.frames.proofs.fields.read_map.Tie as tie
-use Rattle.frames.proofs.fields.read_map.Reads as reads
-use Rattle.frames.proofs.fields.read_map.Lts as lts
-use Rattle.frames.proofs.fields.look.Reads as look-reads
-use Rattle.frames.proofs.fields.opened.Reads as opened-reads
 
 -- src/fields.rt:233:9
 look-requires : tie.Need-look-requires
@@ -16,7 +13,7 @@ opened-requires c κs = search needs
 
 -- src/fields.rt:229:1
 returns : tie.Need-returns
-returns c = ?
+returns c = map-there (c .before .before .before .args .s .now) (all-bytes (c .before .before .before .args .s .now) (c .before .before .shared-slice-known .given)) (c .before .before .before .args .w) (c .before .before .before .args .key) _ (c .before .look .ensures) _ (c .opened .ensures)
 
 pub read-map-spec : {M : Type 1} → statement M
 read-map-spec = tie.close (tie.spec look-requires opened-requires returns)

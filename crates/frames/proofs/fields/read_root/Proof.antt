@@ -1,11 +1,7 @@
+use Rattle.frames.proofs.Looks.{all-bytes, root-there, root-wrong}
 use borrow.Author.Needs.{needs}
 use Rattle.frames.proofs.fields.read_root.Statement.{statement}
 use Rattle.frames.proofs.fields.read_root.Tie as tie
-use Rattle.frames.proofs.fields.read_root.Reads as reads
-use Rattle.frames.proofs.fields.read_root.Lts as lts
-use Rattle.cbor.proofs.read_head.Reads as read-head-reads
-use Rattle.frames.proofs.fields.nowhere.Reads as nowhere-reads
-use Rattle.frames.proofs.fields.opened.Reads as opened-reads
 
 -- src/fields.rt:266:11
 read-head-requires : tie.Need-read-head-requires
@@ -29,11 +25,11 @@ nowhere-requires c κs = search needs
 
 -- src/fields.rt:262:1
 returns : tie.Need-returns
-returns c = ?
+returns c = root-there (c .before .before .before .before .before .before .args .s .now) (all-bytes (c .before .before .before .before .before .before .args .s .now) (c .before .before .before .before .before .shared-slice-known .given)) _ (c .before .before .before .before .read-head .ensures) _ _ _ (c .before .before .major .given .1) _ (c .opened .ensures)
 
 -- src/fields.rt:262:1
 returns-2 : tie.Need-returns-2
-returns-2 c = ?
+returns-2 c = root-wrong (c .before .before .before .before .before .args .s .now) (all-bytes (c .before .before .before .before .before .args .s .now) (c .before .before .before .before .shared-slice-known .given)) _ (c .before .before .before .read-head .ensures) (c .before .enum-told .given .1) _
 
 pub read-root-spec : {M : Type 1} → statement M
 read-root-spec =

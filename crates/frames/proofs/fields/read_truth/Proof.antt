@@ -1,11 +1,7 @@
+use Rattle.frames.proofs.Looks.{all-bytes, truth-there, truth-wrong}
 use borrow.Author.Needs.{needs}
 use Rattle.frames.proofs.fields.read_truth.Statement.{statement}
 use Rattle.frames.proofs.fields.read_truth.Tie as tie
-use Rattle.frames.proofs.fields.read_truth.Reads as reads
-use Rattle.frames.proofs.fields.read_truth.Lts as lts
-use Rattle.frames.proofs.fields.is_truth.Reads as is-truth-reads
-use Rattle.frames.proofs.fields.look.Reads as look-reads
-use Rattle.frames.proofs.fields.nowhere.Reads as nowhere-reads
 
 -- src/fields.rt:204:9
 look-requires : tie.Need-look-requires
@@ -17,7 +13,7 @@ is-truth-requires c κs = search needs
 
 -- src/fields.rt:207:9
 returns : tie.Need-returns
-returns c = ?
+returns c = truth-there (c .before .before .before .before .before .before .args .s .now) (all-bytes (c .before .before .before .before .before .before .args .s .now) (c .before .before .before .before .before .shared-slice-known .given)) (c .before .before .before .before .before .before .args .w) (c .before .before .before .before .before .before .args .key) _ (c .before .before .before .before .look .ensures) _ (c .before .before .is-truth .ensures) (c .before .if1 .taken)
 
 -- src/fields.rt:216:15
 nowhere-requires : tie.Need-nowhere-requires
@@ -25,7 +21,7 @@ nowhere-requires c κs = search needs
 
 -- src/fields.rt:200:1
 returns-2 : tie.Need-returns-2
-returns-2 c = ?
+returns-2 c = truth-wrong (c .before .before .before .before .before .before .args .s .now) (all-bytes (c .before .before .before .before .before .before .args .s .now) (c .before .before .before .before .before .shared-slice-known .given)) (c .before .before .before .before .before .before .args .w) (c .before .before .before .before .before .before .args .key) _ (c .before .before .before .before .look .ensures) _ (c .before .before .is-truth .ensures) (c .before .if1 .left) _ _
 
 pub read-truth-spec : {M : Type 1} → statement M
 read-truth-spec =

@@ -1,8 +1,7 @@
+use Rattle.frames.specs.Fields.{valueItem}
 use borrow.Author.Needs.{needs}
 use Rattle.frames.proofs.puts.count_value.Statement.{statement}
 use Rattle.frames.proofs.puts.count_value.Tie as tie
-use Rattle.frames.proofs.puts.count_value.Reads as reads
-use Rattle.frames.proofs.puts.count_value.Lts as lts
 
 -- src/puts.rt:77:26
 enum-told : tie.Need-enum-told
@@ -18,15 +17,18 @@ enum-told-3 c = search needs
 
 -- src/puts.rt:72:1
 returns : tie.Need-returns
-returns c = ?
+unfolding valueItem
+returns c = rw (c .enum-told .given .1)
 
 -- src/puts.rt:72:1
 returns-2 : tie.Need-returns-2
-returns-2 c = ?
+unfolding valueItem
+returns-2 c = rw (c .enum-told2 .given .1)
 
 -- src/puts.rt:72:1
 returns-3 : tie.Need-returns-3
-returns-3 c = ?
+unfolding valueItem
+returns-3 c = rw (c .enum-told3 .given .1)
 
 pub count-value-spec : {M : Type 1} → statement M
 count-value-spec =

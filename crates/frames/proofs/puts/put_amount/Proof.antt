@@ -1,9 +1,10 @@
+use Rattle.frames.specs.Fields.{amountItem}
+use Rattle.frames.proofs.Added.{adds-none, adds-more, adds-wider, adds-same, adds-head, adds-pair}
+use Rattle.cbor.specs.Item.{encode}
+use Rattle.frames.specs.Puts.{pairBytes, fieldBytes}
 use borrow.Author.Needs.{needs}
 use Rattle.frames.proofs.puts.put_amount.Statement.{statement}
 use Rattle.frames.proofs.puts.put_amount.Tie as tie
-use Rattle.frames.proofs.puts.put_amount.Reads as reads
-use Rattle.frames.proofs.puts.put_amount.Lts as lts
-use Rattle.frames.proofs.puts.put_pair.Reads as put-pair-reads
 
 -- src/puts.rt:48:27
 enum-told : tie.Need-enum-told
@@ -19,7 +20,8 @@ put-pair-requires c κs = search needs
 
 -- src/puts.rt:42:1
 returns : tie.Need-returns
-returns c = ?
+unfolding fieldBytes amountItem
+returns c = rw (c .enum-told .given .1) (adds-none (c .before .before .before .args .out .now) (c .before .before .before .args .at) _)
 
 -- src/puts.rt:42:1
 same-length : tie.Need-same-length
@@ -27,7 +29,8 @@ same-length c = search needs
 
 -- src/puts.rt:42:1
 returns-2 : tie.Need-returns-2
-returns-2 c = ?
+unfolding pairBytes fieldBytes encode amountItem
+returns-2 c = rw (c .before .before .before .before .before .a .given .1) (c .before .before .put-pair .ensures)
 
 pub put-amount-spec : {M : Type 1} → statement M
 put-amount-spec =

@@ -1,9 +1,13 @@
+use mir.Syntax.{w64}
+use mir.Val.{SFits}
+use Rattle.frames.proofs.Signs.{minus-fits, minus-cast, minus-item, plain-cast, plain-item}
+use Rattle.frames.specs.Fields.{valueItem}
+use Rattle.frames.proofs.Added.{adds-none, adds-more, adds-wider, adds-same, adds-head, adds-pair}
+use Rattle.cbor.specs.Item.{encode}
+use Rattle.frames.specs.Puts.{pairBytes, fieldBytes}
 use borrow.Author.Needs.{needs}
 use Rattle.frames.proofs.puts.put_value.Statement.{statement}
 use Rattle.frames.proofs.puts.put_value.Tie as tie
-use Rattle.frames.proofs.puts.put_value.Reads as reads
-use Rattle.frames.proofs.puts.put_value.Lts as lts
-use Rattle.frames.proofs.puts.put_pair.Reads as put-pair-reads
 
 -- src/puts.rt:60:26
 enum-told : tie.Need-enum-told
@@ -23,11 +27,11 @@ enum-known-f c = search needs
 
 -- src/puts.rt:64:51
 sub-put-pair : tie.Need-sub-put-pair
-sub-put-pair c = ?
+sub-put-pair c = let g : SFits w64 (c .before .before .before .f .given .0 .0) = search needs in minus-fits _ g (c .before .if1 .taken)
 
 -- src/puts.rt:64:50
 cast-put-pair : tie.Need-cast-put-pair
-cast-put-pair c = ?
+cast-put-pair c = let g : SFits w64 (c .before .before .before .f .given .0 .0) = search needs in minus-cast _ g (c .before .if1 .taken)
 
 -- src/puts.rt:64:17
 put-pair-requires-2 : tie.Need-put-pair-requires-2
@@ -39,11 +43,12 @@ same-length c = search needs
 
 -- src/puts.rt:64:17
 returns : tie.Need-returns
-returns c = ?
+unfolding pairBytes fieldBytes encode valueItem
+returns c = let g : SFits w64 (c .before .before .before .before .before .before .f .given .0 .0) = search needs in rw (c .before .before .before .before .before .before .f .given .1, minus-item _ g (c .before .before .before .before .if1 .taken)) (c .before .before .put-pair2 .ensures)
 
 -- src/puts.rt:66:39
 cast-put-pair-2 : tie.Need-cast-put-pair-2
-cast-put-pair-2 c = ?
+cast-put-pair-2 c = let g : SFits w64 (c .before .before .before .f .given .0 .0) = search needs in plain-cast _ g (c .before .if1 .left)
 
 -- src/puts.rt:66:13
 put-pair-requires-3 : tie.Need-put-pair-requires-3
@@ -51,7 +56,8 @@ put-pair-requires-3 c κs = search needs
 
 -- src/puts.rt:54:1
 returns-2 : tie.Need-returns-2
-returns-2 c = ?
+unfolding fieldBytes valueItem
+returns-2 c = rw (c .enum-told .given .1) (adds-none (c .before .before .before .args .out .now) (c .before .before .before .args .at) _)
 
 -- src/puts.rt:54:1
 same-length-2 : tie.Need-same-length-2
@@ -59,7 +65,8 @@ same-length-2 c = search needs
 
 -- src/puts.rt:54:1
 returns-3 : tie.Need-returns-3
-returns-3 c = ?
+unfolding pairBytes fieldBytes encode valueItem
+returns-3 c = rw (c .before .before .before .before .enum-told2 .given .1) (c .before .before .put-pair .ensures)
 
 -- src/puts.rt:54:1
 same-length-3 : tie.Need-same-length-3
@@ -67,7 +74,8 @@ same-length-3 c = search needs
 
 -- src/puts.rt:54:1
 returns-4 : tie.Need-returns-4
-returns-4 c = ?
+unfolding pairBytes fieldBytes encode valueItem
+returns-4 c = let g : SFits w64 (c .before .before .before .before .before .before .f .given .0 .0) = search needs in rw (c .before .before .before .before .before .before .f .given .1, plain-item _ g (c .before .before .before .before .if1 .left)) (c .before .before .put-pair3 .ensures)
 
 pub put-value-spec : {M : Type 1} → statement M
 put-value-spec =

@@ -1,11 +1,7 @@
+use Rattle.frames.proofs.Messages.{envelope-reads}
 use borrow.Author.Needs.{needs}
 use Rattle.frames.proofs.requests.read_envelope.Statement.{statement}
 use Rattle.frames.proofs.requests.read_envelope.Tie as tie
-use Rattle.frames.proofs.requests.read_envelope.Reads as reads
-use Rattle.frames.proofs.requests.read_envelope.Lts as lts
-use Rattle.frames.proofs.fields.read_map.Reads as read-map-reads
-use Rattle.frames.proofs.fields.read_uint.Reads as read-uint-reads
-use Rattle.frames.proofs.requests.all5.Reads as all5-reads
 
 -- src/requests.rt:102:9
 read-uint-requires : tie.Need-read-uint-requires
@@ -33,7 +29,7 @@ all5-requires c κs = search needs
 
 -- src/requests.rt:98:1
 returns : tie.Need-returns
-returns c = ?
+returns c = envelope-reads (c .before .before .before .before .before .before .before .before .args .s .now) (c .before .before .before .before .before .before .before .before .args .w) _ _ _ _ _ _ (c .before .before .before .before .before .before .read-uint .ensures) (c .before .before .before .before .before .read-uint2 .ensures) (c .before .before .before .before .read-uint3 .ensures) (c .before .before .before .read-uint4 .ensures) (c .before .before .read-map .ensures) (c .all5 .ensures)
 
 pub read-envelope-spec : {M : Type 1} → statement M
 read-envelope-spec =

@@ -1,12 +1,9 @@
+use Rattle.frames.proofs.Framed.{long-enough, rest-all}
+use native.Mathlib.Omega.{arith}
+use Rattle.frames.proofs.Requested.{not-framed, not-item, root-not-map, root-is-map}
 use borrow.Author.Needs.{needs}
 use Rattle.frames.proofs.requests.read_request.Statement.{statement}
 use Rattle.frames.proofs.requests.read_request.Tie as tie
-use Rattle.frames.proofs.requests.read_request.Reads as reads
-use Rattle.frames.proofs.requests.read_request.Lts as lts
-use Rattle.cbor.proofs.is_item.Reads as is-item-reads
-use Rattle.frames.proofs.fields.read_root.Reads as read-root-reads
-use Rattle.frames.proofs.prefix.is_framed.Reads as is-framed-reads
-use Rattle.frames.proofs.requests.read_message.Reads as read-message-reads
 
 -- src/requests.rt:244:8
 is-framed-requires : tie.Need-is-framed-requires
@@ -14,11 +11,11 @@ is-framed-requires c κs = search needs
 
 -- src/requests.rt:245:23
 sub-payload : tie.Need-sub-payload
-sub-payload c = ?
+sub-payload c = omega (arith, long-enough (c .before .before .before .args .frame .now) _ (c .before .is-framed .ensures) (c .if1 .taken))
 
 -- src/requests.rt:245:23
 part-payload-start : tie.Need-part-payload-start
-part-payload-start c = ?
+part-payload-start c = omega (arith, long-enough (c .before .before .before .args .frame .now) _ (c .before .is-framed .ensures) (c .if1 .taken))
 
 -- src/requests.rt:245:23
 part-payload-end : tie.Need-part-payload-end
@@ -38,19 +35,19 @@ read-message-requires c κs = search needs
 
 -- src/requests.rt:249:17
 returns : tie.Need-returns
-returns c = ?
+returns c = root-is-map (c .before .before .before .before .before .before .before .before .before .args .frame .now) _ (c .before .before .before .before .before .before .before .is-framed .ensures) (c .before .before .before .before .before .before .if1 .taken) _ (rest-all (c .before .before .before .before .before .before .before .before .before .args .frame .now)) _ (c .before .before .before .before .is-item .ensures) (c .before .before .before .if2 .taken) _ (c .before .before .read-root .ensures) (c .before .if3 .taken) _ (c .read-message .ensures)
 
 -- src/requests.rt:251:13
 returns-2 : tie.Need-returns-2
-returns-2 c = ?
+returns-2 c = root-not-map (c .before .before .before .before .before .before .before .before .args .frame .now) _ (c .before .before .before .before .before .before .is-framed .ensures) (c .before .before .before .before .before .if1 .taken) _ (rest-all (c .before .before .before .before .before .before .before .before .args .frame .now)) _ (c .before .before .before .is-item .ensures) (c .before .before .if2 .taken) _ (c .before .read-root .ensures) (c .if3 .left)
 
 -- src/requests.rt:253:9
 returns-3 : tie.Need-returns-3
-returns-3 c = ?
+returns-3 c = not-item (c .before .before .before .before .before .before .args .frame .now) _ (c .before .before .before .before .is-framed .ensures) (c .before .before .before .if1 .taken) _ (rest-all (c .before .before .before .before .before .before .args .frame .now)) _ (c .before .is-item .ensures) (c .if2 .left)
 
 -- src/requests.rt:240:1
 returns-4 : tie.Need-returns-4
-returns-4 c = ?
+returns-4 c = not-framed (c .before .before .before .args .frame .now) _ (c .before .is-framed .ensures) (c .if1 .left)
 
 pub read-request-spec : {M : Type 1} → statement M
 read-request-spec =

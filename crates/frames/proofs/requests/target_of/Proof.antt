@@ -1,8 +1,9 @@
+use mir.Syntax.{w64}
+use mir.Val.{SFits}
+use mir.ValLaws.{toZ-ofZ}
 use borrow.Author.Needs.{needs}
 use Rattle.frames.proofs.requests.target_of.Statement.{statement}
 use Rattle.frames.proofs.requests.target_of.Tie as tie
-use Rattle.frames.proofs.requests.target_of.Reads as reads
-use Rattle.frames.proofs.requests.target_of.Lts as lts
 
 -- src/requests.rt:144:26
 enum-told : tie.Need-enum-told
@@ -26,7 +27,7 @@ returns-2 c = search needs
 
 -- src/requests.rt:139:1
 returns-3 : tie.Need-returns-3
-returns-3 c = ?
+returns-3 c = let g : SFits w64 (c .before .f .given .0 .0) = search needs in rw (toZ-ofZ w64 _ g, c .before .f .given .1)
 
 pub target-of-spec : {M : Type 1} → statement M
 target-of-spec =

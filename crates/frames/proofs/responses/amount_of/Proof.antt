@@ -1,12 +1,10 @@
 use borrow.Author.Needs.{needs}
 use Rattle.frames.proofs.responses.amount_of.Statement.{statement}
 use Rattle.frames.proofs.responses.amount_of.Tie as tie
-use Rattle.frames.proofs.responses.amount_of.Reads as reads
-use Rattle.frames.proofs.responses.amount_of.Lts as lts
 
 -- src/responses.rt:70:1
 returns : tie.Need-returns
-returns c = ?
+returns c = rw (c .if1 .taken)
 
 -- src/responses.rt:70:1
 returns-2 : tie.Need-returns-2

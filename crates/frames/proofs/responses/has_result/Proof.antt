@@ -1,10 +1,7 @@
+use Rattle.frames.specs.Responses.{stands}
 use borrow.Author.Needs.{needs}
 use Rattle.frames.proofs.responses.has_result.Statement.{statement}
 use Rattle.frames.proofs.responses.has_result.Tie as tie
-use Rattle.frames.proofs.responses.has_result.Reads as reads
-use Rattle.frames.proofs.responses.has_result.Lts as lts
-use Rattle.frames.proofs.tests.all3.Reads as all3-reads
-use Rattle.frames.proofs.tests.either.Reads as either-reads
 
 -- src/responses.rt:68:25
 all3-requires : tie.Need-all3-requires
@@ -16,7 +13,8 @@ either-requires c κs = search needs
 
 -- src/responses.rt:65:1
 returns : tie.Need-returns
-returns c = ?
+unfolding stands
+returns c = rw (c .either .ensures, c .before .all3 .ensures)
 
 pub has-result-spec : {M : Type 1} → statement M
 has-result-spec = tie.close (tie.spec all3-requires either-requires returns)

@@ -1,10 +1,7 @@
+use Rattle.frames.specs.Responses.{isStatus}
 use borrow.Author.Needs.{needs}
 use Rattle.frames.proofs.responses.is_status.Statement.{statement}
 use Rattle.frames.proofs.responses.is_status.Tie as tie
-use Rattle.frames.proofs.responses.is_status.Reads as reads
-use Rattle.frames.proofs.responses.is_status.Lts as lts
-use Rattle.frames.proofs.tests.both.Reads as both-reads
-use Rattle.frames.proofs.tests.either.Reads as either-reads
 
 -- src/responses.rt:59:16
 either-requires : tie.Need-either-requires
@@ -24,7 +21,8 @@ either-requires-3 c κs = search needs
 
 -- src/responses.rt:55:1
 returns : tie.Need-returns
-returns c = ?
+unfolding isStatus
+returns c = rw (c .either3 .ensures, c .before .before .either2 .ensures, c .before .before .before .either .ensures, c .before .both .ensures)
 
 pub is-status-spec : {M : Type 1} → statement M
 is-status-spec =

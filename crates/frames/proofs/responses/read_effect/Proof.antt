@@ -1,12 +1,7 @@
+use Rattle.frames.proofs.Messages.{effect-reads}
 use borrow.Author.Needs.{needs}
 use Rattle.frames.proofs.responses.read_effect.Statement.{statement}
 use Rattle.frames.proofs.responses.read_effect.Tie as tie
-use Rattle.frames.proofs.responses.read_effect.Reads as reads
-use Rattle.frames.proofs.responses.read_effect.Lts as lts
-use Rattle.frames.proofs.fields.read_truth.Reads as read-truth-reads
-use Rattle.frames.proofs.fields.read_uint.Reads as read-uint-reads
-use Rattle.frames.proofs.requests.all5.Reads as all5-reads
-use Rattle.frames.proofs.responses.amount_of.Reads as amount-of-reads
 
 -- src/responses.rt:85:9
 read-truth-requires : tie.Need-read-truth-requires
@@ -46,7 +41,7 @@ amount-of-requires-3 c κs = search needs
 
 -- src/responses.rt:81:1
 returns : tie.Need-returns
-returns c = ?
+returns c = rw (c .before .before .amount-of .ensures, c .before .amount-of2 .ensures, c .amount-of3 .ensures) (effect-reads (c .before .before .before .before .before .before .before .before .before .before .args .s .now) (c .before .before .before .before .before .before .before .before .before .before .args .w) _ _ _ _ _ _ (c .before .before .before .before .before .before .before .before .read-truth .ensures) (c .before .before .before .before .before .before .before .read-uint .ensures) (c .before .before .before .before .before .before .read-uint2 .ensures) (c .before .before .before .before .before .read-uint3 .ensures) (c .before .before .before .before .read-uint4 .ensures) (c .before .before .before .all5 .ensures))
 
 pub read-effect-spec : {M : Type 1} → statement M
 read-effect-spec =

@@ -1,9 +1,6 @@
 use borrow.Author.Needs.{needs}
 use Rattle.frames.proofs.tests.all3.Statement.{statement}
 use Rattle.frames.proofs.tests.all3.Tie as tie
-use Rattle.frames.proofs.tests.all3.Reads as reads
-use Rattle.frames.proofs.tests.all3.Lts as lts
-use Rattle.frames.proofs.tests.both.Reads as both-reads
 
 -- src/tests.rt:20:10
 both-requires : tie.Need-both-requires
@@ -15,7 +12,7 @@ both-requires-2 c κs = search needs
 
 -- src/tests.rt:17:1
 returns : tie.Need-returns
-returns c = ?
+returns c = rw (c .both2 .ensures, c .before .both .ensures)
 
 pub all3-spec : {M : Type 1} → statement M
 all3-spec = tie.close (tie.spec both-requires both-requires-2 returns)

@@ -1,10 +1,6 @@
 use borrow.Author.Needs.{needs}
 use Rattle.frames.proofs.tests.all4.Statement.{statement}
 use Rattle.frames.proofs.tests.all4.Tie as tie
-use Rattle.frames.proofs.tests.all4.Reads as reads
-use Rattle.frames.proofs.tests.all4.Lts as lts
-use Rattle.frames.proofs.tests.all3.Reads as all3-reads
-use Rattle.frames.proofs.tests.both.Reads as both-reads
 
 -- src/tests.rt:26:10
 all3-requires : tie.Need-all3-requires
@@ -16,7 +12,7 @@ both-requires c κs = search needs
 
 -- src/tests.rt:23:1
 returns : tie.Need-returns
-returns c = ?
+returns c = rw (c .both .ensures, c .before .all3 .ensures)
 
 pub all4-spec : {M : Type 1} → statement M
 all4-spec = tie.close (tie.spec all3-requires both-requires returns)

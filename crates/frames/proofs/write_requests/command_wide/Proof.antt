@@ -1,10 +1,7 @@
+use Rattle.frames.specs.Requests.{commandWide}
 use borrow.Author.Needs.{needs}
 use Rattle.frames.proofs.write_requests.command_wide.Statement.{statement}
 use Rattle.frames.proofs.write_requests.command_wide.Tie as tie
-use Rattle.frames.proofs.write_requests.command_wide.Reads as reads
-use Rattle.frames.proofs.write_requests.command_wide.Lts as lts
-use Rattle.frames.proofs.tests.either.Reads as either-reads
-use Rattle.frames.proofs.write_requests.aim_wide.Reads as aim-wide-reads
 
 -- src/write_requests.rt:156:27
 enum-known-c : tie.Need-enum-known-c
@@ -44,23 +41,28 @@ enum-known-c-5 c = search needs
 
 -- src/write_requests.rt:152:1
 returns : tie.Need-returns
-returns c = ?
+unfolding commandWide
+returns c = rw (c .before .before .before .before .c .given .1) (c .either .ensures)
 
 -- src/write_requests.rt:152:1
 returns-2 : tie.Need-returns-2
-returns-2 c = ?
+unfolding commandWide
+returns-2 c = rw (c .before .before .c2 .given .1) (c .aim-wide .ensures)
 
 -- src/write_requests.rt:152:1
 returns-3 : tie.Need-returns-3
-returns-3 c = ?
+unfolding commandWide
+returns-3 c = rw (c .before .before .before .before .c3 .given .1) (c .either2 .ensures)
 
 -- src/write_requests.rt:152:1
 returns-4 : tie.Need-returns-4
-returns-4 c = ?
+unfolding commandWide
+returns-4 c = rw (c .before .before .c4 .given .1) (c .aim-wide2 .ensures)
 
 -- src/write_requests.rt:152:1
 returns-5 : tie.Need-returns-5
-returns-5 c = ?
+unfolding commandWide
+returns-5 c = rw (c .before .c5 .given .1)
 
 pub command-wide-spec : {M : Type 1} → statement M
 command-wide-spec =

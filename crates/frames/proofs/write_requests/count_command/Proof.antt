@@ -1,12 +1,14 @@
+use Rattle.frames.proofs.Added.{fields-none, fields-one, count-none}
+use Rattle.frames.proofs.Added.{count-none}
+use Rattle.frames.specs.Fields.{present}
+use Rattle.cbor.specs.Item.{countPairs}
+use mathlib.Core.Path.{ap, sym, _∙_}
+use Rattle.frames.specs.Puts.{pairsOf}
+use Rattle.frames.specs.Requests.{commandFields}
+use Rattle.frames.proofs.Writes.{pairs-small, limits-count, limits-bytes, one-count, request-bytes, response-bytes, limit-count, limit-bytes, setpoint-count, setpoint-bytes, clear-bytes}
 use borrow.Author.Needs.{needs}
 use Rattle.frames.proofs.write_requests.count_command.Statement.{statement}
 use Rattle.frames.proofs.write_requests.count_command.Tie as tie
-use Rattle.frames.proofs.write_requests.count_command.Reads as reads
-use Rattle.frames.proofs.write_requests.count_command.Lts as lts
-use Rattle.frames.proofs.puts.count_amount.Reads as count-amount-reads
-use Rattle.frames.proofs.write_requests.aim_amount.Reads as aim-amount-reads
-use Rattle.frames.proofs.write_requests.count_limits.Reads as count-limits-reads
-use Rattle.frames.proofs.write_requests.limits_of.Reads as limits-of-reads
 
 -- src/write_requests.rt:97:27
 enum-known-c : tie.Need-enum-known-c
@@ -58,23 +60,28 @@ enum-told c = search needs
 
 -- src/write_requests.rt:92:1
 returns : tie.Need-returns
-returns c = ?
+unfolding commandFields
+returns c = rw (c .before .before .c .given .1) (c .count-limits .ensures)
 
 -- src/write_requests.rt:92:1
 returns-2 : tie.Need-returns-2
-returns-2 c = ?
+unfolding commandFields
+returns-2 c = rw (c .before .before .before .c2 .given .1) (one-count 1 _ _ (c .count-amount .ensures ∙ ap pairsOf (c .before .aim-amount .ensures)))
 
 -- src/write_requests.rt:92:1
 returns-3 : tie.Need-returns-3
-returns-3 c = ?
+unfolding commandFields
+returns-3 c = rw (c .before .before .before .c3 .given .1, ← c .before .limits-of .ensures) (c .count-limits2 .ensures)
 
 -- src/write_requests.rt:92:1
 returns-4 : tie.Need-returns-4
-returns-4 c = ?
+unfolding commandFields
+returns-4 c = rw (c .before .before .before .c4 .given .1) (one-count 1 _ _ (c .count-amount2 .ensures ∙ ap pairsOf (c .before .aim-amount2 .ensures)))
 
 -- src/write_requests.rt:92:1
 returns-5 : tie.Need-returns-5
-returns-5 c = ?
+unfolding commandFields
+returns-5 c = rw (c .enum-told .given .1) (sym count-none)
 
 pub count-command-spec : {M : Type 1} → statement M
 count-command-spec =

@@ -1,12 +1,12 @@
+use native.Mathlib.Omega.{arith}
+use mathlib.Core.Path.{ap, sym, _∙_}
+use Rattle.frames.specs.Puts.{fieldBytes}
+use Rattle.frames.specs.Requests.{commandFields}
+use Rattle.frames.proofs.Added.{fields-none, fields-one, count-none}
+use Rattle.frames.proofs.Added.{adds-none, adds-more, adds-wider, adds-same, adds-head, adds-pair}
 use borrow.Author.Needs.{needs}
 use Rattle.frames.proofs.write_requests.put_command.Statement.{statement}
 use Rattle.frames.proofs.write_requests.put_command.Tie as tie
-use Rattle.frames.proofs.write_requests.put_command.Reads as reads
-use Rattle.frames.proofs.write_requests.put_command.Lts as lts
-use Rattle.frames.proofs.puts.put_amount.Reads as put-amount-reads
-use Rattle.frames.proofs.write_requests.aim_amount.Reads as aim-amount-reads
-use Rattle.frames.proofs.write_requests.limits_of.Reads as limits-of-reads
-use Rattle.frames.proofs.write_requests.put_limits.Reads as put-limits-reads
 
 -- src/write_requests.rt:126:27
 enum-known-c : tie.Need-enum-known-c
@@ -62,7 +62,8 @@ same-length c = search needs
 
 -- src/write_requests.rt:120:1
 returns : tie.Need-returns
-returns c = ?
+unfolding commandFields
+returns c = rw (c .before .before .before .before .before .c .given .1) (c .before .before .put-limits .ensures)
 
 -- src/write_requests.rt:120:1
 same-length-2 : tie.Need-same-length-2
@@ -70,7 +71,8 @@ same-length-2 c = search needs
 
 -- src/write_requests.rt:120:1
 returns-2 : tie.Need-returns-2
-returns-2 c = ?
+unfolding commandFields
+returns-2 c = rw (c .before .before .before .before .before .before .c2 .given .1) (adds-wider 72 (omega arith) (adds-same (ap (fieldBytes 1) (c .before .before .before .aim-amount .ensures) ∙ sym (fields-one 1 _)) (c .before .before .put-amount .ensures)))
 
 -- src/write_requests.rt:120:1
 same-length-3 : tie.Need-same-length-3
@@ -78,7 +80,8 @@ same-length-3 c = search needs
 
 -- src/write_requests.rt:120:1
 returns-3 : tie.Need-returns-3
-returns-3 c = ?
+unfolding commandFields
+returns-3 c = rw (c .before .before .before .before .before .before .c3 .given .1, ← c .before .before .before .limits-of .ensures) (c .before .before .put-limits2 .ensures)
 
 -- src/write_requests.rt:120:1
 same-length-4 : tie.Need-same-length-4
@@ -86,11 +89,13 @@ same-length-4 c = search needs
 
 -- src/write_requests.rt:120:1
 returns-4 : tie.Need-returns-4
-returns-4 c = ?
+unfolding commandFields
+returns-4 c = rw (c .before .before .before .before .before .before .c4 .given .1) (adds-wider 72 (omega arith) (adds-same (ap (fieldBytes 1) (c .before .before .before .aim-amount2 .ensures) ∙ sym (fields-one 1 _)) (c .before .before .put-amount2 .ensures)))
 
 -- src/write_requests.rt:120:1
 returns-5 : tie.Need-returns-5
-returns-5 c = ?
+unfolding commandFields
+returns-5 c = rw (c .enum-told .given .1) (adds-same (sym fields-none) (adds-none (c .before .before .before .args .out .now) (c .before .before .before .args .at) _))
 
 pub put-command-spec : {M : Type 1} → statement M
 put-command-spec =

@@ -1,12 +1,8 @@
+use Rattle.frames.proofs.Writes.{pairs-small, limits-count, limits-bytes, one-count, request-bytes, response-bytes, limit-count, limit-bytes, setpoint-count, setpoint-bytes, clear-bytes}
+use Rattle.frames.proofs.Added.{adds-none, adds-more, adds-wider, adds-same, adds-head, adds-pair}
 use borrow.Author.Needs.{needs}
 use Rattle.frames.proofs.write_requests.put_limits.Statement.{statement}
 use Rattle.frames.proofs.write_requests.put_limits.Tie as tie
-use Rattle.frames.proofs.write_requests.put_limits.Reads as reads
-use Rattle.frames.proofs.write_requests.put_limits.Lts as lts
-use Rattle.frames.proofs.puts.put_amount.Reads as put-amount-reads
-use Rattle.frames.proofs.puts.put_uint.Reads as put-uint-reads
-use Rattle.frames.proofs.puts.put_value.Reads as put-value-reads
-use Rattle.frames.proofs.write_requests.duration_amount.Reads as duration-amount-reads
 
 -- src/write_requests.rt:112:9
 duration-amount-requires : tie.Need-duration-amount-requires
@@ -34,7 +30,7 @@ same-length c = search needs
 
 -- src/write_requests.rt:105:1
 returns : tie.Need-returns
-returns c = ?
+returns c = adds-same (limits-bytes (c .before .before .before .before .before .before .before .before .before .before .before .before .before .before .before .before .before .before .args .l) _ (c .before .before .before .before .before .before .before .before .before .before .before .before .before .before .before .before .duration-amount .ensures)) (adds-more (adds-more (adds-more (c .before .before .before .before .before .before .before .before .before .before .before .before .before .before .put-value .ensures) (c .before .before .before .before .before .before .before .before .before .before .put-value2 .ensures)) (c .before .before .before .before .before .before .put-amount .ensures)) (c .before .before .put-uint .ensures))
 
 pub put-limits-spec : {M : Type 1} → statement M
 put-limits-spec =

@@ -1,14 +1,9 @@
+use native.Mathlib.Omega.{arith}
+use Rattle.frames.proofs.Writes.{pairs-small, limits-count, limits-bytes, one-count, request-bytes, response-bytes, limit-count, limit-bytes, setpoint-count, setpoint-bytes, clear-bytes}
+use Rattle.frames.proofs.Added.{adds-none, adds-more, adds-wider, adds-same, adds-head, adds-pair}
 use borrow.Author.Needs.{needs}
 use Rattle.frames.proofs.write_requests.put_request.Statement.{statement}
 use Rattle.frames.proofs.write_requests.put_request.Tie as tie
-use Rattle.frames.proofs.write_requests.put_request.Reads as reads
-use Rattle.frames.proofs.write_requests.put_request.Lts as lts
-use Rattle.cbor.proofs.put_head.Reads as put-head-reads
-use Rattle.frames.proofs.puts.put_pair.Reads as put-pair-reads
-use Rattle.frames.proofs.puts.put_uint.Reads as put-uint-reads
-use Rattle.frames.proofs.write_requests.count_command.Reads as count-command-reads
-use Rattle.frames.proofs.write_requests.put_command.Reads as put-command-reads
-use Rattle.messages.proofs.wire_number.Reads as wire-number-reads
 
 -- src/write_requests.rt:141:9
 put-head-requires : tie.Need-put-head-requires
@@ -16,15 +11,15 @@ put-head-requires c κs = search needs
 
 -- src/write_requests.rt:142:9
 put-uint-requires : tie.Need-put-uint-requires
-put-uint-requires c κs = ?
+put-uint-requires c κs = let a = adds-head (c .before .before .before .before .before .before .args .out .now) _ 0 5 5 _ (omega (arith, c .before .before .before .before .before .before .pre)) (omega arith) (c .before .before .before .put-head .ensures) in omega (arith, c .before .before .before .before .before .before .pre, a .moved, a .short, a .kept)
 
 -- src/write_requests.rt:143:9
 put-uint-requires-2 : tie.Need-put-uint-requires-2
-put-uint-requires-2 c κs = ?
+put-uint-requires-2 c κs = let a = adds-head (c .before .before .before .before .before .before .before .before .before .before .args .out .now) _ 0 5 5 _ (omega (arith, c .before .before .before .before .before .before .before .before .before .before .pre)) (omega arith) (c .before .before .before .before .before .before .before .put-head .ensures) in omega (arith, c .before .before .before .before .before .before .before .before .before .before .pre, a .moved, a .short, a .kept, c .before .before .before .put-uint .ensures .moved, c .before .before .before .put-uint .ensures .short, c .before .before .before .put-uint .ensures .kept)
 
 -- src/write_requests.rt:144:9
 put-uint-requires-3 : tie.Need-put-uint-requires-3
-put-uint-requires-3 c κs = ?
+put-uint-requires-3 c κs = let a = adds-head (c .before .before .before .before .before .before .before .before .before .before .before .before .before .before .args .out .now) _ 0 5 5 _ (omega (arith, c .before .before .before .before .before .before .before .before .before .before .before .before .before .before .pre)) (omega arith) (c .before .before .before .before .before .before .before .before .before .before .before .put-head .ensures) in omega (arith, c .before .before .before .before .before .before .before .before .before .before .before .before .before .before .pre, a .moved, a .short, a .kept, c .before .before .before .before .before .before .before .put-uint .ensures .moved, c .before .before .before .before .before .before .before .put-uint .ensures .short, c .before .before .before .before .before .before .before .put-uint .ensures .kept, c .before .before .before .put-uint2 .ensures .moved, c .before .before .before .put-uint2 .ensures .short, c .before .before .before .put-uint2 .ensures .kept)
 
 -- src/write_requests.rt:145:33
 wire-number-requires : tie.Need-wire-number-requires
@@ -32,7 +27,7 @@ wire-number-requires c κs = search needs
 
 -- src/write_requests.rt:145:9
 put-uint-requires-4 : tie.Need-put-uint-requires-4
-put-uint-requires-4 c κs = ?
+put-uint-requires-4 c κs = let a = adds-head (c .before .before .before .before .before .before .before .before .before .before .before .before .before .before .before .before .before .before .before .args .out .now) _ 0 5 5 _ (omega (arith, c .before .before .before .before .before .before .before .before .before .before .before .before .before .before .before .before .before .before .before .pre)) (omega arith) (c .before .before .before .before .before .before .before .before .before .before .before .before .before .before .before .before .put-head .ensures) in omega (arith, c .before .before .before .before .before .before .before .before .before .before .before .before .before .before .before .before .before .before .before .pre, a .moved, a .short, a .kept, c .before .before .before .before .before .before .before .before .before .before .before .before .put-uint .ensures .moved, c .before .before .before .before .before .before .before .before .before .before .before .before .put-uint .ensures .short, c .before .before .before .before .before .before .before .before .before .before .before .before .put-uint .ensures .kept, c .before .before .before .before .before .before .before .before .put-uint2 .ensures .moved, c .before .before .before .before .before .before .before .before .put-uint2 .ensures .short, c .before .before .before .before .before .before .before .before .put-uint2 .ensures .kept, c .before .before .before .before .put-uint3 .ensures .moved, c .before .before .before .before .put-uint3 .ensures .short, c .before .before .before .before .put-uint3 .ensures .kept)
 
 -- src/write_requests.rt:146:36
 count-command-requires : tie.Need-count-command-requires
@@ -40,11 +35,11 @@ count-command-requires c κs = search needs
 
 -- src/write_requests.rt:146:9
 put-pair-requires : tie.Need-put-pair-requires
-put-pair-requires c κs = ?
+put-pair-requires c κs = let a = adds-head (c .before .before .before .before .before .before .before .before .before .before .before .before .before .before .before .before .before .before .before .before .before .before .before .before .args .out .now) _ 0 5 5 _ (omega (arith, c .before .before .before .before .before .before .before .before .before .before .before .before .before .before .before .before .before .before .before .before .before .before .before .before .pre)) (omega arith) (c .before .before .before .before .before .before .before .before .before .before .before .before .before .before .before .before .before .before .before .before .before .put-head .ensures) in (omega (arith, c .before .before .before .before .before .before .before .before .before .before .before .before .before .before .before .before .before .before .before .before .before .before .before .before .pre, a .moved, a .short, a .kept, c .before .before .before .before .before .before .before .before .before .before .before .before .before .before .before .before .before .put-uint .ensures .moved, c .before .before .before .before .before .before .before .before .before .before .before .before .before .before .before .before .before .put-uint .ensures .short, c .before .before .before .before .before .before .before .before .before .before .before .before .before .before .before .before .before .put-uint .ensures .kept, c .before .before .before .before .before .before .before .before .before .before .before .before .before .put-uint2 .ensures .moved, c .before .before .before .before .before .before .before .before .before .before .before .before .before .put-uint2 .ensures .short, c .before .before .before .before .before .before .before .before .before .before .before .before .before .put-uint2 .ensures .kept, c .before .before .before .before .before .before .before .before .before .put-uint3 .ensures .moved, c .before .before .before .before .before .before .before .before .before .put-uint3 .ensures .short, c .before .before .before .before .before .before .before .before .before .put-uint3 .ensures .kept, c .before .before .before .before .put-uint4 .ensures .moved, c .before .before .before .before .put-uint4 .ensures .short, c .before .before .before .before .put-uint4 .ensures .kept), omega arith)
 
 -- src/write_requests.rt:147:5
 put-command-requires : tie.Need-put-command-requires
-put-command-requires c κs = ?
+put-command-requires c κs = let a = adds-head (c .before .before .before .before .before .before .before .before .before .before .before .before .before .before .before .before .before .before .before .before .before .before .before .before .before .before .before .before .args .out .now) _ 0 5 5 _ (omega (arith, c .before .before .before .before .before .before .before .before .before .before .before .before .before .before .before .before .before .before .before .before .before .before .before .before .before .before .before .before .pre)) (omega arith) (c .before .before .before .before .before .before .before .before .before .before .before .before .before .before .before .before .before .before .before .before .before .before .before .before .before .put-head .ensures) in omega (arith, c .before .before .before .before .before .before .before .before .before .before .before .before .before .before .before .before .before .before .before .before .before .before .before .before .before .before .before .before .pre, a .moved, a .short, a .kept, c .before .before .before .before .before .before .before .before .before .before .before .before .before .before .before .before .before .before .before .before .before .put-uint .ensures .moved, c .before .before .before .before .before .before .before .before .before .before .before .before .before .before .before .before .before .before .before .before .before .put-uint .ensures .short, c .before .before .before .before .before .before .before .before .before .before .before .before .before .before .before .before .before .before .before .before .before .put-uint .ensures .kept, c .before .before .before .before .before .before .before .before .before .before .before .before .before .before .before .before .before .put-uint2 .ensures .moved, c .before .before .before .before .before .before .before .before .before .before .before .before .before .before .before .before .before .put-uint2 .ensures .short, c .before .before .before .before .before .before .before .before .before .before .before .before .before .before .before .before .before .put-uint2 .ensures .kept, c .before .before .before .before .before .before .before .before .before .before .before .before .before .put-uint3 .ensures .moved, c .before .before .before .before .before .before .before .before .before .before .before .before .before .put-uint3 .ensures .short, c .before .before .before .before .before .before .before .before .before .before .before .before .before .put-uint3 .ensures .kept, c .before .before .before .before .before .before .before .before .put-uint4 .ensures .moved, c .before .before .before .before .before .before .before .before .put-uint4 .ensures .short, c .before .before .before .before .before .before .before .before .put-uint4 .ensures .kept, c .before .before .before .put-pair .ensures .moved, c .before .before .before .put-pair .ensures .short, c .before .before .before .put-pair .ensures .kept)
 
 -- src/write_requests.rt:135:1
 same-length : tie.Need-same-length
@@ -52,7 +47,7 @@ same-length c = search needs
 
 -- src/write_requests.rt:135:1
 returns : tie.Need-returns
-returns c = ?
+returns c = let a = adds-head (c .before .before .before .before .before .before .before .before .before .before .before .before .before .before .before .before .before .before .before .before .before .before .before .before .before .before .before .before .before .before .before .args .out .now) _ 0 5 5 _ (omega (arith, c .before .before .before .before .before .before .before .before .before .before .before .before .before .before .before .before .before .before .before .before .before .before .before .before .before .before .before .before .before .before .before .pre)) (omega arith) (c .before .before .before .before .before .before .before .before .before .before .before .before .before .before .before .before .before .before .before .before .before .before .before .before .before .before .before .before .put-head .ensures) in adds-wider 192 (omega arith) (adds-same (request-bytes (c .before .before .before .before .before .before .before .before .before .before .before .before .before .before .before .before .before .before .before .before .before .before .before .before .before .before .before .before .before .before .before .args .r) _ _ (c .before .before .before .before .before .before .before .before .before .before .before .before .wire-number .ensures) (c .before .before .before .before .before .before .before .count-command .ensures)) (adds-more (adds-more (adds-more (adds-more (adds-more (adds-more (a) (c .before .before .before .before .before .before .before .before .before .before .before .before .before .before .before .before .before .before .before .before .before .before .before .before .put-uint .ensures)) (c .before .before .before .before .before .before .before .before .before .before .before .before .before .before .before .before .before .before .before .before .put-uint2 .ensures)) (c .before .before .before .before .before .before .before .before .before .before .before .before .before .before .before .before .put-uint3 .ensures)) (c .before .before .before .before .before .before .before .before .before .before .before .put-uint4 .ensures)) (c .before .before .before .before .before .before .put-pair .ensures)) (c .before .before .put-command .ensures)))
 
 pub put-request-spec : {M : Type 1} → statement M
 put-request-spec =

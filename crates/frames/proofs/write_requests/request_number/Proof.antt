@@ -1,12 +1,11 @@
+use mathlib.Core.Path.{ap, sym, _∙_}
+use Rattle.frames.proofs.Joined.{and-same, or-same}
+use Rattle.frames.proofs.Looks.{via}
+use Rattle.messages.specs.Refusals.{firstOf}
+use Rattle.frames.specs.Requests.{requestNumber, requestUnserved}
 use borrow.Author.Needs.{needs}
 use Rattle.frames.proofs.write_requests.request_number.Statement.{statement}
 use Rattle.frames.proofs.write_requests.request_number.Tie as tie
-use Rattle.frames.proofs.write_requests.request_number.Reads as reads
-use Rattle.frames.proofs.write_requests.request_number.Lts as lts
-use Rattle.frames.proofs.requests.is_served.Reads as is-served-reads
-use Rattle.frames.proofs.tests.both.Reads as both-reads
-use Rattle.frames.proofs.write_requests.has_parameters.Reads as has-parameters-reads
-use Rattle.frames.proofs.write_requests.request_wide.Reads as request-wide-reads
 
 -- src/write_requests.rt:191:8
 request-wide-requires : tie.Need-request-wide-requires
@@ -14,7 +13,8 @@ request-wide-requires c κs = search needs
 
 -- src/write_requests.rt:192:9
 returns : tie.Need-returns
-returns c = ?
+unfolding requestNumber requestUnserved firstOf
+returns c = rw (via (c .before .request-wide .ensures) (c .if1 .taken))
 
 -- src/write_requests.rt:194:13
 is-served-requires : tie.Need-is-served-requires
@@ -30,11 +30,13 @@ both-requires c κs = search needs
 
 -- src/write_requests.rt:195:9
 returns-2 : tie.Need-returns-2
-returns-2 c = ?
+unfolding requestNumber requestUnserved firstOf
+returns-2 c = rw (via (c .before .before .before .before .before .request-wide .ensures) (c .before .before .before .before .if1 .left), via (c .before .both .ensures ∙ and-same (c .before .before .before .is-served .ensures) (c .before .before .has-parameters .ensures)) (c .if2 .taken))
 
 -- src/write_requests.rt:187:1
 returns-3 : tie.Need-returns-3
-returns-3 c = ?
+unfolding requestNumber requestUnserved firstOf
+returns-3 c = rw (via (c .before .before .before .before .before .request-wide .ensures) (c .before .before .before .before .if1 .left), via (c .before .both .ensures ∙ and-same (c .before .before .before .is-served .ensures) (c .before .before .has-parameters .ensures)) (c .if2 .left))
 
 pub request-number-spec : {M : Type 1} → statement M
 request-number-spec =

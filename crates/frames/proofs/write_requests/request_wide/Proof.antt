@@ -1,10 +1,7 @@
+use Rattle.frames.specs.Requests.{requestWide}
 use borrow.Author.Needs.{needs}
 use Rattle.frames.proofs.write_requests.request_wide.Statement.{statement}
 use Rattle.frames.proofs.write_requests.request_wide.Tie as tie
-use Rattle.frames.proofs.write_requests.request_wide.Reads as reads
-use Rattle.frames.proofs.write_requests.request_wide.Lts as lts
-use Rattle.frames.proofs.tests.either.Reads as either-reads
-use Rattle.frames.proofs.write_requests.command_wide.Reads as command-wide-reads
 
 -- src/write_requests.rt:181:16
 either-requires : tie.Need-either-requires
@@ -24,7 +21,8 @@ either-requires-3 c κs = search needs
 
 -- src/write_requests.rt:176:1
 returns : tie.Need-returns
-returns c = ?
+unfolding requestWide
+returns c = rw (c .either3 .ensures, c .before .before .either2 .ensures, c .before .before .before .before .either .ensures, c .before .command-wide .ensures)
 
 pub request-wide-spec : {M : Type 1} → statement M
 request-wide-spec =

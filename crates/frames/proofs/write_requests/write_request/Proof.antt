@@ -1,12 +1,9 @@
+use Rattle.frames.specs.Requests.{requestNumber, requestItem}
+use Rattle.frames.specs.Writing.{itemFrame}
+use Rattle.frames.proofs.Sends.{send-refused, send-whole, send-item, no-refusal, a-refusal}
 use borrow.Author.Needs.{needs}
 use Rattle.frames.proofs.write_requests.write_request.Statement.{statement}
 use Rattle.frames.proofs.write_requests.write_request.Tie as tie
-use Rattle.frames.proofs.write_requests.write_request.Reads as reads
-use Rattle.frames.proofs.write_requests.write_request.Lts as lts
-use Rattle.frames.proofs.prefix.refused.Reads as refused-reads
-use Rattle.frames.proofs.prefix.send.Reads as send-reads
-use Rattle.frames.proofs.write_requests.put_request.Reads as put-request-reads
-use Rattle.frames.proofs.write_requests.request_number.Reads as request-number-reads
 
 -- src/write_requests.rt:204:9
 request-number-requires : tie.Need-request-number-requires
@@ -18,7 +15,7 @@ refused-requires c κs = search needs
 
 -- src/write_requests.rt:206:9
 returns : tie.Need-returns
-returns c = ?
+returns c = a-refusal _ (requestNumber (c .before .before .before .before .args .r)) (itemFrame (requestItem (c .before .before .before .before .args .r))) (c .before .before .before .before .args .out .now) _ (c .before .before .request-number .ensures) (c .before .if1 .taken) (c .refused .ensures)
 
 -- src/write_requests.rt:209:25
 slice-aggregate-put-request : tie.Need-slice-aggregate-put-request
@@ -42,7 +39,7 @@ same-length c = search needs
 
 -- src/write_requests.rt:201:1
 returns-2 : tie.Need-returns-2
-returns-2 c = ?
+returns-2 c = no-refusal _ (requestNumber (c .before .before .before .before .before .before .before .before .before .before .before .args .r)) (itemFrame (requestItem (c .before .before .before .before .before .before .before .before .before .before .before .args .r))) (c .before .before .before .before .before .before .before .before .before .before .before .args .out .now) _ _ (c .before .before .before .before .before .before .before .before .before .request-number .ensures) (c .before .before .before .before .before .before .before .before .if1 .left) (send-item (requestItem (c .before .before .before .before .before .before .before .before .before .before .before .args .r)) _ _ (c .before .before .before .before .before .before .before .before .before .before .before .args .out .now) _ _ _ _ (c .before .before .before .before .before .before .put-request .ensures) (c .before .before .send .ensures))
 
 pub write-request-spec : {M : Type 1} → statement M
 write-request-spec =

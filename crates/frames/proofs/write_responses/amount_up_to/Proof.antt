@@ -1,8 +1,6 @@
 use borrow.Author.Needs.{needs}
 use Rattle.frames.proofs.write_responses.amount_up_to.Statement.{statement}
 use Rattle.frames.proofs.write_responses.amount_up_to.Tie as tie
-use Rattle.frames.proofs.write_responses.amount_up_to.Reads as reads
-use Rattle.frames.proofs.write_responses.amount_up_to.Lts as lts
 
 -- src/write_responses.rt:120:27
 enum-told : tie.Need-enum-told
@@ -18,7 +16,7 @@ returns c = search needs
 
 -- src/write_responses.rt:115:1
 returns-2 : tie.Need-returns-2
-returns-2 c = ?
+returns-2 c = rw (c .before .a .given .1)
 
 pub amount-up-to-spec : {M : Type 1} → statement M
 amount-up-to-spec = tie.close (tie.spec enum-told enum-known-a returns returns-2)

@@ -1,8 +1,7 @@
+use Rattle.frames.specs.Responses.{outcomeItem}
 use borrow.Author.Needs.{needs}
 use Rattle.frames.proofs.write_responses.count_outcome.Statement.{statement}
 use Rattle.frames.proofs.write_responses.count_outcome.Tie as tie
-use Rattle.frames.proofs.write_responses.count_outcome.Reads as reads
-use Rattle.frames.proofs.write_responses.count_outcome.Lts as lts
 
 -- src/write_responses.rt:95:29
 enum-told : tie.Need-enum-told
@@ -22,19 +21,23 @@ enum-told-4 c = search needs
 
 -- src/write_responses.rt:90:1
 returns : tie.Need-returns
-returns c = ?
+unfolding outcomeItem
+returns c = rw (c .enum-told .given .1)
 
 -- src/write_responses.rt:90:1
 returns-2 : tie.Need-returns-2
-returns-2 c = ?
+unfolding outcomeItem
+returns-2 c = rw (c .enum-told2 .given .1)
 
 -- src/write_responses.rt:90:1
 returns-3 : tie.Need-returns-3
-returns-3 c = ?
+unfolding outcomeItem
+returns-3 c = rw (c .enum-told3 .given .1)
 
 -- src/write_responses.rt:90:1
 returns-4 : tie.Need-returns-4
-returns-4 c = ?
+unfolding outcomeItem
+returns-4 c = rw (c .enum-told4 .given .1)
 
 pub count-outcome-spec : {M : Type 1} → statement M
 count-outcome-spec =

@@ -1,10 +1,7 @@
+use Rattle.frames.specs.Responses.{limitInRange, setpointInRange, goesWith, fits, responseNumber, responseFits, statusNumber, statusFits}
 use borrow.Author.Needs.{needs}
 use Rattle.frames.proofs.write_responses.limit_in_range.Statement.{statement}
 use Rattle.frames.proofs.write_responses.limit_in_range.Tie as tie
-use Rattle.frames.proofs.write_responses.limit_in_range.Reads as reads
-use Rattle.frames.proofs.write_responses.limit_in_range.Lts as lts
-use Rattle.frames.proofs.requests.all4.Reads as all4-reads
-use Rattle.frames.proofs.write_responses.amount_up_to.Reads as amount-up-to-reads
 
 -- src/write_responses.rt:134:9
 amount-up-to-requires : tie.Need-amount-up-to-requires
@@ -24,7 +21,8 @@ all4-requires c κs = search needs
 
 -- src/write_responses.rt:125:1
 returns : tie.Need-returns
-returns c = ?
+unfolding limitInRange
+returns c = rw (c .all4 .ensures, c .before .before .before .amount-up-to .ensures, c .before .before .amount-up-to2 .ensures, c .before .amount-up-to3 .ensures)
 
 pub limit-in-range-spec : {M : Type 1} → statement M
 limit-in-range-spec =

@@ -1,11 +1,8 @@
+use Rattle.frames.proofs.Looks.{via}
+use Rattle.frames.specs.Responses.{limitInRange, setpointInRange, goesWith, fits, responseNumber, responseFits, statusNumber, statusFits}
 use borrow.Author.Needs.{needs}
 use Rattle.frames.proofs.write_responses.outcome_fits.Statement.{statement}
 use Rattle.frames.proofs.write_responses.outcome_fits.Tie as tie
-use Rattle.frames.proofs.write_responses.outcome_fits.Reads as reads
-use Rattle.frames.proofs.write_responses.outcome_fits.Lts as lts
-use Rattle.frames.proofs.responses.has_result.Reads as has-result-reads
-use Rattle.frames.proofs.write_responses.goes_with.Reads as goes-with-reads
-use Rattle.frames.proofs.write_responses.is_nothing.Reads as is-nothing-reads
 
 -- src/write_responses.rt:181:8
 has-result-requires : tie.Need-has-result-requires
@@ -17,7 +14,8 @@ goes-with-requires c κs = search needs
 
 -- src/write_responses.rt:182:9
 returns : tie.Need-returns
-returns c = ?
+unfolding fits
+returns c = rw (via (c .before .before .has-result .ensures) (c .before .if1 .taken)) (c .goes-with .ensures)
 
 -- src/write_responses.rt:184:5
 is-nothing-requires : tie.Need-is-nothing-requires
@@ -25,7 +23,8 @@ is-nothing-requires c κs = search needs
 
 -- src/write_responses.rt:177:1
 returns-2 : tie.Need-returns-2
-returns-2 c = ?
+unfolding fits
+returns-2 c = rw (via (c .before .before .has-result .ensures) (c .before .if1 .left)) (c .is-nothing .ensures)
 
 pub outcome-fits-spec : {M : Type 1} → statement M
 outcome-fits-spec =

@@ -1,11 +1,9 @@
+use Rattle.frames.specs.Puts.{fieldBytes}
+use Rattle.frames.specs.Responses.{outcomeItem}
+use Rattle.frames.proofs.Added.{adds-none, adds-more, adds-wider, adds-same, adds-head, adds-pair}
 use borrow.Author.Needs.{needs}
 use Rattle.frames.proofs.write_responses.put_outcome.Statement.{statement}
 use Rattle.frames.proofs.write_responses.put_outcome.Tie as tie
-use Rattle.frames.proofs.write_responses.put_outcome.Reads as reads
-use Rattle.frames.proofs.write_responses.put_outcome.Lts as lts
-use Rattle.frames.proofs.write_responses.put_limit.Reads as put-limit-reads
-use Rattle.frames.proofs.write_responses.put_setpoint.Reads as put-setpoint-reads
-use Rattle.frames.proofs.write_responses.put_success.Reads as put-success-reads
 
 -- src/write_responses.rt:83:29
 enum-told : tie.Need-enum-told
@@ -37,7 +35,8 @@ put-success-requires c κs = search needs
 
 -- src/write_responses.rt:77:1
 returns : tie.Need-returns
-returns c = ?
+unfolding outcomeItem fieldBytes
+returns c = rw (c .enum-told .given .1) (adds-none (c .before .before .before .args .out .now) (c .before .before .before .args .at) _)
 
 -- src/write_responses.rt:77:1
 same-length : tie.Need-same-length
@@ -45,7 +44,8 @@ same-length c = search needs
 
 -- src/write_responses.rt:77:1
 returns-2 : tie.Need-returns-2
-returns-2 c = ?
+unfolding outcomeItem
+returns-2 c = rw (c .before .before .before .before .before .o .given .1) (c .before .before .put-limit .ensures)
 
 -- src/write_responses.rt:77:1
 same-length-2 : tie.Need-same-length-2
@@ -53,7 +53,8 @@ same-length-2 c = search needs
 
 -- src/write_responses.rt:77:1
 returns-3 : tie.Need-returns-3
-returns-3 c = ?
+unfolding outcomeItem
+returns-3 c = rw (c .before .before .before .before .before .o2 .given .1) (c .before .before .put-setpoint .ensures)
 
 -- src/write_responses.rt:77:1
 same-length-3 : tie.Need-same-length-3
@@ -61,7 +62,8 @@ same-length-3 c = search needs
 
 -- src/write_responses.rt:77:1
 returns-4 : tie.Need-returns-4
-returns-4 c = ?
+unfolding outcomeItem
+returns-4 c = rw (c .before .before .before .before .enum-told2 .given .1) (c .before .before .put-success .ensures)
 
 pub put-outcome-spec : {M : Type 1} → statement M
 put-outcome-spec =

@@ -1,10 +1,9 @@
+use Rattle.frames.specs.Responses.{responseItem}
+use Rattle.frames.specs.Writing.{itemFrame}
+use Rattle.frames.proofs.Sends.{send-refused, send-whole, send-item, no-refusal, a-refusal}
 use borrow.Author.Needs.{needs}
 use Rattle.frames.proofs.write_responses.send_response.Statement.{statement}
 use Rattle.frames.proofs.write_responses.send_response.Tie as tie
-use Rattle.frames.proofs.write_responses.send_response.Reads as reads
-use Rattle.frames.proofs.write_responses.send_response.Lts as lts
-use Rattle.frames.proofs.prefix.send.Reads as send-reads
-use Rattle.frames.proofs.write_responses.put_response.Reads as put-response-reads
 
 -- src/write_responses.rt:207:26
 slice-aggregate-put-response : tie.Need-slice-aggregate-put-response
@@ -28,7 +27,7 @@ same-length c = search needs
 
 -- src/write_responses.rt:203:1
 returns : tie.Need-returns
-returns c = ?
+returns c = send-item (responseItem (c .before .before .before .before .before .before .before .before .before .args .r)) _ _ (c .before .before .before .before .before .before .before .before .before .args .out .now) _ _ _ _ (c .before .before .before .before .before .before .put-response .ensures) (c .before .before .send .ensures)
 
 pub send-response-spec : {M : Type 1} → statement M
 send-response-spec =

@@ -1,10 +1,7 @@
+use Rattle.frames.specs.Responses.{limitInRange, setpointInRange, goesWith, fits, responseNumber, responseFits, statusNumber, statusFits}
 use borrow.Author.Needs.{needs}
 use Rattle.frames.proofs.write_responses.setpoint_in_range.Statement.{statement}
 use Rattle.frames.proofs.write_responses.setpoint_in_range.Tie as tie
-use Rattle.frames.proofs.write_responses.setpoint_in_range.Reads as reads
-use Rattle.frames.proofs.write_responses.setpoint_in_range.Lts as lts
-use Rattle.frames.proofs.tests.both.Reads as both-reads
-use Rattle.frames.proofs.write_responses.amount_up_to.Reads as amount-up-to-reads
 
 -- src/write_responses.rt:138:9
 amount-up-to-requires : tie.Need-amount-up-to-requires
@@ -20,7 +17,8 @@ both-requires c κs = search needs
 
 -- src/write_responses.rt:132:1
 returns : tie.Need-returns
-returns c = ?
+unfolding setpointInRange
+returns c = rw (c .both .ensures, c .before .before .amount-up-to .ensures, c .before .amount-up-to2 .ensures)
 
 pub setpoint-in-range-spec : {M : Type 1} → statement M
 setpoint-in-range-spec =
