@@ -1,0 +1,6 @@
+pub mod Bytes
+pub mod Head
+pub mod Item
+pub mod Int
+pub mod Find
+pub mod Laws
