@@ -1,0 +1,16 @@
+use native.Mathlib.Omega.{arith}
+use Rattle.device.specs.Refusals.{firstOf}
+use Rattle.device.specs.Calls.{askNumber, askAnswer, askAfter}
+use Rattle.device.proofs.Answered.{refused, accepted, timed}
+use Rattle.device.proofs.calls.ask.Statement.{statement}
+use Rattle.device.proofs.calls.ask.Tie as tie
+
+pub ask-spec : {M : Type 1} → statement M
+unfolding askNumber askAnswer askAfter firstOf
+ask-spec =
+    tie.close
+    (tie.spec
+    (λ c κs. tt) (λ c κs. tt)
+    (λ c. (rw (timed _ _ _ _ _ (c .before .before .clock .ensures) (c .before .is-late .ensures) (c .if1 .taken)), refused _ 5 _ _ (rw (timed _ _ _ _ _ (c .before .before .clock .ensures) (c .before .is-late .ensures) (c .if1 .taken))) (λ e. omega arith) .1))
+    (λ c κs. tt) (λ c κs. tt) (λ c κs. tt)
+    (λ c. (rw (timed _ _ _ _ _ (c .before .before .before .before .before .before .before .before .clock .ensures) (c .before .before .before .before .before .before .before .is-late .ensures) (c .before .before .before .before .before .before .if1 .left)) (rw (c .before .before .before .before .values-at .ensures)), accepted _ _ _ _ _ (rw (timed _ _ _ _ _ (c .before .before .before .before .before .before .before .before .clock .ensures) (c .before .before .before .before .before .before .before .is-late .ensures) (c .before .before .before .before .before .before .if1 .left))) (c .apply-head .ensures) (rw (c .before .before .overridden .ensures)) .1)))

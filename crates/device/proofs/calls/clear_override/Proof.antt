@@ -1,0 +1,20 @@
+use mathlib.Core.Path.{refl, sym, _∙_}
+use native.Mathlib.Omega.{arith}
+use borrow.Author.Tests.{eq-eqb, ne-eqb}
+use Rattle.device.specs.Refusals.{firstOf}
+use Rattle.device.specs.Calls.{clearNumber, clearAfter}
+use Rattle.device.proofs.Answered.{refused, accepted, timed}
+use Rattle.device.proofs.calls.clear_override.Statement.{statement}
+use Rattle.device.proofs.calls.clear_override.Tie as tie
+
+pub clear-override-spec : {M : Type 1} → statement M
+unfolding clearNumber clearAfter firstOf
+clear-override-spec =
+    tie.close
+    (tie.spec
+    (λ c κs. tt) (λ c κs. tt)
+    (λ c. refused _ 5 _ _ (rw (timed _ _ _ _ _ (c .before .before .clock .ensures) (c .before .is-late .ensures) (c .if1 .taken))) (λ e. omega arith))
+    (λ c κs. tt)
+    (λ c. refused _ 7 _ _ (rw (timed _ _ _ _ _ (c .before .before .before .before .before .clock .ensures) (c .before .before .before .before .is-late .ensures) (c .before .before .before .if1 .left), eq-eqb _ _ (sym (c .before .overridden .ensures) ∙ c .if2 .taken))) (λ e. omega arith))
+    (λ c κs. tt)
+    (λ c. accepted _ _ _ _ _ (rw (timed _ _ _ _ _ (c .before .before .before .before .before .before .before .clock .ensures) (c .before .before .before .before .before .before .is-late .ensures) (c .before .before .before .before .before .if1 .left), ne-eqb _ _ (λ e. c .before .before .if2 .left (c .before .before .before .overridden .ensures ∙ e)))) (c .apply-head .ensures) refl))

@@ -1,0 +1,26 @@
+use mathlib.Core.Path.{sym}
+use native.Mathlib.Omega.{arith}
+use borrow.Author.Tests.{le-leb, lt-leb}
+use Rattle.device.specs.Refusals.{firstOf}
+use Rattle.device.specs.Calls.{joinNumber, joinAfter}
+use Rattle.device.proofs.Tests.{via}
+use Rattle.device.proofs.Answered.{refused, accepted, timed}
+use Rattle.device.proofs.Changes.{up-change, join-up}
+use Rattle.device.proofs.calls.join.Statement.{statement}
+use Rattle.device.proofs.calls.join.Tie as tie
+
+pub join-spec : {M : Type 1} → statement M
+unfolding joinNumber joinAfter firstOf
+join-spec =
+    tie.close
+    (tie.spec
+    (λ c κs. tt) (λ c κs. tt)
+    (λ c. refused _ 5 _ _ (rw (timed _ _ _ _ _ (c .before .before .clock .ensures) (c .before .is-late .ensures) (c .if1 .taken))) (λ e. omega arith))
+    (λ c κs. tt)
+    (λ c. refused _ 6 _ _ (rw (timed _ _ _ _ _ (c .before .before .before .before .clock .ensures) (c .before .before .before .is-late .ensures) (c .before .before .if1 .left), via (c .before .is-bad-join .ensures) (c .if2 .taken))) (λ e. omega arith))
+    (λ c κs. tt)
+    (λ c. refused _ 7 _ _ (rw (timed _ _ _ _ _ (c .before .before .before .before .before .before .before .clock .ensures) (c .before .before .before .before .before .before .is-late .ensures) (c .before .before .before .before .before .if1 .left), via (c .before .before .before .before .is-bad-join .ensures) (c .before .before .before .if2 .left), via (c .before .is-joined .ensures) (c .if3 .taken))) (λ e. omega arith))
+    (λ c κs. tt)
+    (λ c. refused _ 8 _ _ (rw (timed _ _ _ _ _ (c .before .before .before .before .before .before .before .before .before .before .clock .ensures) (c .before .before .before .before .before .before .before .before .before .is-late .ensures) (c .before .before .before .before .before .before .before .before .if1 .left), via (c .before .before .before .before .before .before .before .is-bad-join .ensures) (c .before .before .before .before .before .before .if2 .left), via (c .before .before .before .before .is-joined .ensures) (c .before .before .before .if3 .left), le-leb _ _ (rw (c .before .slot-of .ensures) at (c .if4 .taken)))) (λ e. omega arith))
+    (λ c κs. tt) (λ c κs. tt) (λ c κs. tt) (λ c κs. tt)
+    (λ c. accepted _ _ _ _ _ (rw (timed _ _ _ _ _ (c .before .before .before .before .before .before .before .before .before .before .before .before .before .before .before .before .before .clock .ensures) (c .before .before .before .before .before .before .before .before .before .before .before .before .before .before .before .before .is-late .ensures) (c .before .before .before .before .before .before .before .before .before .before .before .before .before .before .before .if1 .left), via (c .before .before .before .before .before .before .before .before .before .before .before .before .before .before .is-bad-join .ensures) (c .before .before .before .before .before .before .before .before .before .before .before .before .before .if2 .left), via (c .before .before .before .before .before .before .before .before .before .before .before .is-joined .ensures) (c .before .before .before .before .before .before .before .before .before .before .if3 .left), lt-leb _ _ (rw (c .before .before .before .before .before .before .before .before .slot-of .ensures) at (c .before .before .before .before .before .before .before .if4 .left)))) (c .apply .ensures) (rw (c .before .before .before .before .before .before .new-zone .ensures, c .before .before .before .before .since .ensures, c .before .before .overridden .ensures, c .before .before .before .before .before .before .before .before .slot-of .ensures) (sym (up-change _ _ _ _ (join-up _ _ (via (c .before .before .before .before .before .before .before .before .before .before .before .before .before .before .is-bad-join .ensures) (c .before .before .before .before .before .before .before .before .before .before .before .before .before .if2 .left))))))))

@@ -1,0 +1,11 @@
+use native.Mathlib.Omega.{arith}
+use Rattle.device.specs.Calls.{overrideWord}
+use Rattle.device.proofs.calls.override_word.Statement.{statement}
+use Rattle.device.proofs.calls.override_word.Tie as tie
+
+pub override-word-spec : {M : Type 1} → statement M
+unfolding overrideWord
+override-word-spec =
+    tie.close
+    (tie.spec
+    (λ c. omega arith) (λ c. omega arith) (λ c. omega arith) (λ c. omega arith))

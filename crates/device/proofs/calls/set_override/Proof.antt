@@ -1,0 +1,40 @@
+use Prim.Native.Nat.{ℕ, _<_}
+use mathlib.Core.Bool.{Bool, true, false, _&&_}
+use mathlib.Core.Path.{_≡_, refl}
+use native.Mathlib.Decide.{decLt}
+use native.Mathlib.Omega.{arith}
+use borrow.Author.Tests.{le-ltb, ne-eqb}
+use Rattle.device.specs.Refusals.{firstOf}
+use Rattle.device.specs.Calls.{overrideNumber, overrideAfter, goTogether}
+use Rattle.device.proofs.Tests.{via}
+use Rattle.device.proofs.Answered.{refused, accepted, timed}
+use Rattle.device.proofs.calls.set_override.Statement.{statement}
+use Rattle.device.proofs.calls.set_override.Tie as tie
+
+-- what goes together is small
+together-small : (m : Bool) (r d : ℕ) → goTogether m r d ≡ true → (r < 5) × (d < 2)
+unfolding goTogether
+together-small m r d e = (
+  elim (decLt r 5) [ yes h ↦ h | no h ↦ absurd (never (rw (le-ltb r 2 (omega arith), ne-eqb r 2 (λ q. omega arith), ne-eqb r 3 (λ q. omega arith), ne-eqb r 4 (λ q. omega arith)) (and-false m)) e) ],
+  elim (decLt d 2) [ yes h ↦ h | no h ↦ absurd (never (rw (ne-eqb d 0 (λ q. omega arith), le-ltb d 2 (omega arith), ne-eqb d 1 (λ q. omega arith)) (simp and-false)) e) ],
+)
+  where
+    and-false : (b : Bool) → (b && false) ≡ false
+    and-false true = refl
+    and-false false = refl
+
+    never : {b : Bool} → b ≡ false → b ≡ true → ⊥
+    never p q = let n : _≡_ {A = ℕ} 0 1 = cc in omega arith
+
+pub set-override-spec : {M : Type 1} → statement M
+unfolding overrideNumber overrideAfter firstOf
+set-override-spec =
+    tie.close
+    (tie.spec
+    (λ c κs. tt) (λ c κs. tt)
+    (λ c. refused _ 5 _ _ (rw (timed _ _ _ _ _ (c .before .before .clock .ensures) (c .before .is-late .ensures) (c .if1 .taken))) (λ e. omega arith))
+    (λ c κs. tt) (λ c κs. tt)
+    (λ c κs. together-small _ _ _ (via (c .before .before .go-together .ensures) (c .before .if2 .taken)))
+    (λ c κs. tt)
+    (λ c. accepted _ _ _ _ _ (rw (timed _ _ _ _ _ (c .before .before .before .before .before .before .before .before .before .clock .ensures) (c .before .before .before .before .before .before .before .before .is-late .ensures) (c .before .before .before .before .before .before .before .if1 .left), via (rw (c .before .before .before .before .before .is-manager .ensures) at (c .before .before .before .before .go-together .ensures)) (c .before .before .before .if2 .taken))) (c .apply-head .ensures) (rw (c .before .override-word .ensures)))
+    (λ c. refused _ 18 _ _ (rw (timed _ _ _ _ _ (c .before .before .before .before .before .before .clock .ensures) (c .before .before .before .before .before .is-late .ensures) (c .before .before .before .before .if1 .left), via (rw (c .before .before .is-manager .ensures) at (c .before .go-together .ensures)) (c .if2 .left))) (λ e. omega arith)))

@@ -1,0 +1,15 @@
+use Rattle.device.specs.Refusals.{firstOf}
+use Rattle.device.specs.Start.{startNumber, startAfter}
+use Rattle.device.proofs.Tests.{via}
+use Rattle.device.proofs.calls.start.Statement.{statement}
+use Rattle.device.proofs.calls.start.Tie as tie
+
+pub start-spec : {M : Type 1} → statement M
+unfolding startNumber startAfter firstOf
+start-spec =
+    tie.close
+    (tie.spec
+    (λ c κs. tt) (λ c κs. tt) (λ c κs. tt)
+    (λ c. (rw (via (c .before .before .before .before .is-bad-settings .ensures) (c .before .before .before .if1 .taken)), rw (via (c .before .before .before .before .is-bad-settings .ensures) (c .before .before .before .if1 .taken), c .fresh .ensures, c .before .refused-settings .ensures)))
+    (λ c κs. tt)
+    (λ c. (rw (via (c .before .before .before .is-bad-settings .ensures) (c .before .before .if1 .left)), rw (via (c .before .before .before .is-bad-settings .ensures) (c .before .before .if1 .left), c .fresh2 .ensures))))

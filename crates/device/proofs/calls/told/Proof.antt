@@ -1,0 +1,8 @@
+use Rattle.device.proofs.calls.told.Statement.{statement}
+use Rattle.device.proofs.calls.told.Tie as tie
+
+pub told-spec : {M : Type 1} → statement M
+told-spec =
+    tie.close
+    (tie.spec
+    (λ c κs. tt) (λ c. rw (c .before .zone-at .ensures)))

@@ -1,0 +1,15 @@
+use borrow.Author.Tests.{eq-eqb, ne-eqb}
+use Rattle.device.specs.Words.{after}
+use Rattle.device.specs.Commands.{enacted}
+use borrow.Author.Needs.{needs}
+use Rattle.device.proofs.commands.enact.Statement.{statement}
+use Rattle.device.proofs.commands.enact.Tie as tie
+
+pub enact-spec : {M : Type 1} → statement M
+unfolding enacted after
+enact-spec =
+    tie.close
+    (tie.spec
+    (λ c κs. search needs) (λ c κs. search needs) (λ c κs. search needs)
+    (λ c. rw (eq-eqb _ _ (c .before .before .before .before .before .before .before .if1 .taken), c .apply .ensures, c .before .before .before .before .since .ensures, c .before .before .overridden .ensures))
+    (λ c. rw (ne-eqb _ _ (c .if1 .left))))

@@ -1,0 +1,10 @@
+use borrow.Author.Needs.{needs}
+use Rattle.device.proofs.content.aim_unsupported.Statement.{statement}
+use Rattle.device.proofs.content.aim_unsupported.Tie as tie
+
+pub aim-unsupported-spec : {M : Type 1} → statement M
+aim-unsupported-spec =
+    tie.close
+    (tie.spec
+    (λ c. search needs) (λ c. search needs) (λ c κs. search needs) (λ c. search needs)
+    (λ c. rw (c .before .before .a .given .1, c .supports .ensures)))

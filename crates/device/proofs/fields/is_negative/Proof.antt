@@ -1,0 +1,10 @@
+use mir.Facts.{toZ-ofZ}
+use Rattle.device.proofs.Signs.{is-neg}
+use Rattle.device.proofs.fields.is_negative.Statement.{statement}
+use Rattle.device.proofs.fields.is_negative.Tie as tie
+
+pub is-negative-spec : {M : Type 1} → statement M
+is-negative-spec =
+    tie.close
+    (tie.spec
+    (λ c. rw (toZ-ofZ (c .fits .v), is-neg)))

@@ -1,0 +1,11 @@
+use borrow.Author.Needs.{needs}
+use Rattle.device.specs.Commands.{tooLow}
+use Rattle.device.proofs.fields.is_too_low.Statement.{statement}
+use Rattle.device.proofs.fields.is_too_low.Tie as tie
+
+pub is-too-low-spec : {M : Type 1} → statement M
+unfolding tooLow
+is-too-low-spec =
+    tie.close
+    (tie.spec
+    (λ c. search needs))

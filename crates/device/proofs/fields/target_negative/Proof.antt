@@ -1,0 +1,13 @@
+use mir.Val.{SFits}
+use mir.Syntax.{w64}
+use mir.Facts.{toZ-ofZ}
+use borrow.Author.Needs.{needs}
+use Rattle.device.proofs.fields.target_negative.Statement.{statement}
+use Rattle.device.proofs.fields.target_negative.Tie as tie
+
+pub target-negative-spec : {M : Type 1} → statement M
+target-negative-spec =
+    tie.close
+    (tie.spec
+    (λ c. search needs) (λ c. search needs) (λ c κs. search needs) (λ c. search needs)
+    (λ c. let fits : SFits w64 (c .before .before .f .given .0 .0) = search needs in rw (c .before .before .f .given .1, c .is-negative .ensures, toZ-ofZ fits)))

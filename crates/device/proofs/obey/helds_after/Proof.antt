@@ -1,0 +1,29 @@
+use mathlib.Core.Path.{_≡_, refl, _∙_}
+use native.Mathlib.Omega.{arith}
+use borrow.Author.Needs.{needs}
+use lib.ListN.{length, getD, length-set}
+use Prim.Native.Nat.{_-_, _≤_}
+use Rattle.device.specs.Sizes.{helds}
+use Rattle.device.specs.Commands.{action, done}
+use Rattle.device.specs.Zones.{upTo, nothing}
+use Rattle.device.proofs.Folds.{fill-end, length-of}
+use Rattle.device.proofs.Fills.{Worked, work-turn}
+use Rattle.device.proofs.obey.helds_after.Statement.{statement}
+use Rattle.device.proofs.obey.helds_after.Tie as tie
+
+abbrev Inv-loop : tie.InvT-loop
+Inv-loop s c until held₀ q₀ held q = (q ≤ helds) × (length held ≡ helds) × Worked (λ k. done (action s c k) until (getD held₀ k nothing)) nothing held₀ held q
+
+abbrev μ-loop : tie.MeasureT-loop
+μ-loop s c until held₀ q₀ held q = helds - q
+
+pub helds-after-spec : {M : Type 1} → statement M
+unfolding upTo
+helds-after-spec =
+    tie.close
+    (tie.spec
+    Inv-loop μ-loop (λ c. (omega arith, search length-of, (refl, λ k b. refl))) (λ c. omega arith)
+    (λ c. omega arith) (λ c κs. search needs) (λ c κs. search needs) (λ c. omega arith) (λ c. omega arith)
+    (λ c. omega arith) (λ c. omega arith)
+    (λ c. (omega arith, simp length-set (c .before .before .before .before .loop .inv .1), work-turn _ _ (c .before .before .before .before .before .args .old) _ (c .before .before .before .before .loop .q) _ (omega arith) (c .before .before .before .before .loop .inv .2) (c .done .ensures ∙ rw (c .before .action .ensures, c .before .before .before .before .loop .inv .2 .1 (c .before .before .before .before .loop .q) (omega arith)))))
+    (λ c. fill-end _ _ (c .before .loop .q) helds (c .before .loop .inv .1) (omega arith) (omega arith) (c .before .loop .inv .2 .0)))

@@ -1,0 +1,13 @@
+use Rattle.device.specs.Commands.{obeyed}
+use Rattle.device.specs.Zones.{heldOf}
+use borrow.Author.Needs.{needs}
+use Rattle.device.proofs.obey.obeyed.Statement.{statement}
+use Rattle.device.proofs.obey.obeyed.Tie as tie
+
+pub obeyed-spec : {M : Type 1} → statement M
+unfolding obeyed heldOf
+obeyed-spec =
+    tie.close
+    (tie.spec
+    (λ c κs. search needs) (λ c κs. search needs) (λ c κs. search needs)
+    (λ c. rw (c .helds-after .ensures, c .before .until-of .ensures, c .before .before .duration-of .ensures)))

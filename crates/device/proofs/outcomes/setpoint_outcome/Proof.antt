@@ -1,0 +1,18 @@
+use lib.IntN.{pos}
+use mir.Val.{SFits}
+use mir.Syntax.{w64}
+use lib.ListN.{getD}
+use mir.Facts.{toZ-ofZ}
+use borrow.Author.Needs.{needs}
+use Rattle.device.proofs.outcomes.setpoint_outcome.Statement.{statement}
+use Rattle.device.proofs.outcomes.setpoint_outcome.Tie as tie
+
+pub setpoint-outcome-spec : {M : Type 1} → statement M
+setpoint-outcome-spec =
+    tie.close
+    (tie.spec
+    (λ c. search needs) (λ c κs. search needs) (λ c. search needs) (λ c κs. search needs)
+    (λ c.
+    let a : SFits w64 (getD (c .before .before .before .before .args .t1) 3 (pos 0)) = search needs in
+    let b : SFits w64 (getD (c .before .before .before .before .args .t1) 4 (pos 0)) = search needs in
+    rw (c .before .before .stated .ensures, c .stated2 .ensures, toZ-ofZ a, toZ-ofZ b)))

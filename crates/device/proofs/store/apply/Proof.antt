@@ -1,0 +1,11 @@
+use Rattle.device.specs.Words.{applied}
+use Rattle.device.proofs.store.apply.Statement.{statement}
+use Rattle.device.proofs.store.apply.Tie as tie
+
+pub apply-spec : {M : Type 1} → statement M
+unfolding applied
+apply-spec =
+    tie.close
+    (tie.spec
+    (λ c κs. tt) (λ c κs. tt) (λ c κs. tt) (λ c κs. tt)
+    (λ c. rw (c .put-word3 .ensures, c .before .before .put-word2 .ensures, c .before .before .before .before .put-word .ensures, c .before .before .before .before .before .before .put-zone .ensures)))

@@ -1,0 +1,10 @@
+pub mod Sizes
+pub mod Zones
+pub mod Words
+pub mod Holds
+pub mod Pass
+pub mod Refusals
+pub mod Calls
+pub mod Commands
+pub mod Table
+pub mod Start

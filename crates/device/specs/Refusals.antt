@@ -1,0 +1,31 @@
+-- Refusals: a call's tests stand in document 01's order, and the first that holds gives the number.
+use Prim.Native.Nat.{ℕ, _<_}
+use mathlib.Core.Bool.{Bool, true, false, cond, _||_}
+use mathlib.Core.Path.{_≡_}
+use mathlib.Core.List.{List, [], _∷_}
+use lib.Dec.{ltb, leb, eqb}
+use lib.ListN.{getD}
+use Rattle.device.specs.Sizes.{end}
+use Rattle.device.specs.Zones.{any}
+
+-- the number of the first test that holds, 0 where none does
+unfoldable pub firstOf : List (Bool × ℕ) → ℕ
+firstOf [] = 0
+firstOf (x ∷ l) = cond (x .0) (x .1) (firstOf l)
+
+-- the test in place `at` is the first to hold, and n is its number
+pub record FirstAt (l : List (Bool × ℕ)) (n : ℕ) : Type 0 where
+  pub at : ℕ
+  pub passes : getD l at (false, 0) ≡ (true, n)
+  pub noneBefore : (j : ℕ) → j < at → getD l j (false, 0) .0 ≡ false
+
+-- no test holds; no test has the number 0
+abbrev pub NoneHolds : List (Bool × ℕ) → Type 0
+NoneHolds l = (j : ℕ) → getD l j (false, 0) .0 ≡ false
+
+abbrev pub Numbered : List (Bool × ℕ) → Type 0
+Numbered l = any (λ x. eqb (x .1) 0) l ≡ false
+
+-- 5: "A time below the last accepted call's, or past the end"
+unfoldable pub late : ℕ → ℕ → Bool
+late clock t = ltb t clock || leb end t

@@ -1,0 +1,31 @@
+-- How many values a zone holds, how many zones there are, and the words of a zone, of the head and of the whole device.
+use Prim.Native.Nat.{ℕ, _+_, _*_, _-_, _^_}
+
+-- limit of consumption and of production, setpoint of consumption and of production
+abbrev pub helds : ℕ
+helds = 4
+
+-- "Zones: 8 joined at once"
+abbrev pub slots : ℕ
+slots = 8
+
+abbrev pub zoneSize : ℕ
+zoneSize = 3 + 2 * helds
+
+abbrev pub headSize : ℕ
+headSize = 13
+
+abbrev pub words : ℕ
+words = headSize + slots * zoneSize
+
+-- the largest word: the end of what holds until replaced, and a contractual maximum that is none
+abbrev pub most : ℕ
+most = 2 ^ 64 - 1
+
+-- "whole seconds, 0 to 2^40 - 1": the first second past the end
+abbrev pub end : ℕ
+end = 2 ^ 40
+
+-- "whole mW, 0 to 2^63 - 1": the first number past the largest value
+abbrev pub valueEnd : ℕ
+valueEnd = 2 ^ 63

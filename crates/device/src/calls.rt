@@ -1,0 +1,227 @@
+// The calls without a frame: start, join, leave, lost, back, override, clear, ask.
+ghost use mathlib.Core.Path.{_≡_};
+ghost use mathlib.Core.Bool.{true, false, cond};
+ghost use Prim.Native.Nat.{_<_};
+ghost use lib.ListN.{getD, set};
+ghost use Rattle.device.specs.Zones.{freeZone, newZone, linked};
+ghost use Rattle.device.specs.Words.{sinceOf, zonesOf};
+ghost use Rattle.device.specs.Calls.{sinceAfter, joinNumber, joinAfter, leaveNumber, leaveAfter, same, linkNumber, linkAfter, overrideWord, overrideNumber, overrideAfter, clearNumber, clearAfter, askAnswer, askAfter};
+ghost use Rattle.device.specs.Start.{refusedSettings, startNumber, startAfter};
+use crate::Asked;
+use crate::Change;
+use crate::HELDS;
+use crate::Held;
+use crate::MOST;
+use crate::SLOTS;
+use crate::Settings;
+use crate::State;
+use crate::VALUES;
+use crate::Zone;
+use crate::holds;
+use crate::links;
+use crate::refusals;
+use crate::store;
+
+fn refused_settings() -> Settings
+    ensures { λ r. ⌜ r ≡ refusedSettings ⌝ }
+{
+    Settings {
+        directions: 0,
+        limits: false,
+        setpoints: false,
+        minimum: 0,
+        maxima: [MOST; 2],
+        failsafe: [0; 2],
+        duration: 7200,
+        manager: false,
+    }
+}
+
+// A new device in the lent words, whatever stood there.
+pub fn start(d: &mut State, s: Settings) -> u64
+    ensures { λ r. ⌜ (r ≡ startNumber s) × (now (d .exit) ≡ startAfter s) ⌝ }
+{
+    if refusals::is_bad_settings(s) {
+        store::fresh(d, refused_settings());
+        return 16;
+    }
+    store::fresh(d, s);
+    0
+}
+
+fn new_zone(zone: u64, rank: u64) -> Zone
+    ensures { λ r. ⌜ r ≡ newZone zone rank ⌝ }
+{
+    Zone {
+        id: zone,
+        rank: rank,
+        up: true,
+        held: [Held { value: 0, until: 0 }; HELDS],
+    }
+}
+
+pub fn join(d: &mut State, zone: u64, rank: u64, t: u64) -> u64
+    ensures { λ r. ⌜ (r ≡ joinNumber (now (d .entry)) zone rank t) × (now (d .exit) ≡ joinAfter (now (d .entry)) zone rank t) ⌝ }
+{
+    if refusals::is_late(store::clock(d), t) {
+        return 5;
+    }
+    if refusals::is_bad_join(zone, rank) {
+        return 6;
+    }
+    if store::is_joined(d, zone) {
+        return 7;
+    }
+    let slot = store::slot_of(d, 0);
+    if SLOTS <= slot {
+        return 8;
+    }
+    let change = Change {
+        time: t,
+        slot: slot,
+        zone: new_zone(zone, rank),
+        since: store::since(d),
+        overridden: store::overridden(d),
+    };
+    store::apply(d, change);
+    0
+}
+
+pub fn leave(d: &mut State, zone: u64, t: u64) -> u64
+    ensures { λ r. ⌜ (r ≡ leaveNumber (now (d .entry)) zone t) × (now (d .exit) ≡ leaveAfter (now (d .entry)) zone t) ⌝ }
+{
+    if refusals::is_late(store::clock(d), t) {
+        return 5;
+    }
+    let slot = store::seat_of(d, zone);
+    if SLOTS <= slot {
+        return 9;
+    }
+    let change = Change {
+        time: t,
+        slot: slot,
+        zone: store::free_zone(),
+        since: links::since_without(d, slot, t),
+        overridden: store::overridden(d),
+    };
+    store::apply(d, change);
+    0
+}
+
+fn is_same(a: bool, b: bool) -> bool
+    ensures { λ r. ⌜ r ≡ same a b ⌝ }
+{
+    if a { b } else { !b }
+}
+
+// The zone in a slot with its link told to be up, or down.
+fn told(d: &State, slot: usize, up: bool) -> Zone
+    ensures { λ r. ⌜ r ≡ linked (getD (zonesOf (now (d .entry))) slot freeZone) up ⌝ }
+{
+    let x = store::zone_at(d, slot);
+    let held = x.held;
+    Zone {
+        id: x.id,
+        rank: x.rank,
+        up: up,
+        held: held,
+    }
+}
+
+// Since when no link is up, once this slot's is told to be.
+fn since_told(d: &State, slot: usize, up: bool, t: u64) -> u64
+    ensures { λ r. ⌜ r ≡ cond up (sinceOf (now (d .entry))) (sinceAfter (zonesOf (now (d .entry))) (set (zonesOf (now (d .entry))) slot freeZone) t (sinceOf (now (d .entry)))) ⌝ }
+{
+    if up {
+        return store::since(d);
+    }
+    links::since_without(d, slot, t)
+}
+
+// A link is lost or back.
+fn link(d: &mut State, zone: u64, up: bool, t: u64) -> u64
+    ensures { λ r. ⌜ (r ≡ linkNumber (now (d .entry)) zone up t) × (now (d .exit) ≡ linkAfter (now (d .entry)) zone up t) ⌝ }
+{
+    if refusals::is_late(store::clock(d), t) {
+        return 5;
+    }
+    let slot = store::seat_of(d, zone);
+    if SLOTS <= slot {
+        return 9;
+    }
+    if is_same(store::up_at(d, slot), up) {
+        return 7;
+    }
+    let change = Change {
+        time: t,
+        slot: slot,
+        zone: told(d, slot, up),
+        since: since_told(d, slot, up, t),
+        overridden: store::overridden(d),
+    };
+    store::apply(d, change);
+    0
+}
+
+pub fn lost(d: &mut State, zone: u64, t: u64) -> u64
+    ensures { λ r. ⌜ (r ≡ linkNumber (now (d .entry)) zone false t) × (now (d .exit) ≡ linkAfter (now (d .entry)) zone false t) ⌝ }
+{
+    link(d, zone, false, t)
+}
+
+pub fn back(d: &mut State, zone: u64, t: u64) -> u64
+    ensures { λ r. ⌜ (r ≡ linkNumber (now (d .entry)) zone true t) × (now (d .exit) ≡ linkAfter (now (d .entry)) zone true t) ⌝ }
+{
+    link(d, zone, true, t)
+}
+
+fn override_word(reason: u64, direction: u64) -> u64
+    requires { ⌜ (reason < 5) × (direction < 2) ⌝ }
+    ensures { λ r. ⌜ r ≡ overrideWord reason direction ⌝ }
+{
+    1 + 2 * reason + direction
+}
+
+pub fn set_override(d: &mut State, reason: u64, direction: u64, t: u64) -> u64
+    ensures { λ r. ⌜ (r ≡ overrideNumber (now (d .entry)) reason direction t) × (now (d .exit) ≡ overrideAfter (now (d .entry)) reason direction t) ⌝ }
+{
+    if refusals::is_late(store::clock(d), t) {
+        return 5;
+    }
+    if refusals::go_together(store::is_manager(d), reason, direction) {
+        store::apply_head(d, t, override_word(reason, direction));
+        return 0;
+    }
+    18
+}
+
+pub fn clear_override(d: &mut State, t: u64) -> u64
+    ensures { λ r. ⌜ (r ≡ clearNumber (now (d .entry)) t) × (now (d .exit) ≡ clearAfter (now (d .entry)) t) ⌝ }
+{
+    if refusals::is_late(store::clock(d), t) {
+        return 5;
+    }
+    if store::overridden(d) == 0 {
+        return 7;
+    }
+    store::apply_head(d, t, 0);
+    0
+}
+
+pub fn ask(d: &mut State, t: u64) -> Asked
+    ensures { λ r. ⌜ (r ≡ askAnswer (now (d .entry)) t) × (now (d .exit) ≡ askAfter (now (d .entry)) t) ⌝ }
+{
+    if refusals::is_late(store::clock(d), t) {
+        return Asked {
+            number: 5,
+            values: [-1; VALUES],
+        };
+    }
+    let values = holds::values_at(d, t);
+    let o = store::overridden(d);
+    store::apply_head(d, t, o);
+    Asked {
+        number: 0,
+        values: values,
+    }
+}

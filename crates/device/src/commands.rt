@@ -1,0 +1,148 @@
+// The four commands: decided, answered from what would hold, applied.
+use crate::Answer;
+use crate::Change;
+use crate::Decision;
+use crate::SLOTS;
+use crate::Settings;
+use crate::State;
+use crate::content;
+use crate::holds;
+use crate::obey;
+use crate::outcomes;
+use crate::refusals;
+use crate::store;
+use messages::Command;
+use messages::Outcome;
+ghost use mathlib.Core.Path.{_≡_};
+ghost use mathlib.Core.Bool.{cond};
+ghost use lib.Dec.{eqb};
+ghost use Rattle.device.specs.Refusals.{firstOf};
+ghost use Rattle.device.specs.Commands.{commandTests, decisionOf, outcomeFor, enacted, commandAnswer, commandAfter};
+
+fn number_of(
+    clock: u64,
+    there: bool,
+    up: bool,
+    s: Settings,
+    overridden: u64,
+    t: u64,
+    c: Command,
+) -> u64
+    ensures { λ r. ⌜ r ≡ firstOf (commandTests clock there up s overridden t c) ⌝ }
+{
+    if content::is_unserved(c) {
+        return 4;
+    }
+    if refusals::is_late(clock, t) {
+        return 5;
+    }
+    if !there {
+        return 9;
+    }
+    if !up {
+        return 10;
+    }
+    content::content_number(s, overridden, c)
+}
+
+// The number, and the record that the zone would then have.
+pub fn decide(d: &State, zone: u64, t: u64, c: Command) -> Decision
+    ensures { λ r. ⌜ r ≡ decisionOf (now (d .entry)) zone t c ⌝ }
+{
+    let slot = store::seat_of(d, zone);
+    let x = store::zone_at(d, slot);
+    let s = store::settings_at(d);
+    let n = number_of(
+        store::clock(d),
+        slot < SLOTS,
+        x.up,
+        s,
+        store::overridden(d),
+        t,
+        c,
+    );
+    if n == 0 {
+        return Decision {
+            number: 0,
+            slot: slot,
+            zone: obey::obeyed(s, c, t, x),
+        };
+    }
+    Decision {
+        number: n,
+        slot: SLOTS,
+        zone: store::free_zone(),
+    }
+}
+
+fn success_if(n: u64) -> Outcome
+    ensures { λ r. ⌜ r ≡ cond (eqb n 0) Outcome.Success Outcome.Nothing ⌝ }
+{
+    if n == 0 {
+        return Outcome::Success;
+    }
+    Outcome::Nothing
+}
+
+// What would be answered, before anything is stored. A clear needs no values.
+pub fn outcome_of(d: &State, t: u64, c: Command, x: Decision) -> Outcome
+    ensures { λ r. ⌜ r ≡ outcomeFor (now (d .entry)) t c x ⌝ }
+{
+    let n = x.number;
+    let zone = x.zone;
+    match c {
+        Command::SetLimit(_) => {
+            if outcomes::has_result(n) {
+                let capped = outcomes::is_capped(store::settings_at(d), c);
+                return outcomes::limit_outcome(n, capped, holds::values_with(d, x.slot, zone, t));
+            }
+            Outcome::Nothing
+        }
+        Command::ClearLimit(_) => success_if(n),
+        Command::SetSetpoint(_) => {
+            if n == 0 {
+                return outcomes::setpoint_outcome(holds::values_with(d, x.slot, zone, t));
+            }
+            Outcome::Nothing
+        }
+        Command::ClearSetpoint(_) => success_if(n),
+        Command::Unserved(_) => Outcome::Nothing,
+    }
+}
+
+// The decision applied. A refused one stores nothing.
+pub fn enact(d: &mut State, t: u64, x: Decision)
+    ensures { λ r. ⌜ now (d .exit) ≡ enacted (now (d .entry)) t x ⌝ }
+{
+    if x.number == 0 {
+        let zone = x.zone;
+        let change = Change {
+            time: t,
+            slot: x.slot,
+            zone: zone,
+            since: store::since(d),
+            overridden: store::overridden(d),
+        };
+        store::apply(d, change);
+    }
+}
+
+// A copy: an array by value, whose length the proof knows. Nothing reads it, so it leaves no code.
+fn whole(d: &State) -> State
+    ensures { λ r. ⌜ r ≡ now (d .entry) ⌝ }
+{
+    *d
+}
+
+pub fn command(d: &mut State, zone: u64, t: u64, c: Command) -> Answer
+    ensures { λ r. ⌜ (r ≡ commandAnswer (now (d .entry)) zone t c) × (now (d .exit) ≡ commandAfter (now (d .entry)) zone t c) ⌝ }
+{
+    let _whole = whole(d);
+    let x = decide(d, zone, t, c);
+    let outcome = outcome_of(d, t, c, x);
+    enact(d, t, x);
+    Answer {
+        number: x.number,
+        outcome: outcome,
+    }
+}

@@ -1,0 +1,108 @@
+// The result that stands in the response to a command.
+use crate::Settings;
+use crate::VALUES;
+use crate::fields::field_above;
+use crate::fields::is_negative;
+use crate::fields::natural_of;
+use messages::Amount;
+use messages::Command;
+use messages::LimitResult;
+use messages::Outcome;
+use messages::SetpointResult;
+ghost use mathlib.Core.Path.{_≡_};
+ghost use mathlib.Core.Bool.{cond, _&&_, _||_};
+ghost use lib.Dec.{leb, eqb};
+ghost use Rattle.device.specs.Commands.{isCapped, reasonOf, stated, limitOutcome, setpointOutcome};
+
+pub fn is_capped(s: Settings, c: Command) -> bool
+    ensures { λ r. ⌜ r ≡ isCapped s c ⌝ }
+{
+    match c {
+        Command::SetLimit(m) => {
+            let a = m.consumption;
+            let b = m.production;
+            if field_above(s.maxima[0], a) {
+                return true;
+            }
+            field_above(s.maxima[1], b)
+        }
+        Command::ClearLimit(_) => false,
+        Command::SetSetpoint(_) => false,
+        Command::ClearSetpoint(_) => false,
+        Command::Unserved(_) => false,
+    }
+}
+
+fn above_if(capped: bool) -> Amount
+    ensures { λ r. ⌜ r ≡ cond capped (Amount.Is 1) Amount.Absent ⌝ }
+{
+    if capped {
+        return Amount::Is(1);
+    }
+    Amount::Absent
+}
+
+// Why a SetLimit was refused, or that it was capped.
+fn reason_of(n: u64, capped: bool) -> Amount
+    ensures { λ r. ⌜ r ≡ reasonOf n capped ⌝ }
+{
+    if n == 11 {
+        return Amount::Is(4);
+    }
+    if n == 12 {
+        return Amount::Is(3);
+    }
+    if n == 13 {
+        return Amount::Is(2);
+    }
+    if n == 14 {
+        return Amount::Is(0);
+    }
+    if n == 0 {
+        return above_if(capped);
+    }
+    Amount::Absent
+}
+
+fn stated(v: i64) -> Amount
+    ensures { λ r. ⌜ r ≡ stated v ⌝ }
+{
+    if is_negative(v) {
+        return Amount::Absent;
+    }
+    Amount::Is(natural_of(v))
+}
+
+// SetLimit has a result where it is accepted and at refusals 11 to 14.
+pub fn has_result(n: u64) -> bool
+    ensures { λ r. ⌜ r ≡ eqb n 0 || (leb 11 n && leb n 14) ⌝ }
+{
+    if n == 0 {
+        return true;
+    }
+    if 11 <= n {
+        return n <= 14;
+    }
+    false
+}
+
+pub fn limit_outcome(n: u64, capped: bool, values: [i64; VALUES]) -> Outcome
+    ensures { λ r. ⌜ r ≡ limitOutcome n capped values ⌝ }
+{
+    Outcome::Limit(LimitResult {
+        applied: n == 0,
+        state: natural_of(values[0]),
+        consumption: stated(values[1]),
+        production: stated(values[2]),
+        reason: reason_of(n, capped),
+    })
+}
+
+pub fn setpoint_outcome(values: [i64; VALUES]) -> Outcome
+    ensures { λ r. ⌜ r ≡ setpointOutcome values ⌝ }
+{
+    Outcome::Setpoint(SetpointResult {
+        consumption: stated(values[3]),
+        production: stated(values[4]),
+    })
+}

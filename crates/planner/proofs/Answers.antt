@@ -1,0 +1,73 @@
+-- How a plan ends: refused with all as it was, or accepted with its rows at the front of the slice.
+use Prim.Native.Nat.{ℕ, zero, suc, _+_, _*_, _-_, _<_, _≤_}
+use mathlib.Core.Bool.{true, false}
+use mathlib.Core.Path.{_≡_, refl, ap, _∙_}
+use mathlib.Core.Logic.{ite}
+use mathlib.Core.List.{List, _∷_, _++_, List-discrete}
+use native.Mathlib.Omega.{arith}
+use lib.IntN.{ℤ, ℤ-discrete}
+use lib.ListN.{length, take, drop, length-append}
+use lib.Seq.{sets, sets-eq, take-append-seam}
+use borrow.Author.Tests.{lt-ltb, le-ltb, ne-eqb}
+use Rattle.device.specs.Sizes.{helds}
+use Rattle.device.specs.Words.{clockOf, overrideOf, applied, after}
+use Rattle.device.specs.Holds.{Situation, situationOf, valuesAt}
+use Rattle.device.specs.Refusals.{firstOf, late}
+use Rattle.device.specs.Calls.{headChange}
+use Rattle.planner.specs.Rows.{last, rowsOf, plan}
+use Rattle.planner.specs.Plan.{planOf, rowSize, numbersOf, planNumber, planAnswer, planAfter, front, planSlice}
+use Rattle.planner.specs.declared.Planned.{Planned}
+use Rattle.planner.proofs.Find.{values-length}
+
+-- HOW MANY NUMBERS
+rows-numbers : (f : ℕ → List ℤ) → ((t : ℕ) → length (f t) ≡ 1 + helds) → (n now : ℕ) → length (numbersOf (rowsOf f now n)) ≡ length (rowsOf f now n) * rowSize
+unfolding rowsOf numbersOf
+rows-numbers f each zero now = omega arith
+rows-numbers f each (suc n) now = go (List-discrete ℤ-discrete (f (suc now)) (f now)) (rows-numbers f each n (suc now))
+  where
+    go : (d : Dec (f (suc now) ≡ f now)) → length (numbersOf (rowsOf f (suc now) n)) ≡ length (rowsOf f (suc now) n) * rowSize
+        → length (numbersOf (ite d (rowsOf f (suc now) n) ((suc now, f (suc now)) ∷ rowsOf f (suc now) n))) ≡ length (ite d (rowsOf f (suc now) n) ((suc now, f (suc now)) ∷ rowsOf f (suc now) n)) * rowSize
+    go (yes e) h = h
+    go (no e) h = rw length-append (omega (arith, each (suc now)))
+
+pub numbers-length : (s : Situation) (now : ℕ) → length (numbersOf (planOf s now)) ≡ length (planOf s now) * rowSize
+unfolding planOf plan
+numbers-length s now = rows-numbers (valuesAt s) (values-length s) (last - now) now
+
+-- THE NUMBER, AND HOW THE CALL ENDS
+module _ (ws : List ℕ) (t : ℕ) (old : List ℤ) where
+  abbrev rows : List (ℕ × List ℤ)
+  rows = planOf (situationOf ws) t
+
+  -- the answer, the words and the slice that the contract names
+  abbrev pub Ends : Planned → List ℕ → List ℤ → Type 0
+  Ends r us new = (r ≡ planAnswer ws t (length old)) × ((us ≡ planAfter ws t (length old)) × (new ≡ planSlice ws t old))
+
+  refused : (n : ℕ) → planNumber ws t (length old) ≡ n → (n ≡ 0 → ⊥) → Ends (record { number = n; count = 0 }) ws old
+  unfolding planAnswer planAfter planSlice after
+  refused n e h = rw (e, ne-eqb n 0 h) (refl, (refl, refl))
+
+  pub late-ends : late (clockOf ws) t ≡ true → Ends (record { number = 5; count = 0 }) ws old
+  unfolding planNumber firstOf
+  late-ends l = refused 5 (rw l) (λ z. omega arith)
+
+  pub full-ends : late (clockOf ws) t ≡ false → (n : ℕ) → n ≡ length rows → length old < n * rowSize → Ends (record { number = 15; count = 0 }) ws old
+  unfolding planNumber firstOf
+  full-ends l n e h =
+      let m : length old < length (numbersOf rows) = omega (arith, numbers-length (situationOf ws) t) in
+      refused 15 (rw (l, lt-ltb (length old) (length (numbersOf rows)) m)) (λ z. omega arith)
+
+  -- what a copy of the rows found, from the front of any numbers that have the room, leaves in the slice
+  written : (z found new : List ℤ) (k : ℕ) → k ≡ length (numbersOf rows) → k ≤ length z → found ≡ sets z 0 (numbersOf rows) → new ≡ take k found ++ drop k old → new ≡ front (numbersOf rows) old
+  unfolding front
+  written z found new k e h f w = w ∙ rw (e, f, sets-eq (numbersOf rows) z 0 (omega arith), take-append-seam (numbersOf rows))
+
+  pub ends : (us : List ℕ) (z found new : List ℤ) (n o : ℕ) → late (clockOf ws) t ≡ false → n ≡ length rows → n * rowSize ≤ length old → n * rowSize ≤ length z
+      → found ≡ sets z 0 (numbersOf rows) → new ≡ take (n * rowSize) found ++ drop (n * rowSize) old → o ≡ overrideOf ws → us ≡ applied ws (headChange ws t o)
+      → Ends (record { number = 0; count = n }) us new
+  unfolding planNumber firstOf planAnswer planAfter planSlice after
+  ends us z found new n o l e h g f w p q =
+      let k : n * rowSize ≡ length (numbersOf rows) = omega (arith, numbers-length (situationOf ws) t) in
+      let m : length (numbersOf rows) ≤ length old = omega arith in
+      rw (l, le-ltb (length old) (length (numbersOf rows)) m)
+      (ap (λ (c : ℕ). record { number = 0; count = c }) e, (rw p at q, written z found new (n * rowSize) k g f w))

@@ -1,0 +1,9 @@
+pub mod IsPlan
+pub mod Alike
+pub mod Due
+pub mod Quiet
+pub mod Walk
+pub mod Nearest
+pub mod Written
+pub mod Find
+pub mod Answers

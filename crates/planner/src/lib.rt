@@ -1,0 +1,53 @@
+// The plan: each second after now at which what holds will change, and what holds from then on.
+mod dues;
+mod rows;
+
+use device::State;
+use device::refusals::is_late;
+use device::store::apply_head;
+use device::store::clock;
+use device::store::overridden;
+use rows::ROOM;
+use rows::ROW;
+ghost use mathlib.Core.Path.{_≡_};
+ghost use lib.ListN.{length};
+ghost use Rattle.planner.specs.Plan.{planAnswer, planAfter, planSlice};
+
+// The answer to a plan: its number, and the count of rows written.
+pub struct Planned {
+    pub number: u64,
+    pub count: u64,
+}
+
+fn refused(number: u64) -> Planned
+    ensures { λ r. ⌜ r ≡ record { number = number; count = 0 } ⌝ }
+{
+    Planned {
+        number: number,
+        count: 0,
+    }
+}
+
+// The rows go to a local first, so that nothing is written where they do not all fit.
+pub fn plan(d: &mut State, t: u64, rows: &mut [i64]) -> Planned
+    ensures { λ r. ⌜ r ≡ planAnswer (now (d .entry)) t (length (now (rows .entry))) ⌝ }
+    ensures { λ _. ⌜ now (d .exit) ≡ planAfter (now (d .entry)) t (length (now (rows .entry))) ⌝ }
+    ensures { λ _. ⌜ now (rows .exit) ≡ planSlice (now (d .entry)) t (now (rows .entry)) ⌝ }
+{
+    if is_late(clock(d), t) {
+        return refused(5);
+    }
+    let mut found = [0; ROOM];
+    let count = rows::find(d, t, &mut found);
+    let size = count * ROW;
+    if rows.len() < size {
+        return refused(15);
+    }
+    rows::copy(rows, &found, size);
+    let o = overridden(d);
+    apply_head(d, t, o);
+    Planned {
+        number: 0,
+        count: count as u64,
+    }
+}
