@@ -23,6 +23,9 @@ use Rattle.frames.proofs.FieldsBack.{Allowed}
 pub no-value : {X : Type 0} {x : X} → none ≡ some x → ⊥
 no-value e = let z : _≡_ {A = ℕ} 0 1 = cc in omega arith
 
+pub same-inside : {X : Type 0} {x y : X} → some x ≡ some y → x ≡ y
+same-inside e = cc
+
 -- the parts of a chain of readers
 pub bind-parts : {X Y : Type 0} (o : Option X) (k : X → Option Y) (y : Y) → bind o k ≡ some y → (x : X) × (o ≡ some x) × (k x ≡ some y)
 unfolding bind

@@ -17,6 +17,8 @@ pub mod FieldsAgain
 pub mod Trips
 pub mod RequestBack
 pub mod RequestAgain
+pub mod ResponseBack
+pub mod ResponseAgain
 pub mod Writes
 pub mod Sends
 pub mod Numbered

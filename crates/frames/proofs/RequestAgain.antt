@@ -30,15 +30,10 @@ use Rattle.frames.specs.declared.requests.Reading.{Reading}
 use Rattle.frames.proofs.Joined.{no-both, and-left, and-right, or-left, or-right}
 use Rattle.frames.proofs.Maps.{Ascending, OkFields, hasKey, Holds, same-map, no-known}
 use Rattle.frames.proofs.FieldsBack.{Allowed}
-use Rattle.frames.proofs.FieldsAgain.{no-value, bind-parts, map-part, uint-again, map-again, duration-again, aim-again, value-again}
+use Rattle.frames.proofs.FieldsAgain.{same-inside, bind-parts, map-part, uint-again, map-again, duration-again, aim-again, value-again}
 use Rattle.frames.proofs.RequestBack.{limits-ascend, limits-ok, command-ascend, command-ok, request-ascend, request-ok}
+use Rattle.frames.proofs.Joined.{four}
 use Rattle.frames.proofs.Trips.{item-in, frame-again, value-ok, map-ok}
-
-four : (c : ℕ) → (c ≡ 1 → ⊥) → (c ≡ 2 → ⊥) → (c ≡ 3 → ⊥) → 1 ≤ c → c ≤ 4 → c ≡ 4
-four c a b d x y = by-omega
-  where
-    by-omega : c ≡ 4
-    by-omega = omega (arith, a, b, d)
 
 -- THE PARAMETERS
 -- what was read of a command's parameters, and that they are its fields where no key is unknown and no zero duration is written
@@ -57,9 +52,6 @@ pub record AgainSet (null : Bool) (ps : Pairs) (l : Limits) : Type 0 where
   pub same : (lo d : ℕ) → OkPairs ps lo d → KeysTo 4 ps → (valueOf ps 3 ≡ some (Item.uint 0) → ⊥) → present (limitsFields l) ≡ ps
 
 module _ (null : Bool) (ps : Pairs) where
-  inside-some : {X : Type 0} {x y : X} → some x ≡ some y → x ≡ y
-  inside-some e = cc
-
   made : (x y : Field) (n k : ℕ) → valueIn null (valueOf ps 1) ≡ some x → valueIn null (valueOf ps 2) ≡ some y → durationIn (valueOf ps 3) ≡ some n → needed (upTo 255) (valueOf ps 4) ≡ some k → AgainSet null ps (record { consumption = x; production = y; duration = n; cause = k })
   unfolding limitsFields
   made x y n k ex ey en ek =
@@ -72,7 +64,7 @@ module _ (null : Bool) (ps : Pairs) where
         range = rw (le-ltb most32 n (c .0), le-ltb 255 k (d .1));
         first = (a .1, a .2);
         second = (b .1, b .2);
-        same = λ lo dd ok keys z. same-map ps (limitsFields l) lo dd ok (limits-ascend l) (limits-ok l dd (a .1) (b .1) (c .0) (d .1)) (a .0, (b .0, (c .1 z, (d .0, tt)))) (λ j h. keys j (no-known (limitsFields l) j (refl, (refl, (refl, (refl, tt)))) h))
+        same = λ lo dd ok keys z. same-map ps (limitsFields l) lo dd ok (limits-ascend l) (limits-ok l dd (a .1) (b .1) (c .0) (d .1)) (a .0, (b .0, (c .1 z, (d .0, tt)))) (λ j h. keys j (no-known (limitsFields l) j (refl, (refl, (refl, (refl, tt)))) h));
       }
 
   pub set-again : (l : Limits) → limitsIn null ps ≡ some l → AgainSet null ps l
@@ -82,7 +74,7 @@ module _ (null : Bool) (ps : Pairs) where
       let b = bind-parts (valueIn null (valueOf ps 2)) _ l (a .2) in
       let c = bind-parts (durationIn (valueOf ps 3)) _ l (b .2) in
       let d = bind-parts (needed (upTo 255) (valueOf ps 4)) _ l (c .2) in
-      let q : record { consumption = a .0; production = b .0; duration = c .0; cause = d .0 } ≡ l = inside-some (d .2) in
+      let q : record { consumption = a .0; production = b .0; duration = c .0; cause = d .0 } ≡ l = same-inside (d .2) in
       subst (λ (x : Limits). AgainSet null ps x) q (made (a .0) (b .0) (c .0) (d .0) (a .1) (b .1) (c .1) (d .1))
 
 target-64 : (f : Field) → Field64 f → Target64 (targetOf f)
@@ -119,9 +111,11 @@ module _ (ps : Pairs) where
       let s = set-again false ps (p .0) (p .1) in
       subst (λ (y : Command). Again 3 ps y) (p .2)
       (record {
-        number = refl; served = refl; range = s .range;
+        number = refl;
+        served = refl;
+        range = s .range;
         bits = (target-64 (p .0 .consumption) (s .first .0), target-64 (p .0 .production) (s .second .0));
-        same = λ lo d ok keys z. ap (λ (l : Limits). present (limitsFields l)) (same-limits (p .0) (s .first .1) (s .second .1)) ∙ s .same lo d ok keys z
+        same = λ lo d ok keys z. ap (λ (l : Limits). present (limitsFields l)) (same-limits (p .0) (s .first .1) (s .second .1)) ∙ s .same lo d ok keys z;
       })
 
   again-clear-limit : (x : Command) → Option·map Command.ClearLimit (aimIn (valueOf ps 1)) ≡ some x → Again 2 ps x
@@ -160,9 +154,6 @@ pub record AgainEnvelope (ps : Pairs) (e : Envelope) : Type 0 where
   pub fourth : (valueOf ps 4 ≡ some (Item.uint (e .command))) × (e .command ≤ 65535)
   pub fifth : valueOf ps 5 ≡ some (Item.map (e .parameters))
 
-same-inside : {X : Type 0} {x y : X} → some x ≡ some y → x ≡ y
-same-inside e = cc
-
 envelope-again : (ps : Pairs) (e : Envelope) → envelopeIn ps ≡ some e → AgainEnvelope ps e
 unfolding envelopeIn
 envelope-again ps e h =
@@ -177,7 +168,7 @@ envelope-again ps e h =
       second = uint-again 255 (valueOf ps 2) (b .0) (b .1);
       third = uint-again 65535 (valueOf ps 3) (c .0) (c .1);
       fourth = uint-again 65535 (valueOf ps 4) (d .0) (d .1);
-      fifth = map-again (valueOf ps 5) (m .0) (m .1)
+      fifth = map-again (valueOf ps 5) (m .0) (m .1);
     })
 
 -- THE MESSAGE

@@ -56,11 +56,12 @@ module _ (frame : List ℕ) (ok : Bytes frame) where
       rw n (sym (number-there frame ok 4 0 (omega (arith, x .0))))
 
 pub framed-exact : FramedExact
-framed-exact frame ok =
-    ((λ e.
-        let x = framed-parts frame e in
-        (frame-of-payload frame ok e, omega (arith, x .0, length-drop 4 frame), omega (arith, x .1, length-drop 4 frame))),
-    (λ h. subst (λ (l : List ℕ). framed l ≡ true) (h .0) (framed-of (payloadIn frame) (h .1) (h .2))))
+framed-exact frame ok = (
+  (λ e.
+      let x = framed-parts frame e in
+      (frame-of-payload frame ok e, omega (arith, x .0, length-drop 4 frame), omega (arith, x .1, length-drop 4 frame))),
+  (λ h. subst (λ (l : List ℕ). framed l ≡ true) (h .0) (framed-of (payloadIn frame) (h .1) (h .2))),
+)
 
 -- A WRITTEN ITEM
 module _ (i : Item) (ok : Ok i levels) where
