@@ -60,6 +60,10 @@ adds-pair s t u p key m v q r h lt w x =
     adds-more a (adds-head t u q m v r (omega (arith, a .moved, a .short, a .kept)) lt x)
 
 -- THE FIELDS OF A MAP
+pub map-bytes : (fs : Fields) → encode (Item.map (present fs)) ≡ headBytes 5 (countPairs (present fs)) ++ encodePairs (present fs)
+unfolding encode
+map-bytes fs = refl
+
 pub fields-none : encodePairs (present []) ≡ []
 unfolding encodePairs present
 fields-none = refl

@@ -1,5 +1,5 @@
 -- Joined tests taken apart. Assumes nothing.
-use Prim.Native.Nat.{ℕ}
+use Prim.Native.Nat.{ℕ, _≤_}
 use mathlib.Core.Path.{_≡_, refl, sym, ap, _∙_}
 use mathlib.Core.Bool.{Bool, true, false, not, _&&_, _||_}
 use native.Mathlib.Omega.{arith}
@@ -37,3 +37,7 @@ and-same {a} {b} {c} {d} e f = ap (λ (x : Bool). x && b) e ∙ ap (λ (x : Bool
 
 pub or-same : {a b c d : Bool} → a ≡ c → b ≡ d → (a || b) ≡ (c || d)
 or-same {a} {b} {c} {d} e f = ap (λ (x : Bool). x || b) e ∙ ap (λ (x : Bool). c || x) f
+
+-- the last of the commands 1 to 4
+pub four : (c : ℕ) → (c ≡ 1 → ⊥) → (c ≡ 2 → ⊥) → (c ≡ 3 → ⊥) → 1 ≤ c → c ≤ 4 → c ≡ 4
+four c a b d x y = omega (arith, a, b, d)

@@ -11,6 +11,14 @@ pub mod Requested
 pub mod Answered
 pub mod Signs
 pub mod Added
+pub mod Maps
+pub mod FieldsBack
+pub mod FieldsAgain
+pub mod Trips
+pub mod RequestBack
+pub mod RequestAgain
+pub mod ResponseBack
+pub mod ResponseAgain
 pub mod Writes
 pub mod Sends
 pub mod Numbered

@@ -17,15 +17,11 @@ use Rattle.frames.specs.Fields.{Fields, present, valueItem, durationItem
 use Rattle.frames.specs.Requests.{limitsFields, commandFields, requestFields, requestItem}
 use Rattle.frames.specs.Responses.{mapItem, limitFields, setpointFields, clearFields, outcomeItem, responseFields, responseItem}
 use Rattle.frames.specs.Puts.{pairBytes, fieldBytes, pairsOf}
-use Rattle.frames.proofs.Added.{fields-more, fields-one, count-more, count-none}
+use Rattle.frames.proofs.Added.{map-bytes, fields-more, fields-one, count-more, count-none}
 
 pub pairs-small : (o : Option Item) → pairsOf o ≤ 1
 pairs-small (some i) = omega arith
 pairs-small none = omega arith
-
-map-bytes : (fs : Fields) → encode (Item.map (present fs)) ≡ headBytes 5 (countPairs (present fs)) ++ encodePairs (present fs)
-unfolding encode
-map-bytes fs = refl
 
 -- a map under a key: the key and the head, then the pairs
 under-key : (k n : ℕ) (fs : Fields) → n ≡ countPairs (present fs) → pairBytes k 5 n ++ encodePairs (present fs) ≡ fieldBytes k (mapItem fs)
