@@ -1,9 +1,28 @@
 -- Demand 2, proved.
 use Rattle.cbor.proofs.Payload.{payload-exact, one-item}
+use Rattle.frames.proofs.Trips.{framed-exact}
+use Rattle.frames.proofs.RequestBack.{request-reads-back}
+use Rattle.frames.proofs.RequestAgain.{request-writes-again}
+use Rattle.frames.proofs.ResponseBack.{response-reads-back, status-reads-back}
+use Rattle.frames.proofs.ResponseAgain.{response-writes-again}
 use Rattle.device.proofs.Rows.{table}
 use Rattle.device.proofs.Expiry.{expiry}
 use Rattle.conformance.proofs.Laws.{exact, ordered}
 use Rattle.demands.specs.Demands.{Demand2}
 
 pub demand-2 : Demand2
-demand-2 = record { strict = payload-exact; encoded = one-item; table = table; expiry = expiry; exact = exact; ordered = ordered }
+demand-2 =
+    record {
+      strict = payload-exact;
+      encoded = one-item;
+      framed = framed-exact;
+      requestBack = request-reads-back;
+      responseBack = response-reads-back;
+      statusBack = status-reads-back;
+      requestAgain = request-writes-again;
+      responseAgain = response-writes-again;
+      table = table;
+      expiry = expiry;
+      exact = exact;
+      ordered = ordered;
+    }

@@ -10,6 +10,7 @@ use Rattle.cbor.specs.Laws.{PayloadExact, OneItem}
 use Rattle.messages.specs.declared.Amount.the-variants.{Is}
 use Rattle.messages.specs.declared.Command.{Command}
 use Rattle.frames.specs.Requests.{readRequest}
+use Rattle.frames.specs.RoundTrips.{FramedExact, RequestReadsBack, ResponseReadsBack, StatusReadsBack, RequestWritesAgain, ResponseWritesAgain}
 use Rattle.frames.specs.Writing.{writingNumber, writtenOf, leftBy}
 use Rattle.device.specs.declared.Settings.{Settings}
 use Rattle.device.specs.declared.Zone.{Zone}
@@ -55,6 +56,15 @@ pub record Demand2 : Type 0 where
   -- "Frames are read and written as RFC 8949 and document 01 say": a payload is read exactly where it is the one encoding of an item of the strict subset
   pub strict : PayloadExact
   pub encoded : OneItem
+  -- a frame is a payload of 1 to 2,048 bytes behind its length
+  pub framed : FramedExact
+  -- "What is written reads back equal"
+  pub requestBack : RequestReadsBack
+  pub responseBack : ResponseReadsBack
+  pub statusBack : StatusReadsBack
+  -- "a frame read and written again is the same bytes if it has no unknown key and no written zero duration"
+  pub requestAgain : RequestWritesAgain
+  pub responseAgain : ResponseWritesAgain
   -- "With a zone's link up, the limit in each direction is the smallest unexpired one, absent exactly when there is none;
   -- the setpoint is that of the highest-ranked zone that has one; other cases follow document 01"
   pub table : (s : Situation) (t : ℕ) → Table s t

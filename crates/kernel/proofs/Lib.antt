@@ -1,3 +1,3 @@
 pub mod InRange
-pub mod Readings
+pub mod Unserved
 pub mod Framing

@@ -1,6 +1,7 @@
 use borrow.Author.Needs.{needs}
 use mathlib.Core.Path.{_≡_, refl, sym, _∙_}
-use Rattle.kernel.proofs.Readings.{request-in-range, unserved-id}
+use Rattle.frames.proofs.RequestAgain.{request-writable}
+use Rattle.kernel.proofs.Unserved.{unserved-id}
 use Rattle.kernel.proofs.Framing.{as-read, unserved-answer, refused-reading}
 use Rattle.kernel.proofs.frame_call.frame.Statement.{statement}
 use Rattle.kernel.proofs.frame_call.frame.Tie as tie
@@ -11,7 +12,7 @@ frame-spec =
     (tie.spec
     (λ c κs. search needs)
     (λ c. search needs)
-    (λ c κs. request-in-range (c .before .before .before .before .before .before .before .before .args .bytes .now) _ (sym (c .before .before .before .before .before .read-request .ensures) ∙ c .before .before .before .r .given .1))
+    (λ c κs. request-writable (c .before .before .before .before .before .before .before .before .args .bytes .now) _ (sym (c .before .before .before .before .before .read-request .ensures) ∙ c .before .before .before .r .given .1) .1)
     (λ c. search needs)
     (λ c κs. search needs)
     (λ c. search needs)
