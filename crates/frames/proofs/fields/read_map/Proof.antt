@@ -1,4 +1,5 @@
-use Rattle.frames.proofs.Looks.{all-bytes, map-there}
+use Rattle.frames.proofs.Looks.{map-there}
+use Rattle.cbor.proofs.Numbers.{all-bytes}
 use borrow.Author.Needs.{needs}
 use Rattle.frames.proofs.fields.read_map.Statement.{statement}
 use Rattle.frames.proofs.fields.read_map.Tie as tie

@@ -1,4 +1,5 @@
-use Rattle.frames.proofs.Looks.{all-bytes, root-there, root-wrong}
+use Rattle.frames.proofs.Looks.{root-there, root-wrong}
+use Rattle.cbor.proofs.Numbers.{all-bytes}
 use borrow.Author.Needs.{needs}
 use Rattle.frames.proofs.fields.read_root.Statement.{statement}
 use Rattle.frames.proofs.fields.read_root.Tie as tie

@@ -4,7 +4,8 @@ use mathlib.Core.Path.{_≡_, refl, ap, _∙_}
 use mir.Syntax.{w64}
 use mir.Val.{SFits}
 use mir.ValLaws.{toZ-ofZ}
-use Rattle.frames.proofs.Looks.{all-bytes, signed-null, signed-value, signed-wrong, signed-absent}
+use Rattle.frames.proofs.Looks.{signed-null, signed-value, signed-wrong, signed-absent}
+use Rattle.cbor.proofs.Numbers.{all-bytes}
 use borrow.Author.Needs.{needs}
 use Rattle.frames.proofs.fields.read_signed.Statement.{statement}
 use Rattle.frames.proofs.fields.read_signed.Tie as tie

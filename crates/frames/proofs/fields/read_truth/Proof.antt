@@ -1,4 +1,5 @@
-use Rattle.frames.proofs.Looks.{all-bytes, truth-there, truth-wrong}
+use Rattle.frames.proofs.Looks.{truth-there, truth-wrong}
+use Rattle.cbor.proofs.Numbers.{all-bytes}
 use borrow.Author.Needs.{needs}
 use Rattle.frames.proofs.fields.read_truth.Statement.{statement}
 use Rattle.frames.proofs.fields.read_truth.Tie as tie

@@ -1,4 +1,5 @@
-use Rattle.frames.proofs.Looks.{all-bytes, uint-there, uint-wrong, uint-absent}
+use Rattle.frames.proofs.Looks.{uint-there, uint-wrong, uint-absent}
+use Rattle.cbor.proofs.Numbers.{all-bytes}
 use borrow.Author.Needs.{needs}
 use Rattle.frames.proofs.fields.read_uint.Statement.{statement}
 use Rattle.frames.proofs.fields.read_uint.Tie as tie

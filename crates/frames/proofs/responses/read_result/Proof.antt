@@ -1,4 +1,4 @@
-use Rattle.frames.proofs.Looks.{all-bytes}
+use Rattle.cbor.proofs.Numbers.{all-bytes}
 use Rattle.frames.proofs.Answered.{result-no-map, result-is, result-none, result-elsewhere}
 use borrow.Author.Needs.{needs}
 use Rattle.frames.proofs.responses.read_result.Statement.{statement}
