@@ -8,11 +8,11 @@ use lib.ListN.{length, take, drop, length-append}
 use lib.Seq.{sets-eq, take-at, length-take-le}
 use borrow.Author.Tests.{lt-ltb}
 use Rattle.cbor.specs.Bytes.{put, putWhole, pastWhole}
-use Rattle.cbor.specs.Head.{headBytes, headLen, headOf}
-use Rattle.cbor.specs.Item.{Item, Pairs, encode, encodePairs, countPairs}
+use Rattle.cbor.specs.Head.{headBytes, headOf}
+use Rattle.cbor.specs.Item.{Item, encode, encodePairs, countPairs}
 use Rattle.cbor.proofs.Widths.{head-length, head-short}
 use Rattle.cbor.proofs.Puts.{put-whole, length-put}
-use Rattle.frames.specs.Fields.{Fields, withField, present}
+use Rattle.frames.specs.Fields.{Fields, present}
 use Rattle.frames.specs.Puts.{Adds, pairBytes, fieldBytes, pairsOf, pairRoom}
 
 pub adds-none : (s : List ℕ) (p n : ℕ) → Adds s p [] n s p

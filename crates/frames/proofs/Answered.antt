@@ -1,21 +1,19 @@
 -- A response, from its parts. Assumes nothing.
-use Prim.Native.Nat.{ℕ, _≤_}
+use Prim.Native.Nat.{ℕ}
 use mathlib.Core.Path.{_≡_, refl, sym, ap, _∙_}
-use mathlib.Core.Bool.{Bool, true, false, cond, _&&_}
+use mathlib.Core.Bool.{Bool, true, false, _&&_}
 use mathlib.Core.List.{List}
-use mathlib.Core.Option.{Option, some, none, bind, Option·map}
+use mathlib.Core.Option.{Option, some, none, bind}
 use native.Mathlib.Omega.{arith}
-use lib.Dec.{eqb}
 use borrow.Author.Tests.{eq-eqb, ne-eqb}
 use Rattle.cbor.specs.Bytes.{Bytes}
 use Rattle.cbor.specs.Item.{Item, Pairs, payloadOf, isSome}
 use Rattle.cbor.specs.Find.{valueOf}
 use Rattle.messages.specs.declared.Outcome.{Outcome}
-use Rattle.messages.specs.declared.Response.{Response}
 use Rattle.frames.specs.Prefix.{framed, payloadIn}
-use Rattle.frames.specs.Fields.{upTo, truth, mapIn, needed, most32, successIn}
+use Rattle.frames.specs.Fields.{upTo, mapIn, needed, most32}
 use Rattle.frames.specs.Requests.{servedCommand}
-use Rattle.frames.specs.Responses.{isStatus, onlyStatus, stands, statusIn, limitResultIn, setpointResultIn, outcomeIn, noResult, resultIn, responseIn, answerOf, answerIn, answerFrom, readResponse}
+use Rattle.frames.specs.Responses.{isStatus, stands, statusIn, outcomeIn, noResult, resultIn, responseIn, answerOf, answerIn, answerFrom, readResponse}
 use Rattle.frames.specs.Walks.{On, Says, sightAt, UintReads, TruthReads, InnerReads, EffectReads, TargetsRead, OutcomeReads, ResultReads, BodyReads, RootReads, resultFrom}
 use Rattle.frames.specs.declared.fields.Walk.{Walk}
 use Rattle.frames.specs.declared.fields.Sight.{Sight}
@@ -26,10 +24,10 @@ use Rattle.frames.specs.declared.responses.Answer.{Answer}
 use Rattle.frames.specs.declared.responses.Effect.{Effect}
 use Rattle.frames.specs.declared.responses.Targets.{Targets}
 use Rattle.frames.specs.declared.responses.Result.{Result}
-use Rattle.frames.proofs.Joined.{and-left, and-right, and-false}
+use Rattle.frames.proofs.Joined.{and-left, and-right}
 use Rattle.frames.proofs.Seen.{Seen, seen}
 use Rattle.frames.proofs.Readers.{clash, yes, no}
-use Rattle.frames.proofs.Steps.{as-needed, then-says}
+use Rattle.frames.proofs.Steps.{as-needed}
 use Rattle.frames.proofs.Messages.{success-says}
 use Rattle.frames.proofs.Requested.{is-some, is-none}
 

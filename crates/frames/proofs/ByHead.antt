@@ -1,18 +1,19 @@
 -- Each kind of value, told by the head of the item. Assumes nothing.
 use Prim.Native.Nat.{ℕ}
-use mathlib.Core.Path.{_≡_, refl, sym, ap, _∙_}
+use mathlib.Core.Path.{_≡_, refl}
 use mathlib.Core.Bool.{Bool, true, false, cond, _&&_, _||_}
-use mathlib.Core.Option.{Option, some, none}
+use mathlib.Core.Option.{some, none}
 use native.Mathlib.Omega.{arith}
 use lib.Dec.{leb, eqb}
 use lib.IntN.{ℤ}
-use borrow.Author.Tests.{eqb-true, ne-eqb}
-use Rattle.cbor.specs.Item.{Item, Items, Pairs}
+use borrow.Author.Tests.{eqb-true}
+use Rattle.cbor.specs.Item.{Item, Pairs}
 use Rattle.cbor.specs.Int.{intOf}
 use Rattle.cbor.specs.declared.ints.Int.{Int}
+use Rattle.cbor.proofs.Complete.{majorOf, argOf}
 use Rattle.messages.specs.declared.Field.{Field}
 use Rattle.frames.specs.Fields.{upTo, truth, mapIn, signed, inside}
-use Rattle.frames.proofs.Seen.{majorOf, argOf, Scalar}
+use Rattle.frames.proofs.Seen.{Scalar}
 
 pub upTo-head : (most : ℕ) (i : Item) → upTo most i ≡ cond (eqb (majorOf i) 0 && leb (argOf i) most) (some (argOf i)) none
 unfolding upTo

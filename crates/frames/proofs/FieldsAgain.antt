@@ -1,13 +1,13 @@
 -- Each kind of field, read and written again. Assumes nothing.
-use Prim.Native.Nat.{ℕ, _+_, _^_, _≤_, _<_}
+use Prim.Native.Nat.{ℕ, _^_, _≤_}
 use mathlib.Core.Path.{_≡_, refl, sym, ap, _∙_}
 use mathlib.Core.Bool.{Bool, true, false, cond}
 use mathlib.Core.Option.{Option, some, none, bind, Option·map}
 use native.Mathlib.Omega.{arith}
 use lib.Dec.{leb, ltb, eqb}
 use lib.IntN.{ℤ, pos, negsuc}
-use borrow.Author.Tests.{eqb-true, eqb-false, le-leb, le-ltb, leb-true, ltb-true, eq-eqb, ne-eqb}
-use Rattle.cbor.specs.Item.{Item, Items, Pairs}
+use borrow.Author.Tests.{eqb-true, le-leb, le-ltb, leb-true, ltb-true, eq-eqb, ne-eqb}
+use Rattle.cbor.specs.Item.{Item, Pairs}
 use Rattle.cbor.specs.Int.{intOf}
 use Rattle.cbor.specs.declared.ints.Int.{Int}
 use Rattle.messages.specs.declared.Field.{Field}

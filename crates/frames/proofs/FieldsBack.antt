@@ -1,11 +1,11 @@
 -- Each kind of field, written and read back. Assumes nothing.
 use Prim.Native.Nat.{ℕ, _+_, _^_, _≤_, _<_}
-use mathlib.Core.Path.{_≡_, refl, sym, ap, _∙_}
+use mathlib.Core.Path.{_≡_, refl}
 use mathlib.Core.Bool.{Bool, true, false, cond}
-use mathlib.Core.Option.{Option, some, none, bind, Option·map}
+use mathlib.Core.Option.{some, none, bind}
 use native.Mathlib.Omega.{arith}
-use lib.Dec.{leb, ltb, eqb}
-use lib.IntN.{ℤ, pos, negsuc}
+use lib.Dec.{eqb}
+use lib.IntN.{pos, negsuc}
 use lib.ListN.{length, length-append}
 use borrow.Author.Tests.{eqb-true, le-leb, lt-ltb, leb-true, ltb-false}
 use Rattle.cbor.specs.Head.{headBytes}
@@ -15,11 +15,11 @@ use Rattle.cbor.proofs.Widths.{head-length, head-short}
 use Rattle.messages.specs.declared.Field.{Field}
 use Rattle.messages.specs.declared.Aim.{Aim}
 use Rattle.messages.specs.declared.Amount.{Amount}
-use Rattle.frames.specs.Fields.{upTo, truth, signed, needed, optional, most32, mostValue, durationIn, valueIn, aimIn, amountIn, successIn, intItem, truthItem, valueItem, durationItem, aimItem, amountItem}
+use Rattle.frames.specs.Fields.{upTo, truth, signed, needed, optional, most32, durationIn, valueIn, aimIn, amountIn, successIn, truthItem, valueItem, durationItem, aimItem, amountItem}
 use Rattle.frames.specs.Requests.{aimWide}
 use Rattle.frames.specs.Responses.{amountUpTo}
 use Rattle.frames.specs.Puts.{fieldBytes}
-use Rattle.frames.specs.RoundTrips.{Signed64, Field64}
+use Rattle.frames.specs.RoundTrips.{Field64}
 use Rattle.frames.proofs.Maps.{OkField}
 
 pub uint-back : (most v : ℕ) → v ≤ most → needed (upTo most) (some (Item.uint v)) ≡ some v

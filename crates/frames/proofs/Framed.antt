@@ -1,16 +1,14 @@
 -- What the prefix says. Assumes nothing.
-use Prim.Native.Nat.{ℕ, _+_, _-_, _≤_, _<_, _^_}
-use mathlib.Core.Path.{_≡_, refl, sym, ap, _∙_}
-use mathlib.Core.Bool.{Bool, true, false, _&&_}
-use mathlib.Core.List.{List, _++_}
+use Prim.Native.Nat.{ℕ, _-_, _≤_}
+use mathlib.Core.Path.{_≡_, sym, _∙_}
+use mathlib.Core.Bool.{Bool, true}
+use mathlib.Core.List.{List}
 use native.Mathlib.Omega.{arith}
-use lib.ListN.{length, take, drop, length-drop, length-append}
+use lib.ListN.{length, take, drop, length-drop}
 use lib.Seq.{take-all}
-use lib.Dec.{leb, eqb}
-use borrow.Author.Tests.{leb-true, eqb-true, le-leb, eq-eqb}
-use Rattle.cbor.specs.Bytes.{numberAt, bytesOf, Bytes, Stands}
-use Rattle.frames.specs.Prefix.{framed, frameOf, payloadIn, mostPayload}
-use Rattle.frames.proofs.Joined.{and-left, and-right}
+use borrow.Author.Tests.{leb-true}
+use Rattle.frames.specs.Prefix.{framed, payloadIn}
+use Rattle.frames.proofs.Joined.{and-left}
 
 pub long-enough : (frame : List ℕ) (b : Bool) → b ≡ framed frame → b ≡ true → 5 ≤ length frame
 unfolding framed

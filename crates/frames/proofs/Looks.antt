@@ -1,17 +1,14 @@
 -- What the code of the readers computes, and what it says of the tree. Assumes nothing.
-use Prim.Native.Nat.{ℕ, suc, _+_, _≤_}
-use mathlib.Core.Path.{_≡_, refl, sym, ap, subst, _∙_}
-use mathlib.Core.Bool.{Bool, true, false, cond, not, _&&_, _||_}
+use Prim.Native.Nat.{ℕ}
+use mathlib.Core.Path.{_≡_, refl, sym, _∙_}
+use mathlib.Core.Bool.{Bool, true, false, not, _&&_, _||_}
 use mathlib.Core.List.{List}
-use mathlib.Core.Option.{Option, some, none}
-use lib.Dec.{leb, eqb, ltb}
+use mathlib.Core.Option.{none}
+use lib.Dec.{leb, eqb}
 use lib.IntN.{ℤ}
-use lib.ListN.{getD}
-use mir.Val.{Fits}
-use mir.Syntax.{w8}
 use Rattle.cbor.specs.Bytes.{Bytes}
 use Rattle.cbor.specs.Head.{headAt}
-use Rattle.cbor.specs.Item.{Item, Pairs, payloadOf, levels}
+use Rattle.cbor.specs.Item.{levels}
 use Rattle.cbor.specs.Int.{intAt}
 use Rattle.cbor.specs.Find.{valueOf, seekAt}
 use Rattle.cbor.specs.declared.heads.Head.{Head}
@@ -19,12 +16,10 @@ use Rattle.cbor.specs.declared.ints.Int.{Int}
 use Rattle.cbor.specs.declared.pairs.Stop.{Stop}
 use Rattle.messages.specs.declared.Field.{Field}
 use Rattle.frames.specs.Fields.{inside}
-use Rattle.frames.specs.Walks.{On, noWalk, sightBy, sightAt, openedBy, UintReads, TruthReads, SignedReads, InnerReads, RootReads}
+use Rattle.frames.specs.Walks.{noWalk, sightBy, sightAt, openedBy, UintReads, TruthReads, SignedReads, InnerReads, RootReads}
 use Rattle.frames.specs.declared.fields.Walk.{Walk}
 use Rattle.frames.specs.declared.fields.Sight.{Sight}
-use Rattle.frames.specs.declared.fields.Uint.{Uint}
 use Rattle.frames.specs.declared.fields.Signed.{Signed}
-use Rattle.frames.specs.declared.fields.Truth.{Truth}
 use Rattle.frames.specs.declared.fields.Inner.{Inner}
 use Rattle.frames.proofs.Seen.{seen}
 use Rattle.frames.proofs.Readers.{no, uint-yes, uint-no, uint-gone, null-yes, signed-yes, signed-no, signed-gone, truth-yes, truth-no, map-reads, root-head, root-reads}
@@ -104,8 +99,3 @@ module _ (s : List ℕ) (ok : Bytes s) (h : Head) (he : h ≡ headAt s 0) where
   pub root-wrong : h ≡ Head.Bad → (r : Inner) → RootReads s r
   unfolding RootReads
   root-wrong q r i it = absurd (root-head s ok i it (sym he ∙ q))
-
--- the bytes of a slice
-pub all-bytes : (s : List ℕ) → ((k : ℕ) → Fits w8 (getD s k 0)) → Bytes s
-unfolding Bytes
-all-bytes s h k = h k .fits

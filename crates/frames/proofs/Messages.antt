@@ -1,27 +1,21 @@
 -- The parts of a message, read one field after the other. Assumes nothing.
-use Prim.Native.Nat.{ℕ, _≤_}
-use mathlib.Core.Path.{_≡_, refl, sym, ap, _∙_}
+use Prim.Native.Nat.{ℕ}
+use mathlib.Core.Path.{_≡_, refl}
 use mathlib.Core.Bool.{Bool, true, false, cond, _&&_}
 use mathlib.Core.List.{List}
-use mathlib.Core.Option.{Option, some, none, bind, Option·map}
+use mathlib.Core.Option.{Option, bind}
 use native.Mathlib.Omega.{arith}
-use lib.Dec.{eqb}
-use Rattle.cbor.specs.Item.{Item, Pairs}
-use Rattle.cbor.specs.Find.{valueOf}
+use Rattle.cbor.specs.Item.{Item}
 use Rattle.messages.specs.declared.Amount.{Amount}
-use Rattle.frames.specs.Fields.{upTo, truth, most32, mostValue, durationIn, aimIn, amountIn, successIn, onlyTrue, optional, needed}
+use Rattle.frames.specs.Fields.{upTo, truth, most32, mostValue, durationIn, amountIn, successIn, onlyTrue, needed}
 use Rattle.frames.specs.Requests.{envelopeIn, limitsIn}
 use Rattle.frames.specs.Responses.{limitResultIn, setpointResultIn}
-use Rattle.frames.specs.Walks.{On, Says, asked, found, UintReads, TruthReads, SignedReads, InnerReads, EnvelopeReads, ValuesRead, EffectReads, TargetsRead}
+use Rattle.frames.specs.Walks.{Says, UintReads, TruthReads, SignedReads, InnerReads, EnvelopeReads, ValuesRead, EffectReads, TargetsRead}
 use Rattle.frames.specs.declared.fields.Walk.{Walk}
 use Rattle.frames.specs.declared.fields.Uint.{Uint}
 use Rattle.frames.specs.declared.fields.Signed.{Signed}
 use Rattle.frames.specs.declared.fields.Truth.{Truth}
 use Rattle.frames.specs.declared.fields.Inner.{Inner}
-use Rattle.frames.specs.declared.requests.Envelope.{Envelope}
-use Rattle.frames.specs.declared.requests.Values.{Values}
-use Rattle.frames.specs.declared.responses.Effect.{Effect}
-use Rattle.frames.specs.declared.responses.Targets.{Targets}
 use Rattle.frames.proofs.Readers.{yes, no}
 use Rattle.frames.proofs.Steps.{as-needed, as-optional, then-says, then-enters, last-says, last-enters}
 

@@ -1,9 +1,8 @@
 -- The refusal of a response, from its tests. Assumes nothing.
-use Prim.Native.Nat.{ℕ, suc, _+_, _<_, _^_}
-use mathlib.Core.Path.{_≡_, refl, sym, ap, subst, _∙_}
-use mathlib.Core.Bool.{Bool, true, false, cond, not, _&&_}
-use mathlib.Core.List.{List, [], _∷_}
-use lib.Dec.{T, leb, ltb}
+use Prim.Native.Nat.{ℕ}
+use mathlib.Core.Path.{_≡_, sym, ap, _∙_}
+use mathlib.Core.Bool.{Bool, true, false, _&&_}
+use lib.Dec.{leb, ltb}
 use Rattle.messages.specs.Refusals.{firstOf}
 use Rattle.messages.specs.declared.Response.{Response}
 use Rattle.frames.specs.Fields.{most32}

@@ -1,29 +1,30 @@
 -- What each reader answers of the value under a key. Assumes nothing.
-use Prim.Native.Nat.{ℕ, zero, suc, _+_, _-_, _≤_, _<_}
-use mathlib.Core.Path.{_≡_, refl, sym, ap, subst, _∙_}
+use Prim.Native.Nat.{ℕ, suc, _+_, _-_}
+use mathlib.Core.Path.{_≡_, refl, sym, ap, _∙_}
 use mathlib.Core.Bool.{Bool, true, false, cond, not, _&&_, _||_}
 use mathlib.Core.List.{List}
-use mathlib.Core.Option.{Option, some, none, Option·map}
+use mathlib.Core.Option.{Option, some, none}
 use native.Mathlib.Omega.{arith}
 use lib.Dec.{leb, eqb, ltb}
 use lib.IntN.{ℤ}
 use lib.ListN.{length}
-use borrow.Author.Tests.{eqb-true, eqb-false, eq-eqb, lt-ltb, ltb-true, ltb-false}
+use borrow.Author.Tests.{eqb-true, eqb-false, ltb-true, ltb-false}
 use Rattle.cbor.specs.Bytes.{Bytes}
-use Rattle.cbor.specs.Item.{Item, Pairs, Got, got, bad, payloadOf, itemAt, countPairs, levels, endsAt}
+use Rattle.cbor.specs.Item.{Item, Pairs, Got, got, bad, payloadOf, itemAt, levels, endsAt}
 use Rattle.cbor.specs.Head.{headAt, headLen}
 use Rattle.cbor.specs.Int.{intOf, intAt}
 use Rattle.cbor.specs.Laws.{Walking}
 use Rattle.cbor.specs.declared.ints.Int.{Int}
 use Rattle.cbor.specs.declared.heads.Head.{Head}
+use Rattle.cbor.proofs.Complete.{majorOf, argOf}
 use Rattle.messages.specs.declared.Field.{Field}
 use Rattle.frames.specs.Fields.{upTo, truth, mapIn, inside, needed, optional, valueIn}
 use Rattle.frames.specs.Walks.{On, Says, asked, found, Opens, openedBy, noWalk}
 use Rattle.frames.specs.declared.fields.Walk.{Walk}
 use Rattle.frames.specs.declared.fields.Sight.{Sight}
 use Rattle.frames.specs.declared.fields.Inner.{Inner}
-use Rattle.frames.proofs.Joined.{no-both, and-left, and-right, and-false}
-use Rattle.frames.proofs.Seen.{majorOf, argOf, Seen, SeenThere, item-head, inside-map}
+use Rattle.frames.proofs.Joined.{no-both, and-left}
+use Rattle.frames.proofs.Seen.{Seen, SeenThere, item-head, inside-map}
 use Rattle.frames.proofs.ByHead.{upTo-head, truth-head, signed-head, scalar-0, scalar-7, scalar-int, map-5, no-map}
 
 pub yes : {X : Type 0} {o : Option X} {x : X} {G : Type 0} → o ≡ some x → G → Says o true x G

@@ -1,37 +1,32 @@
 -- A request that was read can be written, and is the same bytes. Assumes nothing.
-use Prim.Native.Nat.{ℕ, suc, _+_, _^_, _≤_, _<_}
+use Prim.Native.Nat.{ℕ, _≤_}
 use mathlib.Core.Path.{_≡_, refl, sym, ap, subst, _∙_}
-use mathlib.Core.Bool.{Bool, true, false, cond, not, _&&_, _||_}
+use mathlib.Core.Bool.{Bool, true, false, cond, _&&_, _||_}
 use mathlib.Core.List.{List, [], _∷_}
 use mathlib.Core.Option.{Option, some, none, bind, Option·map}
 use native.Mathlib.Omega.{arith}
-use lib.ListN.{length, drop}
 use lib.Dec.{leb, ltb, eqb}
 use borrow.Author.Tests.{leb-true, eqb-true, eqb-false, le-ltb}
-use Rattle.cbor.specs.Bytes.{Bytes}
-use Rattle.cbor.specs.Item.{Item, Pairs, payloadOf, encode, Ok, OkPairs, levels}
+use Rattle.cbor.specs.Item.{Item, Pairs, payloadOf, Ok, OkPairs, levels}
 use Rattle.cbor.specs.Find.{valueOf}
-use Rattle.cbor.proofs.Payload.{payload-exact}
 use Rattle.messages.specs.Numbers.{wireNumber}
 use Rattle.messages.specs.Refusals.{firstOf}
 use Rattle.messages.specs.declared.Field.{Field}
-use Rattle.messages.specs.declared.Target.{Target}
 use Rattle.messages.specs.declared.Aim.{Aim}
 use Rattle.messages.specs.declared.Limits.{Limits}
-use Rattle.messages.specs.declared.Setpoints.{Setpoints}
 use Rattle.messages.specs.declared.Command.{Command}
 use Rattle.messages.specs.declared.Request.{Request}
-use Rattle.frames.specs.Prefix.{framed, payloadIn, frameOf}
-use Rattle.frames.specs.Fields.{Fields, present, upTo, mapIn, needed, most32, durationIn, valueIn, aimIn, valueItem, durationItem, aimItem}
-use Rattle.frames.specs.Requests.{Envelope, envelopeIn, limitsIn, targetOf, setpointsOf, commandIn, servedAt, servedCommand, withCommand, fromEnvelope, fromPayload, readRequest, fieldOf, limitsOf, limitsFields, commandFields, requestFields, requestItem, aimWide, commandWide, isServed, requestWide, requestUnserved, requestNumber}
+use Rattle.frames.specs.Prefix.{framed, payloadIn}
+use Rattle.frames.specs.Fields.{present, upTo, mapIn, needed, most32, durationIn, valueIn, aimIn, aimItem}
+use Rattle.frames.specs.Requests.{Envelope, envelopeIn, limitsIn, targetOf, setpointsOf, commandIn, servedAt, servedCommand, withCommand, fromEnvelope, fromPayload, readRequest, fieldOf, limitsOf, limitsFields, commandFields, requestFields, requestItem, commandWide, isServed, requestWide, requestUnserved, requestNumber}
 use Rattle.frames.specs.Writing.{itemFrame}
 use Rattle.frames.specs.RoundTrips.{Field64, Target64, Command64, KeysTo, parameterKeys, PlainRequest, RequestWritable, RequestWritesAgain}
 use Rattle.frames.specs.declared.requests.Reading.{Reading}
-use Rattle.frames.proofs.Joined.{no-both, and-left, and-right, or-left, or-right}
-use Rattle.frames.proofs.Maps.{Ascending, OkFields, hasKey, Holds, same-map, no-known}
+use Rattle.frames.proofs.Joined.{no-both, and-left, and-right}
+use Rattle.frames.proofs.Maps.{OkFields, same-map, no-known}
 use Rattle.frames.proofs.FieldsBack.{Allowed}
 use Rattle.frames.proofs.FieldsAgain.{same-inside, bind-parts, map-part, uint-again, map-again, duration-again, aim-again, value-again}
-use Rattle.frames.proofs.RequestBack.{limits-ascend, limits-ok, command-ascend, command-ok, request-ascend, request-ok}
+use Rattle.frames.proofs.RequestBack.{limits-ascend, limits-ok, command-ok, request-ascend, request-ok}
 use Rattle.frames.proofs.Joined.{four}
 use Rattle.frames.proofs.Trips.{item-in, frame-again, value-ok, map-ok}
 

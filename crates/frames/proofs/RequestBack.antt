@@ -1,35 +1,31 @@
 -- A request that is written reads back equal. Assumes nothing.
-use Prim.Native.Nat.{ℕ, suc, _+_, _*_, _^_, _≤_, _<_}
-use mathlib.Core.Path.{_≡_, refl, sym, ap, subst, _∙_}
-use mathlib.Core.Bool.{Bool, true, false, cond, not, _&&_, _||_}
-use mathlib.Core.List.{List, [], _∷_}
-use mathlib.Core.Option.{Option, some, none, bind, Option·map}
+use Prim.Native.Nat.{ℕ, _^_, _≤_, _<_}
+use mathlib.Core.Path.{_≡_, refl, sym, ap, _∙_}
+use mathlib.Core.Bool.{Bool, true, false, _&&_, _||_}
+use mathlib.Core.List.{[], _∷_}
+use mathlib.Core.Option.{some, bind}
 use native.Mathlib.Omega.{arith}
 use lib.ListN.{length, length-append}
 use lib.Dec.{ltb}
 use borrow.Author.Tests.{ltb-false}
-use Rattle.cbor.specs.Head.{headBytes}
-use Rattle.cbor.specs.Item.{Item, Pairs, Ok, encode, encodePairs, countPairs, levels}
-use Rattle.cbor.specs.Find.{valueOf}
+use Rattle.cbor.specs.Item.{Item, Ok, encode, levels}
 use Rattle.cbor.proofs.Widths.{head-length, head-short}
 use Rattle.messages.specs.Numbers.{wireNumber}
 use Rattle.messages.specs.Refusals.{firstOf}
 use Rattle.messages.specs.declared.Field.{Field}
 use Rattle.messages.specs.declared.Target.{Target}
-use Rattle.messages.specs.declared.Aim.{Aim}
 use Rattle.messages.specs.declared.Limits.{Limits}
 use Rattle.messages.specs.declared.Setpoints.{Setpoints}
 use Rattle.messages.specs.declared.Command.{Command}
 use Rattle.messages.specs.declared.Request.{Request}
-use Rattle.frames.specs.Fields.{Fields, present, upTo, mapIn, needed, most32, aimIn, aimItem}
-use Rattle.frames.specs.Requests.{Envelope, envelopeIn, limitsIn, targetOf, setpointsOf, commandIn, servedAt, servedCommand, withCommand, fromEnvelope, readRequest, fieldOf, limitsOf, limitsFields, commandFields, requestFields, requestItem, aimWide, commandWide, isServed, requestWide, requestUnserved, requestNumber}
+use Rattle.frames.specs.Fields.{present, mapIn, needed, most32, aimItem}
+use Rattle.frames.specs.Requests.{envelopeIn, limitsIn, targetOf, setpointsOf, commandIn, servedAt, servedCommand, fromEnvelope, readRequest, fieldOf, limitsOf, limitsFields, commandFields, requestFields, requestItem, commandWide, isServed, requestWide, requestUnserved, requestNumber}
 use Rattle.frames.specs.Puts.{fieldBytes}
 use Rattle.frames.specs.Writing.{itemFrame}
 use Rattle.frames.specs.RoundTrips.{Field64, Target64, Command64, RequestReadsBack, OneRequest}
 use Rattle.frames.specs.declared.requests.Reading.{Reading}
 use Rattle.frames.proofs.Joined.{no-both, and-left, and-right, or-left, or-right, not-is-false}
-use Rattle.frames.proofs.Added.{map-bytes}
-use Rattle.frames.proofs.Maps.{Ascending, values, OkField, OkFields, ShortFields, ok-map, short-map, map-short}
+use Rattle.frames.proofs.Maps.{Ascending, values, OkFields, ShortFields, ok-map, map-short}
 use Rattle.frames.proofs.FieldsBack.{Allowed, uint-back, duration-back, aim-back, value-back, ok-uint, ok-duration, ok-aim, ok-value, short-uint, short-duration, short-aim, short-value}
 use Rattle.frames.proofs.Requested.{read-map-of}
 use Rattle.frames.proofs.Trips.{frame-payload, frame-framed}

@@ -6,18 +6,16 @@ use mathlib.Core.List.{List}
 use mathlib.Core.Option.{Option, some, none, bind, Option·map}
 use native.Mathlib.Omega.{arith}
 use lib.Dec.{eqb}
-use lib.ListN.{drop}
 use borrow.Author.Tests.{eq-eqb, ne-eqb}
 use Rattle.cbor.specs.Item.{Item, Pairs, payloadOf, isSome}
 use Rattle.cbor.specs.Find.{valueOf}
 use Rattle.messages.specs.declared.Aim.{Aim}
-use Rattle.messages.specs.declared.Limits.{Limits}
 use Rattle.messages.specs.declared.Setpoints.{Setpoints}
 use Rattle.messages.specs.declared.Command.{Command}
 use Rattle.frames.specs.Prefix.{framed, payloadIn}
-use Rattle.frames.specs.Fields.{upTo, mapIn, aimIn, optional}
-use Rattle.frames.specs.Requests.{envelopeIn, limitsIn, setpointsOf, commandIn, servedAt, servedCommand, withCommand, fromEnvelope, fromPayload, readRequest}
-use Rattle.frames.specs.Walks.{On, Says, UintReads, EnvelopeReads, ValuesRead, CommandReads, ClearReads, MessageReads, RootReads, envelopeFrom, parametersFrom}
+use Rattle.frames.specs.Fields.{upTo, mapIn, aimIn}
+use Rattle.frames.specs.Requests.{envelopeIn, setpointsOf, commandIn, servedAt, servedCommand, fromEnvelope, fromPayload, readRequest}
+use Rattle.frames.specs.Walks.{UintReads, EnvelopeReads, ValuesRead, CommandReads, ClearReads, MessageReads, RootReads, parametersFrom}
 use Rattle.frames.specs.declared.fields.Walk.{Walk}
 use Rattle.frames.specs.declared.fields.Uint.{Uint}
 use Rattle.frames.specs.declared.fields.Inner.{Inner}

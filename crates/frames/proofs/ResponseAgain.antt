@@ -1,13 +1,12 @@
 -- A response that was read can be written, and is the same bytes. Assumes nothing.
-use Prim.Native.Nat.{ℕ, suc, _+_, _^_, _≤_, _<_}
+use Prim.Native.Nat.{ℕ, _≤_}
 use mathlib.Core.Path.{_≡_, refl, sym, ap, subst, _∙_}
-use mathlib.Core.Bool.{Bool, true, false, cond, not, _&&_, _||_}
-use mathlib.Core.List.{List, [], _∷_}
+use mathlib.Core.Bool.{Bool, true, false, cond, _||_}
+use mathlib.Core.List.{List}
 use mathlib.Core.Option.{Option, some, none, bind, Option·map}
 use native.Mathlib.Omega.{arith}
 use lib.Dec.{leb, eqb}
 use borrow.Author.Tests.{leb-true, eqb-true, eqb-false, le-leb, eq-eqb}
-use Rattle.cbor.specs.Bytes.{Bytes}
 use Rattle.cbor.specs.Item.{Item, Pairs, payloadOf, Ok, OkPairs, levels}
 use Rattle.cbor.specs.Find.{valueOf}
 use Rattle.messages.specs.Refusals.{firstOf}
@@ -17,16 +16,16 @@ use Rattle.messages.specs.declared.SetpointResult.{SetpointResult}
 use Rattle.messages.specs.declared.Outcome.{Outcome}
 use Rattle.messages.specs.declared.Response.{Response}
 use Rattle.frames.specs.Prefix.{framed, payloadIn}
-use Rattle.frames.specs.Fields.{Fields, present, upTo, truth, mapIn, needed, most32, mostValue, amountIn, successIn, truthItem, amountItem}
+use Rattle.frames.specs.Fields.{present, upTo, truth, mapIn, needed, most32, mostValue, amountIn, successIn}
 use Rattle.frames.specs.Requests.{servedCommand}
-use Rattle.frames.specs.Responses.{isStatus, onlyStatus, stands, statusIn, limitResultIn, setpointResultIn, clearResultIn, outcomeIn, noResult, resultIn, responseIn, answerOf, answerIn, answerFrom, readResponse, limitFields, setpointFields, clearFields, outcomeItem, responseFields, responseItem, amountUpTo, limitInRange, setpointInRange, goesWith, isNothing, fits, responseFits, responseNumber}
+use Rattle.frames.specs.Responses.{isStatus, onlyStatus, stands, statusIn, limitResultIn, setpointResultIn, clearResultIn, outcomeIn, noResult, resultIn, responseIn, answerOf, answerIn, answerFrom, readResponse, limitFields, setpointFields, clearFields, outcomeItem, responseFields, responseItem, limitInRange, setpointInRange, goesWith, fits, responseFits, responseNumber}
 use Rattle.frames.specs.Writing.{itemFrame}
 use Rattle.frames.specs.RoundTrips.{KeysTo, resultKeys, PlainResponse, ResponseWritable, ResponseWritesAgain}
 use Rattle.frames.specs.declared.responses.Answer.{Answer}
 use Rattle.frames.proofs.Joined.{four, and-left, and-right}
-use Rattle.frames.proofs.Maps.{OkFields, hasKey, same-map, no-known}
+use Rattle.frames.proofs.Maps.{same-map, no-known}
 use Rattle.frames.proofs.FieldsAgain.{no-value, same-inside, bind-parts, map-part, uint-again, map-again, truth-again, success-again, amount-again}
-use Rattle.frames.proofs.ResponseBack.{limit-ascend, limit-ok, setpoint-ascend, setpoint-ok, clear-ascend, clear-ok, outcome-ok, result-ok, response-ascend, response-ok}
+use Rattle.frames.proofs.ResponseBack.{limit-ascend, limit-ok, setpoint-ascend, setpoint-ok, clear-ascend, clear-ok, result-ok, response-ascend, response-ok}
 use Rattle.frames.proofs.Trips.{item-in, frame-again, value-ok, map-ok}
 
 -- THE RESULTS

@@ -1,29 +1,28 @@
 -- A response that is written reads back equal. Assumes nothing.
-use Prim.Native.Nat.{ℕ, suc, _+_, _*_, _^_, _≤_, _<_}
-use mathlib.Core.Path.{_≡_, refl, sym, ap, subst, _∙_}
+use Prim.Native.Nat.{ℕ, suc, _^_, _≤_, _<_}
+use mathlib.Core.Path.{_≡_, refl, sym, ap, _∙_}
 use mathlib.Core.Bool.{Bool, true, false, cond, not, _&&_, _||_}
-use mathlib.Core.List.{List, [], _∷_}
-use mathlib.Core.Option.{Option, some, none, bind, Option·map}
+use mathlib.Core.List.{[], _∷_}
+use mathlib.Core.Option.{some, none, bind}
 use native.Mathlib.Omega.{arith}
 use lib.ListN.{length, length-append}
 use lib.Dec.{leb, eqb}
-use borrow.Author.Tests.{leb-true, eqb-true, eq-eqb, le-leb}
-use Rattle.cbor.specs.Item.{Item, Pairs, Ok, encode, levels}
-use Rattle.cbor.specs.Find.{valueOf}
+use borrow.Author.Tests.{leb-true, eqb-true}
+use Rattle.cbor.specs.Item.{Item, Ok, encode, levels}
 use Rattle.cbor.proofs.Widths.{head-length, head-short}
 use Rattle.messages.specs.Refusals.{firstOf}
 use Rattle.messages.specs.declared.LimitResult.{LimitResult}
 use Rattle.messages.specs.declared.SetpointResult.{SetpointResult}
 use Rattle.messages.specs.declared.Outcome.{Outcome}
 use Rattle.messages.specs.declared.Response.{Response}
-use Rattle.frames.specs.Fields.{Fields, present, upTo, mapIn, needed, most32, mostValue, successIn, truthItem, amountItem}
+use Rattle.frames.specs.Fields.{Fields, present, mapIn, needed, most32, mostValue, successIn}
 use Rattle.frames.specs.Requests.{servedCommand}
-use Rattle.frames.specs.Responses.{isStatus, stands, statusIn, limitResultIn, setpointResultIn, outcomeIn, noResult, resultIn, responseIn, answerOf, answerFrom, readResponse, mapItem, limitFields, setpointFields, clearFields, outcomeItem, responseFields, responseItem, amountUpTo, limitInRange, setpointInRange, goesWith, isNothing, fits, responseFits, responseNumber, statusAlone, statusFits, statusNumber}
+use Rattle.frames.specs.Responses.{isStatus, stands, statusIn, limitResultIn, setpointResultIn, outcomeIn, noResult, resultIn, responseIn, answerOf, readResponse, mapItem, limitFields, setpointFields, clearFields, outcomeItem, responseFields, responseItem, amountUpTo, limitInRange, setpointInRange, goesWith, isNothing, fits, responseFits, responseNumber, statusAlone, statusFits, statusNumber}
 use Rattle.frames.specs.Puts.{fieldBytes}
 use Rattle.frames.specs.Writing.{itemFrame}
 use Rattle.frames.specs.RoundTrips.{ResponseReadsBack, StatusReadsBack, OneResponse}
 use Rattle.frames.specs.declared.responses.Answer.{Answer}
-use Rattle.frames.proofs.Joined.{no-both, and-left, and-right, not-is-false}
+use Rattle.frames.proofs.Joined.{no-both, and-left, and-right}
 use Rattle.frames.proofs.Maps.{Ascending, fieldAt, values, OkField, OkFields, ShortFields, ok-map, map-short}
 use Rattle.frames.proofs.FieldsBack.{uint-back, truth-back, success-back, amount-back, ok-uint, ok-truth, ok-amount, short-uint, short-truth, short-amount}
 use Rattle.frames.proofs.Answered.{all-parts, answer-map-of}

@@ -1,47 +1,25 @@
 -- What a look-up sees of the value under a key, over the item tree. Assumes nothing.
-use Prim.Native.Nat.{ℕ, zero, suc, _+_, _^_, _≤_, _<_}
-use mathlib.Core.Path.{_≡_, refl, sym, ap, subst, _∙_}
-use mathlib.Core.Bool.{Bool, true, false, cond}
-use mathlib.Core.List.{List, [], _++_, append-nil, append-assoc}
+use Prim.Native.Nat.{ℕ, suc, _+_, _≤_}
+use mathlib.Core.Path.{_≡_, refl, ap, subst, _∙_}
+use mathlib.Core.Bool.{true, false}
+use mathlib.Core.List.{List}
 use mathlib.Core.Option.{Option, some, none}
-use native.Mathlib.Omega.{arith}
 use lib.ListN.{length, drop}
-use lib.Dec.{leb}
-use borrow.Author.Tests.{le-leb}
 use Rattle.cbor.specs.Bytes.{Bytes, Stands}
-use Rattle.cbor.specs.Head.{headBytes, headAt, headLen, Within}
-use Rattle.cbor.specs.Item.{Item, Items, Pairs, got, itemAt, encode, count, countPairs, Ok, payloadOf, levels, endsAt}
+use Rattle.cbor.specs.Head.{headAt, headLen}
+use Rattle.cbor.specs.Item.{Item, Pairs, got, itemAt, encode, countPairs, Ok}
 use Rattle.cbor.specs.Int.{intOf, intAt}
 use Rattle.cbor.specs.Find.{valueOf, seekAt}
 use Rattle.cbor.specs.Laws.{Walking, Sought}
 use Rattle.cbor.specs.declared.heads.Head.{Head}
 use Rattle.cbor.specs.declared.pairs.Stop.{Stop}
 use Rattle.cbor.proofs.Widths.{head-length}
-use Rattle.cbor.proofs.HeadLaws.{head-reads-back}
+use Rattle.cbor.proofs.Complete.{majorOf, argOf, item-head as head-of}
 use Rattle.cbor.proofs.Payload.{item-exact}
 use Rattle.cbor.proofs.Walks.{int-exact, walk-starts, seek-exact}
-use Rattle.frames.specs.Walks.{On, sightFrom, sightBy, sightAt}
+use Rattle.frames.specs.Walks.{On, sightBy, sightAt}
 use Rattle.frames.specs.declared.fields.Walk.{Walk}
 use Rattle.frames.specs.declared.fields.Sight.{Sight}
-
--- the head of an item: its major type, and its argument
-abbrev pub majorOf : Item → ℕ
-majorOf (Item.uint v) = 0
-majorOf (Item.nint v) = 1
-majorOf (Item.bytes b) = 2
-majorOf (Item.text b) = 3
-majorOf (Item.array is) = 4
-majorOf (Item.map ps) = 5
-majorOf (Item.simple v) = 7
-
-abbrev pub argOf : Item → ℕ
-argOf (Item.uint v) = v
-argOf (Item.nint v) = v
-argOf (Item.bytes b) = length b
-argOf (Item.text b) = length b
-argOf (Item.array is) = count is
-argOf (Item.map ps) = countPairs ps
-argOf (Item.simple v) = v
 
 -- an item that is a head alone
 abbrev pub Scalar : Item → Type 0
@@ -52,28 +30,6 @@ Scalar (Item.text b) = ⊥
 Scalar (Item.array is) = ⊥
 Scalar (Item.map ps) = ⊥
 Scalar (Item.simple v) = Unit {0}
-
-begins : (i : Item) → (t : List ℕ) × (encode i ≡ headBytes (majorOf i) (argOf i) ++ t)
-unfolding encode
-begins (Item.uint v) = ([], sym (append-nil _))
-begins (Item.nint v) = ([], sym (append-nil _))
-begins (Item.bytes b) = (_, refl)
-begins (Item.text b) = (_, refl)
-begins (Item.array is) = (_, refl)
-begins (Item.map ps) = (_, refl)
-begins (Item.simple v) = ([], sym (append-nil _))
-
-within : (i : Item) (d : ℕ) → Ok i d → Within (majorOf i) (argOf i) × (argOf i < 2 ^ 64)
-unfolding Ok
-within (Item.uint v) d h = (refl, h)
-within (Item.nint v) d h = (refl, h)
-within (Item.bytes b) d h = (refl, h .0)
-within (Item.text b) d h = (refl, h .0)
-within (Item.array is) zero h = absurd h
-within (Item.array is) (suc d) h = (refl, h .0)
-within (Item.map ps) zero h = absurd h
-within (Item.map ps) (suc d) h = (refl, h .0)
-within (Item.simple v) d h = (rw (le-leb 20 v (h .0), le-leb v 22 (h .1)) refl, omega (arith, h .1))
 
 scalar-length : (i : Item) → Scalar i → length (encode i) ≡ headLen (argOf i)
 unfolding encode
@@ -91,11 +47,7 @@ module _ (s : List ℕ) (ok : Bytes s) (d p e : ℕ) (i : Item) (it : itemAt s d
 
   -- an item begins with its head
   pub item-head : headAt s p ≡ Head.Is (majorOf i) (argOf i) (p + headLen (argOf i))
-  item-head =
-      let w = within i d (here .0) in
-      let b = begins i in
-      head-reads-back s (b .0 ++ drop e s) p (majorOf i) (argOf i) (w .0) (w .1)
-      (here .1 .bytes ∙ ap (λ (l : List ℕ). l ++ drop e s) (b .1) ∙ append-assoc (headBytes (majorOf i) (argOf i)) (b .0) (drop e s))
+  item-head = head-of s (drop e s) d p i (here .0) (here .1 .bytes)
 
   pub scalar-end : Scalar i → e ≡ p + headLen (argOf i)
   scalar-end h = here .1 .len ∙ ap (λ (n : ℕ). p + n) (scalar-length i h)

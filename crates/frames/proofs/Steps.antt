@@ -7,9 +7,9 @@ use mathlib.Core.Option.{Option, some, none, bind, Option·map}
 use native.Mathlib.Omega.{arith}
 use Rattle.cbor.specs.Item.{Item, Pairs}
 use Rattle.frames.specs.Fields.{needed, optional}
-use Rattle.frames.specs.Walks.{On, Says, Enters, asked, found}
+use Rattle.frames.specs.Walks.{Says, Enters, asked, found}
 use Rattle.frames.specs.declared.fields.Walk.{Walk}
-use Rattle.frames.proofs.Readers.{yes, no, clash}
+use Rattle.frames.proofs.Readers.{yes, no}
 use Rattle.frames.proofs.Joined.{no-both}
 
 never : {X : Type 0} {x : X} → none ≡ some x → ⊥

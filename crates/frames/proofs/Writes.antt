@@ -1,12 +1,12 @@
 -- The bytes of requests and responses, from their parts. Assumes nothing.
-use Prim.Native.Nat.{ℕ, _+_, _≤_, _<_}
-use mathlib.Core.Path.{_≡_, refl, sym, ap, subst, _∙_}
-use mathlib.Core.Bool.{Bool, true, false, cond}
+use Prim.Native.Nat.{ℕ, _+_, _≤_}
+use mathlib.Core.Path.{_≡_, refl, sym, ap, _∙_}
+use mathlib.Core.Bool.{true}
 use mathlib.Core.List.{List, [], _∷_, _++_, append-assoc}
 use mathlib.Core.Option.{Option, some, none}
 use native.Mathlib.Omega.{arith}
 use Rattle.cbor.specs.Head.{headBytes}
-use Rattle.cbor.specs.Item.{Item, Pairs, encode, encodePairs, countPairs}
+use Rattle.cbor.specs.Item.{Item, encode, encodePairs, countPairs}
 use Rattle.messages.specs.Numbers.{wireNumber}
 use Rattle.messages.specs.declared.Limits.{Limits}
 use Rattle.messages.specs.declared.Request.{Request}

@@ -1,6 +1,6 @@
 -- The fields of a map: what stands under a key, read as a number, a truth or a map, and the items that are written for them.
 -- `none` is refusal 3: "a needed key is missing, or a known key has a wrong type or range". Assumes nothing: these are definitions.
-use Prim.Native.Nat.{ℕ, _^_, _-_, _<_}
+use Prim.Native.Nat.{ℕ, _^_, _-_}
 use mathlib.Core.Bool.{Bool, true, false, cond}
 use mathlib.Core.List.{List, [], _∷_}
 use mathlib.Core.Option.{Option, some, none, bind, Option·map}

@@ -1,10 +1,10 @@
 -- What is proved of reading and writing, each stated once; proofs/RoundTrips.antt has the proofs. Assumes nothing: these are statements.
 use Prim.Native.Nat.{ℕ, _^_, _≤_, _<_}
 use mathlib.Core.Path.{_≡_}
-use mathlib.Core.Bool.{Bool, true, false, cond, _&&_, _||_}
+use mathlib.Core.Bool.{true, false, cond, _&&_, _||_}
 use mathlib.Core.Logic.{_↔_}
 use mathlib.Core.List.{List}
-use mathlib.Core.Option.{Option, some, none}
+use mathlib.Core.Option.{some, none}
 use lib.ListN.{length, take, drop}
 use lib.Dec.{leb, eqb}
 use lib.IntN.{ℤ, pos, negsuc}

@@ -12,10 +12,7 @@ use Rattle.cbor.specs.Find.{valueOf, seekAt}
 use Rattle.cbor.specs.Laws.{Walking}
 use Rattle.cbor.specs.declared.heads.Head.{Head}
 use Rattle.cbor.specs.declared.pairs.Stop.{Stop}
-use Rattle.messages.specs.declared.Limits.{Limits}
 use Rattle.messages.specs.declared.Command.{Command}
-use Rattle.messages.specs.declared.LimitResult.{LimitResult}
-use Rattle.messages.specs.declared.SetpointResult.{SetpointResult}
 use Rattle.messages.specs.declared.Outcome.{Outcome}
 use Rattle.frames.specs.Fields.{upTo, truth, mapIn, needed, valueIn, aimIn}
 use Rattle.frames.specs.Requests.{Envelope as EnvelopeIn, envelopeIn, limitsIn, commandIn, fromEnvelope}

@@ -1,7 +1,6 @@
 // Runs lines `request BYTES` and `response COMMAND BYTES`: prints the refusal number or 0, and the message written again or `-`.
 use frames::Answer;
 use frames::Reading;
-use frames::Written;
 ghost use Prim.Native.Nat.{_≤_, _<_};
 ghost use lib.ListN.{length};
 
@@ -44,11 +43,6 @@ fn digit(b: u8) -> u8
     0
 }
 
-fn hex(v: u8) -> u8 {
-    let low = v % 16;
-    if low < 10 { 48 + low } else { 87 + low }
-}
-
 // The bytes that a word of hex says, and how many; none for `-`.
 fn unhex(word: &[u8], to: &mut [u8]) -> usize
     ensures { λ r. ⌜ r ≤ length (now (to .entry)) ⌝ }
@@ -77,47 +71,34 @@ fn decimal(word: &[u8]) -> u64 {
     v
 }
 
-fn put(out: &mut [u8], at: usize, b: u8) {
-    if at < out.len() {
-        out[at] = b;
-    }
+fn wide(b: u8) -> u64 {
+    b as u64
 }
 
-// Prints a number below 100 and a frame, or `-` where there is none.
+// Prints a number and a frame, or `-` where there is none.
 fn print(number: u64, frame: &[u8], length: usize) {
-    let mut out = [0u8; 512];
-    let mut at = 0;
-    if 10 <= number {
-        put(&mut out, 0, 49);
-        at = 1;
-    }
-    put(&mut out, at, 48 + (number % 10) as u8);
-    put(&mut out, at + 1, SPACE);
-    at += 2;
+    io::print_decimal(1, number);
+    io::write_all(1, b" ");
     if length == 0 {
-        put(&mut out, at, 45);
-        at += 1;
+        io::write_all(1, b"-");
     }
     let mut i = 0;
     while i < length {
-        if i < 250 {
-            if i < frame.len() {
-                let b = frame[i];
-                put(&mut out, at, hex(b / 16));
-                put(&mut out, at + 1, hex(b));
-                at += 2;
-            }
+        if i < frame.len() {
+            io::print_hex(1, wide(frame[i]), 2);
         }
         i += 1;
     }
-    put(&mut out, at, LINE_END);
-    at += 1;
-    if at <= 512 {
-        io::write_all(1, &out[..at]);
-    }
+    io::write_all(1, b"\n");
 }
 
-fn request(frame: &[u8]) {
+// Reads a request from the first n bytes, and prints it written again.
+fn request(bytes: &[u8], n: usize) {
+    if bytes.len() < n {
+        return;
+    }
+    let start = 0;
+    let frame = &bytes[start..n];
     let mut out = [0u8; 256];
     match frames::read_request(frame) {
         Reading::Is(r) => {
@@ -125,18 +106,24 @@ fn request(frame: &[u8]) {
             print(w.number, &out, w.length);
         }
         Reading::Unserved(_) => print(4, &out, 0),
-        Reading::Refused(n) => print(n, &out, 0),
+        Reading::Refused(number) => print(number, &out, 0),
     }
 }
 
-fn response(command: u64, frame: &[u8]) {
+// Reads a response to a command from the first n bytes, and prints it written again.
+fn response(command: u64, bytes: &[u8], n: usize) {
+    if bytes.len() < n {
+        return;
+    }
+    let start = 0;
+    let frame = &bytes[start..n];
     let mut out = [0u8; 256];
     match frames::read_response(command, frame) {
         Answer::Is(r) => {
             let w = frames::write_response(&mut out, command, r);
             print(w.number, &out, w.length);
         }
-        Answer::Refused(n) => print(n, &out, 0),
+        Answer::Refused(number) => print(number, &out, 0),
     }
 }
 
@@ -153,7 +140,7 @@ fn line(s: &[u8], at: usize) -> usize
     let second = word_end(s, first + 1);
     if first - at == 7 {
         let n = unhex(&s[first + 1..second], &mut frame);
-        request(&frame[..n]);
+        request(&frame, n);
         return past(s, second);
     }
     if second == s.len() {
@@ -161,7 +148,7 @@ fn line(s: &[u8], at: usize) -> usize
     }
     let third = word_end(s, second + 1);
     let n = unhex(&s[second + 1..third], &mut frame);
-    response(decimal(&s[first + 1..second]), &frame[..n]);
+    response(decimal(&s[first + 1..second]), &frame, n);
     past(s, third)
 }
 

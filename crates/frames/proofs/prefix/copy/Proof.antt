@@ -22,46 +22,17 @@ one-more out from s at i n h g l e =
 done : (i n : ℕ) → i ≤ n → n ≤ i → i ≡ n
 done i n a b = omega arith
 
-loop-holds : tie.Need-loop-holds Inv-loop μ-loop
-loop-holds c = (omega arith, paste-zero (c .args .out .now) (c .args .at) (c .args .from .now), refl)
-
-shared-slice-read-out : tie.Need-shared-slice-read-out Inv-loop μ-loop
-shared-slice-read-out c = omega (arith, c .before .before .before .pre .1, c .before .loop-test .taken)
-
-add-out : tie.Need-add-out Inv-loop μ-loop
-add-out c = omega (arith, c .before .before .before .pre .0, c .before .loop-test .taken)
-
-slice-write-out : tie.Need-slice-write-out Inv-loop μ-loop
-slice-write-out c = omega (arith, c .before .before .before .pre .0, c .before .loop-test .taken, c .before .before .loop .inv .2)
-
-add-i : tie.Need-add-i Inv-loop μ-loop
-add-i c = omega (arith, c .before .before .before .pre .0, c .before .loop-test .taken)
-
-loop-less : tie.Need-loop-less Inv-loop μ-loop
-loop-less c = omega (arith, c .before .loop-test .taken)
-
-loop-again : tie.Need-loop-again Inv-loop μ-loop
-loop-again c =
-    (omega (arith, c .before .loop-test .taken), one-more (c .before .before .before .args .out .now) (c .before .before .before .args .from .now) _ (c .before .before .before .args .at) (c .before .before .loop .i) (c .before .before .before .args .n) (c .before .before .before .pre .0) (c .before .before .before .pre .1) (omega (arith, c .before .loop-test .taken)) (c .before .before .loop .inv .1), simp length-set (c .before .before .loop .inv .2))
-
-same-length : tie.Need-same-length Inv-loop μ-loop
-same-length c = c .before .loop .inv .2
-
-returns : tie.Need-returns Inv-loop μ-loop
-returns c = c .before .loop .inv .1 ∙ ap (λ (k : ℕ). paste (c .before .before .args .out .now) (c .before .before .args .at) (c .before .before .args .from .now) k) (done _ _ (c .before .loop .inv .0) (c .loop-test .left))
-
 pub copy-spec : {M : Type 1} → statement M
 copy-spec =
     tie.close
     (tie.spec
-    Inv-loop
-    μ-loop
-    loop-holds
-    shared-slice-read-out
-    add-out
-    slice-write-out
-    add-i
-    loop-less
-    loop-again
-    same-length
-    returns)
+    Inv-loop μ-loop
+    (λ c. (omega arith, paste-zero (c .args .out .now) (c .args .at) (c .args .from .now), refl))
+    (λ c. omega (arith, c .before .before .before .pre .1, c .before .loop-test .taken))
+    (λ c. omega (arith, c .before .before .before .pre .0, c .before .loop-test .taken))
+    (λ c. omega (arith, c .before .before .before .pre .0, c .before .loop-test .taken, c .before .before .loop .inv .2))
+    (λ c. omega (arith, c .before .before .before .pre .0, c .before .loop-test .taken))
+    (λ c. omega (arith, c .before .loop-test .taken))
+    (λ c. (omega (arith, c .before .loop-test .taken), one-more (c .before .before .before .args .out .now) (c .before .before .before .args .from .now) _ (c .before .before .before .args .at) (c .before .before .loop .i) (c .before .before .before .args .n) (c .before .before .before .pre .0) (c .before .before .before .pre .1) (omega (arith, c .before .loop-test .taken)) (c .before .before .loop .inv .1), simp length-set (c .before .before .loop .inv .2)))
+    (λ c. c .before .loop .inv .2)
+    (λ c. c .before .loop .inv .1 ∙ ap (λ (k : ℕ). paste (c .before .before .args .out .now) (c .before .before .args .at) (c .before .before .args .from .now) k) (done _ _ (c .before .loop .inv .0) (c .loop-test .left))))
