@@ -6,117 +6,136 @@
 
 /* ---- strict CBOR ---- */
 
-enum kind { NONE, UNSIGNED, NEGATIVE, MAP, FALSE, TRUE, NIL, OTHER };
+/* Majors by one more than on the wire, so that 0 is a key that did not stand there. */
+enum kind { NONE, UNSIGNED, NEGATIVE, BYTES, TEXT, ARRAY, MAP, TAG, SIMPLE };
 
-/* What stood at a known key; argument is the head's. */
+enum { FALSE = 20, TRUE = 21, NIL = 22 };
+
+/* The head of what stood at a known key. */
 struct item {
     uint64_t argument;
     uint8_t kind;
 };
 
 /* Known keys are 1 to 5, in the envelope and in the one map beneath it that matters. */
+enum { KEYS = 6 };
+
 struct scan {
-    struct item outer[6], inner[6];
+    struct item outer[KEYS], inner[KEYS];
     bool is_map;
 };
 
-/* An open map or array: entries still to come, and the last key. */
+/* An open map or array: entries still to come, the least key that may follow, and where its known keys go, if it has any. */
 struct level {
-    uint64_t left, key;
-    bool map, any;
+    uint64_t left, least;
+    struct item *known;
+    bool map;
 };
 
-/* One strict head at *at: false if cut, reserved or not the shortest. */
-static inline bool head(const uint8_t *p, size_t n, size_t *at, unsigned *major, uint64_t *argument)
+static inline uint32_t be16(const uint8_t *p)
 {
-    if (*at >= n)
-        return false;
-    unsigned byte = p[(*at)++], low = byte & 31;
-    *major = byte >> 5;
-    if (low < 24) {
-        *argument = low;
-        return true;
+    return (uint32_t)p[0] << 8 | p[1];
+}
+
+static inline uint32_t be32(const uint8_t *p)
+{
+    return (uint32_t)p[0] << 24 | (uint32_t)p[1] << 16 | (uint32_t)p[2] << 8 | p[3];
+}
+
+/* One strict head at p: what follows it, or NULL if it is cut, reserved or not the shortest. */
+static inline const uint8_t *head(const uint8_t *p, const uint8_t *end, unsigned *kind, uint64_t *argument)
+{
+    if (p == end)
+        return NULL;
+    unsigned byte = *p++, low = byte & 31;
+    *kind = (byte >> 5) + 1;
+    *argument = low;
+    if (low < 24)
+        return p;
+    switch (low) {
+    case 24:
+        if (end - p < 1 || p[0] < 24)
+            return NULL;
+        *argument = p[0];
+        return p + 1;
+    case 25:
+        if (end - p < 2 || p[0] == 0)
+            return NULL;
+        *argument = be16(p);
+        return p + 2;
+    case 26:
+        if (end - p < 4 || be16(p) == 0)
+            return NULL;
+        *argument = be32(p);
+        return p + 4;
+    case 27:
+        if (end - p < 8 || be32(p) == 0)
+            return NULL;
+        *argument = (uint64_t)be32(p) << 32 | be32(p + 4);
+        return p + 8;
+    default:
+        return NULL;
     }
-    if (low > 27)
-        return false;
-    size_t more = (size_t)1 << (low - 24);
-    if (n - *at < more)
-        return false;
-    uint64_t v = 0;
-    for (size_t i = 0; i < more; i++)
-        v = v << 8 | p[*at + i];
-    *at += more;
-    *argument = v;
-    return low == 24 ? v >= 24 : v >> (more * 4) != 0;
 }
 
 /* Checks that p is one strict item, and remembers the known keys on the way: those of the payload's map, and those of the
    map at its key `under`. */
 static bool scan(const uint8_t *p, size_t n, unsigned under, struct scan *s)
 {
-    struct level stack[8], now = {1, 0, false, false};
-    unsigned depth = 0;
-    size_t at = 0;
-    bool inside = false;
-    memset(s, 0, sizeof *s);
+    struct level stack[8], now = {1, 0, NULL, false};
+    const uint8_t *end = p + n;
+    unsigned depth = 0, kind;
+    uint64_t argument;
+    *s = (struct scan){0};
     for (;;) {
-        unsigned major;
-        uint64_t argument;
         struct item *slot = NULL;
         now.left--;
         if (now.map) {
-            if (!head(p, n, &at, &major, &argument) || major != 0 || (now.any && argument <= now.key))
+            p = head(p, end, &kind, &argument);
+            if (p == NULL || kind != UNSIGNED || argument < now.least)
                 return false;
-            now.key = argument;
-            now.any = true;
-            if (depth == 1) {
-                inside = argument == under;
-                if (argument <= 5)
-                    slot = &s->outer[argument];
-            } else if (depth == 2 && inside && argument <= 5) {
-                slot = &s->inner[argument];
-            }
+            now.least = argument + 1;
+            if (now.least == 0 && now.left > 0) /* no key can follow the largest */
+                return false;
+            if (now.known != NULL && argument < KEYS)
+                slot = &now.known[argument];
         }
-        if (!head(p, n, &at, &major, &argument))
+        p = head(p, end, &kind, &argument);
+        if (p == NULL)
             return false;
-        uint8_t kind = OTHER;
-        switch (major) {
-        case 0:
-            kind = UNSIGNED;
+        if (slot != NULL)
+            *slot = (struct item){argument, (uint8_t)kind};
+        switch (kind) {
+        case UNSIGNED:
+        case NEGATIVE:
             break;
-        case 1:
-            kind = NEGATIVE;
-            break;
-        case 2:
-        case 3:
-            if (argument > n - at)
+        case BYTES:
+        case TEXT:
+            if (argument > (size_t)(end - p))
                 return false;
-            at += argument;
+            p += argument;
             break;
-        case 4:
-        case 5:
+        case ARRAY:
+        case MAP:
             if (depth == 8)
                 return false;
-            if (major == 5)
-                kind = MAP;
-            if (depth == 0)
-                s->is_map = major == 5;
+            s->is_map |= depth == 0 && kind == MAP;
             stack[depth++] = now;
-            now = (struct level){argument, 0, major == 5, false};
+            now.known = depth == 1 ? s->outer : slot == &s->outer[under] ? s->inner : NULL;
+            now.left = argument;
+            now.least = 0;
+            now.map = kind == MAP;
             break;
-        case 7:
-            if (argument < 20 || argument > 22)
+        case SIMPLE:
+            if (argument < FALSE || argument > NIL)
                 return false;
-            kind = argument == 20 ? FALSE : argument == 21 ? TRUE : NIL;
             break;
         default:
             return false;
         }
-        if (slot != NULL)
-            *slot = (struct item){argument, kind};
         while (now.left == 0) {
             if (depth == 0)
-                return at == n;
+                return p == end;
             now = stack[--depth];
         }
     }
@@ -127,8 +146,7 @@ static size_t payload(const uint8_t *in, size_t n)
 {
     if (n < 5 || n > PLAIN_FRAME_MAX)
         return 0;
-    uint32_t length = (uint32_t)in[0] << 24 | (uint32_t)in[1] << 16 | (uint32_t)in[2] << 8 | in[3];
-    return length == n - 4 ? n - 4 : 0;
+    return be32(in) == n - 4 ? n - 4 : 0;
 }
 
 /* ---- writing ---- */
@@ -207,9 +225,9 @@ static bool read_field(const struct item *i, bool nullable, struct plain_field *
     switch (i->kind) {
     case NONE:
         return true;
-    case NIL:
+    case SIMPLE:
         f->kind = PLAIN_NULL;
-        return nullable;
+        return nullable && i->argument == NIL;
     case UNSIGNED:
     case NEGATIVE:
         if (i->argument > PLAIN_LARGEST)
@@ -333,14 +351,14 @@ static bool read_value(const struct item *i, int64_t *v)
 static bool read_result(uint64_t command, const struct item *i, struct plain_response *r)
 {
     if (command == 1) {
-        if ((i[1].kind != TRUE && i[1].kind != FALSE) || !fits(&i[2], 4) || (i[5].kind != NONE && !fits(&i[5], 4)))
+        if (i[1].kind != SIMPLE || i[1].argument == NIL || !fits(&i[2], 4) || (i[5].kind != NONE && !fits(&i[5], 4)))
             return false;
-        r->applied = i[1].kind == TRUE;
+        r->applied = i[1].argument == TRUE;
         r->state = i[2].argument;
         r->reason = i[5].kind == NONE ? -1 : (int64_t)i[5].argument;
         return read_value(&i[3], &r->value[0]) && read_value(&i[4], &r->value[1]);
     }
-    if (i[1].kind != TRUE)
+    if (i[1].kind != SIMPLE || i[1].argument != TRUE)
         return false;
     r->applied = true;
     return command != 3 || (read_value(&i[2], &r->value[0]) && read_value(&i[3], &r->value[1]));
@@ -501,8 +519,7 @@ uint64_t plain_join(struct plain *d, uint64_t zone, uint64_t rank, uint64_t time
     }
     if (open == NULL)
         return 8;
-    memset(open, 0, sizeof *open);
-    open->id = (uint16_t)zone;
+    open->id = (uint16_t)zone; /* a free slot is all zero */
     open->rank = (uint8_t)rank;
     open->up = true;
     d->joined++;
