@@ -1,6 +1,7 @@
 /* Drives two kernels with one random mix of calls and compares all that can be seen: numbers, lengths, response bytes, rows,
    pairs, values, what lies behind them in the lent buffers, and that a refusal leaves the device as it was.
-   Words: how many calls (default 1,000,000), the seed (default 1). Ends with 'N compared, 0 differ'. */
+   Words: how many calls (default 1,000,000), the seed (default 1). Ends with 'N compared, 0 differ'; stops early at 100
+   differences. */
 #include "kernel.h"
 #include "mix.h"
 #include <stdio.h>
@@ -400,7 +401,7 @@ int main(int argc, char **argv)
         sides[i].before = calloc(1, sides[i].k->size);
     }
     start(false);
-    while (compared < calls) {
+    while (compared < calls && differ < 100) {
         if (mix_chance(5))
             start(mix_chance(850));
         else if (mix_chance(2))

@@ -333,7 +333,7 @@ static void response_map(struct entries *e)
     static const uint64_t statuses[] = {0, 0, 0, 4, 5, 9, 10, 11, 12, 13, 14};
     inner.count = inner.body.n = 0;
     field(e, 1, message_id(), 2);
-    field(e, 2, PICK(statuses), 2);
+    field(e, 2, mix_chance(950) ? PICK(statuses) : mix_below(17), 2);
     if (mix_chance(600)) {
         key(e, 3);
         if (mix_chance(10)) {
@@ -489,7 +489,7 @@ void mix_response_fields(uint64_t command, struct plain_response *r)
     static const uint64_t statuses[] = {0, 0, 0, 4, 5, 9, 10, 11, 12, 13, 14};
     *r = (struct plain_response){.value = {-1, -1}, .reason = -1};
     r->id = spoil(message_id());
-    r->status = spoil(PICK(statuses));
+    r->status = spoil(mix_chance(950) ? PICK(statuses) : mix_below(17));
     r->has_result = r->status == 0 || (command == 1 && r->status >= 11 && r->status <= 14);
     if (mix_chance(30))
         r->has_result = !r->has_result;

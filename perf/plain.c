@@ -151,23 +151,46 @@ static size_t payload(const uint8_t *in, size_t n)
 
 /* ---- writing ---- */
 
-static uint8_t *put(uint8_t *to, unsigned major, uint64_t v)
+static inline void put_be16(uint8_t *to, uint64_t v)
 {
-    unsigned low, more;
-    if (v < 24)
-        low = (unsigned)v, more = 0;
-    else if (v <= 0xff)
-        low = 24, more = 1;
-    else if (v <= 0xffff)
-        low = 25, more = 2;
-    else if (v <= 0xffffffff)
-        low = 26, more = 4;
-    else
-        low = 27, more = 8;
-    *to++ = (uint8_t)(major << 5 | low);
-    while (more > 0)
-        *to++ = (uint8_t)(v >> 8 * --more);
-    return to;
+    to[0] = (uint8_t)(v >> 8);
+    to[1] = (uint8_t)v;
+}
+
+static inline void put_be32(uint8_t *to, uint64_t v)
+{
+    to[0] = (uint8_t)(v >> 24);
+    to[1] = (uint8_t)(v >> 16);
+    to[2] = (uint8_t)(v >> 8);
+    to[3] = (uint8_t)v;
+}
+
+/* The shortest head; what follows it. */
+static inline uint8_t *put(uint8_t *to, unsigned major, uint64_t v)
+{
+    if (v < 24) {
+        *to = (uint8_t)(major << 5 | v);
+        return to + 1;
+    }
+    if (v <= 0xff) {
+        to[0] = (uint8_t)(major << 5 | 24);
+        to[1] = (uint8_t)v;
+        return to + 2;
+    }
+    if (v <= 0xffff) {
+        to[0] = (uint8_t)(major << 5 | 25);
+        put_be16(to + 1, v);
+        return to + 3;
+    }
+    if (v <= UINT32_MAX) {
+        to[0] = (uint8_t)(major << 5 | 26);
+        put_be32(to + 1, v);
+        return to + 5;
+    }
+    to[0] = (uint8_t)(major << 5 | 27);
+    put_be32(to + 1, v >> 32);
+    put_be32(to + 5, v);
+    return to + 9;
 }
 
 static uint8_t *put_signed(uint8_t *to, int64_t v)
@@ -185,9 +208,7 @@ static uint8_t *put_bool(uint8_t *to, bool v)
 static size_t close_frame(uint8_t *frame, const uint8_t *end)
 {
     size_t length = (size_t)(end - frame) - 4;
-    frame[0] = frame[1] = 0;
-    frame[2] = (uint8_t)(length >> 8);
-    frame[3] = (uint8_t)length;
+    put_be32(frame, length);
     return length + 4;
 }
 

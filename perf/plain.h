@@ -8,7 +8,7 @@
 enum { PLAIN_ZONES = 8, PLAIN_ROWS = 32, PLAIN_PAIRS = 64 };
 
 /* The longest response and the longest request that a writer makes, prefix included. */
-enum { PLAIN_RESPONSE_MAX = 41, PLAIN_REQUEST_MAX = 50, PLAIN_FRAME_MAX = 2052 };
+enum { PLAIN_RESPONSE_MAX = 41, PLAIN_REQUEST_MAX = 48, PLAIN_FRAME_MAX = 2052 };
 
 #define PLAIN_LAST_SECOND ((UINT64_C(1) << 40) - 1)
 #define PLAIN_LARGEST ((uint64_t)INT64_MAX)
