@@ -10,10 +10,41 @@
 
 enum { OUT = 128, ROWS = 6 * PLAIN_ROWS + 16, PAIRS = 2 * PLAIN_PAIRS + 16, CALLS = 15, NUMBERS = 19 };
 
-enum call { START, JOIN, LEAVE, LOST, BACK, OVERRIDE, CLEAR, ASK, FRAME, PLAN, READ_REQ, WRITE_REQ, READ_RESP, WRITE_RESP, REPORT };
+enum call {
+    START,
+    JOIN,
+    LEAVE,
+    LOST,
+    BACK,
+    OVERRIDE,
+    CLEAR,
+    ASK,
+    FRAME,
+    PLAN,
+    READ_REQUEST,
+    WRITE_REQUEST,
+    READ_RESPONSE,
+    WRITE_RESPONSE,
+    REPORT
+};
 
-static const char *const call_names[CALLS] = {"start", "join",  "leave", "lost",         "back",          "override",      "clear", "ask",
-                                              "frame", "plan",  "read_request", "write_request", "read_response", "write_response", "report"};
+static const char *const call_names[CALLS] = {
+    [START] = "start",
+    [JOIN] = "join",
+    [LEAVE] = "leave",
+    [LOST] = "lost",
+    [BACK] = "back",
+    [OVERRIDE] = "override",
+    [CLEAR] = "clear",
+    [ASK] = "ask",
+    [FRAME] = "frame",
+    [PLAN] = "plan",
+    [READ_REQUEST] = "read_request",
+    [WRITE_REQUEST] = "write_request",
+    [READ_RESPONSE] = "read_response",
+    [WRITE_RESPONSE] = "write_response",
+    [REPORT] = "report",
+};
 
 /* One kernel's side: its device, what it was lent and what it answered. */
 struct side {
@@ -78,14 +109,14 @@ static uint64_t call_one(struct side *s, const struct ask *q)
     case PLAN:
         w = k->plan(s->device, q->time, s->rows, q->room);
         break;
-    case READ_REQ:
+    case READ_REQUEST:
         return k->read_request(q->in.at, q->in.n, &s->request);
-    case WRITE_REQ:
+    case WRITE_REQUEST:
         w = k->write_request(&q->request, s->out, q->room);
         break;
-    case READ_RESP:
+    case READ_RESPONSE:
         return k->read_response(q->a, q->in.at, q->in.n, &s->response);
-    case WRITE_RESP:
+    case WRITE_RESPONSE:
         w = k->write_response(q->a, &q->response, s->out, q->room);
         break;
     case REPORT:
@@ -132,9 +163,9 @@ static const char *difference(const struct side *x, const struct side *y, const 
         return "pairs";
     if (x->number != 0)
         return NULL;
-    if (q->call == READ_REQ && !same_request(&x->request, &y->request))
+    if (q->call == READ_REQUEST && !same_request(&x->request, &y->request))
         return "requests";
-    if (q->call == READ_RESP && !same_response(&x->response, &y->response))
+    if (q->call == READ_RESPONSE && !same_response(&x->response, &y->response))
         return "responses";
     return NULL;
 }
@@ -154,7 +185,7 @@ static void complain(const char *what)
         return;
     printf("call %lu, %s: %s\n", compared, call_names[ask.call], what);
     printf("  zone %lu time %lu a %lu b %lu room %lu\n", ask.zone, ask.time, ask.a, ask.b, ask.room);
-    if (ask.call == FRAME || ask.call == READ_REQ || ask.call == READ_RESP)
+    if (ask.call == FRAME || ask.call == READ_REQUEST || ask.call == READ_RESPONSE)
         print_bytes("in", ask.in.at, ask.in.n);
     for (unsigned i = 0; i < 2; i++) {
         struct side *s = &sides[i];
@@ -185,7 +216,7 @@ static void tally(const struct side *s)
         most_rows = s->length;
     if (ask.call == REPORT && s->length > most_pairs)
         most_pairs = s->length;
-    if ((ask.call == FRAME || ask.call == READ_REQ) && s->number == 0 && ask.in.n > longest_in)
+    if ((ask.call == FRAME || ask.call == READ_REQUEST) && s->number == 0 && ask.in.n > longest_in)
         longest_in = ask.in.n;
 }
 
@@ -267,7 +298,7 @@ static void mix_call(void)
     static const enum call often[] = {FRAME, FRAME, FRAME, FRAME, FRAME, FRAME, FRAME,    FRAME, FRAME, FRAME, PLAN, PLAN,
                                       ASK,   ASK,   JOIN,  JOIN,  JOIN,  JOIN,  LEAVE,    LOST,  BACK,  BACK,  BACK, OVERRIDE,
                                       CLEAR, CLEAR, CLEAR};
-    ask.call = mix_chance(900) ? often[mix_below(sizeof often / sizeof *often)] : READ_REQ + mix_below(5);
+    ask.call = mix_chance(900) ? often[mix_below(sizeof often / sizeof *often)] : READ_REQUEST + mix_below(5);
     ask.zone = some_zone();
     ask.time = some_time();
     ask.room = some_room(64);
@@ -283,17 +314,17 @@ static void mix_call(void)
         ask.room = mix_chance(200) ? mix_below(40) : some_room(ROWS);
         break;
     case FRAME:
-    case READ_REQ:
+    case READ_REQUEST:
         mix_request(&ask.in, &settings);
         break;
-    case WRITE_REQ:
+    case WRITE_REQUEST:
         mix_request_fields(&ask.request, &settings);
         break;
-    case READ_RESP:
+    case READ_RESPONSE:
         ask.a = mix_chance(980) ? 1 + mix_below(4) : mix_chance(500) ? mix_below(7) : mix_any();
         mix_response(&ask.in);
         break;
-    case WRITE_RESP:
+    case WRITE_RESPONSE:
         ask.a = mix_chance(980) ? 1 + mix_below(4) : mix_chance(500) ? mix_below(7) : mix_any();
         mix_response_fields(ask.a, &ask.response);
         break;
@@ -387,7 +418,8 @@ static void print_counts(void)
     for (unsigned n = 1; n < NUMBERS; n++)
         if (answered[n] > 0)
             printf(" %u: %lu (and %lu without room)", n, answered[n], unanswered[n]);
-    printf("\nlongest plan %lu rows, longest report %lu pairs, longest accepted frame %lu bytes\n", most_rows, most_pairs, longest_in);
+    printf("\nlongest plan %lu rows, longest report %lu pairs, longest accepted frame %lu bytes\n", most_rows, most_pairs,
+           longest_in);
     printf("every number reached: %s\n", all ? "yes" : "NO");
 }
 

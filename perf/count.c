@@ -74,7 +74,8 @@ static void zones(unsigned n, uint64_t step)
         CALL(join)(DEVICE, i + 1, 1 + i / 2, NOW);
         for (uint64_t j = 0; j < 4; j++) {
             int64_t v = (int64_t)(2000000 + i);
-            request(j < 2 ? 1 : 3, j % 2 == 0 ? v : INT64_MIN, j % 2 == 1 ? v : INT64_MIN, step == 0 ? 0 : 1 + (4 * i + j) * step);
+            uint64_t lasts = step == 0 ? 0 : 1 + (4 * i + j) * step;
+            request(j < 2 ? 1 : 3, j % 2 == 0 ? v : INT64_MIN, j % 2 == 1 ? v : INT64_MIN, lasts);
             apply(i + 1);
         }
     }

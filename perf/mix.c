@@ -467,6 +467,8 @@ void mix_request_fields(struct plain_request *r, const struct plain_settings *s)
     if (r->command == 1 || r->command == 3) {
         for (unsigned i = 0; i < 2; i++) {
             r->field[i].kind = mix_chance(600) ? PLAIN_NUMBER : r->command == 1 ? mix_below(2) : PLAIN_ABSENT;
+            if (mix_chance(8))
+                r->field[i].kind = mix_chance(500) ? PLAIN_NULL : edge();
             if (r->field[i].kind == PLAIN_NUMBER)
                 r->field[i].value = mix_chance(900) ? amount(s) : (int64_t)edge();
         }

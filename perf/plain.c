@@ -308,8 +308,12 @@ static bool request_in_range(const struct plain_request *r)
 {
     if (r->id > UINT32_MAX || r->endpoint > 255 || r->feature > 65535 || r->command > 65535)
         return false;
-    if (r->command == 1 || r->command == 3)
+    if (r->command == 1 || r->command == 3) {
+        for (unsigned i = 0; i < 2; i++)
+            if (r->field[i].kind > PLAIN_NUMBER || (r->field[i].kind == PLAIN_NULL && r->command == 3))
+                return false;
         return r->duration <= UINT32_MAX && r->cause <= 255;
+    }
     if (r->command == 2 || r->command == 4)
         return !r->has_direction || r->direction <= 1;
     return true;
