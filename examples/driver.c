@@ -7,9 +7,8 @@ static const struct cekarum_settings settings = {
     .accepts_limits = true,
     .accepts_setpoints = true,
     .minimum = 1380000,
-    .has_maximum_consumption = true,
-    .maximum_consumption = 43000000,
-    .failsafe_consumption = 4200000,
+    .maximum = {43000000, CEKARUM_NONE},
+    .failsafe = {4200000, 0},
     .failsafe_duration = 7200,
 };
 
@@ -17,8 +16,7 @@ static const struct cekarum_settings settings = {
 static uint64_t limit_frame(uint64_t id, int64_t limit, uint64_t duration, uint8_t *frame, uint64_t room)
 {
     struct cekarum_request request = {.id = id, .endpoint = 1, .feature = 5, .command = 1};
-    request.consumption_kind = CEKARUM_NUMBER;
-    request.consumption = limit;
+    request.consumption = (struct cekarum_field){CEKARUM_NUMBER, limit};
     request.duration = duration;
     return cekarum_write_request(request, frame, room).length;
 }

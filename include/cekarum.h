@@ -22,7 +22,7 @@ extern "C" {
 #endif
 
 /* Words of a device. The driver lends all of them to each call and never looks inside. */
-#define CEKARUM_WORDS 104
+#define CEKARUM_WORDS 101
 
 /* Enough room for every answer. */
 #define CEKARUM_FRAME_MAX 2052   /* bytes of the longest frame, prefix and payload */
@@ -68,24 +68,23 @@ struct cekarum_written {
 
 /* ---- starting ---- */
 
-/* Powers in mW, 0 to 2^63 - 1. */
+/* No contractual maximum. */
+#define CEKARUM_NONE UINT64_MAX
+
+/* Powers in mW, 0 to 2^63 - 1. Pairs go by direction: [0] consumption, [1] production. */
 struct cekarum_settings {
-    uint64_t directions; /* 0 consumption, 1 production, 2 both */
+    uint64_t directions; /* supported: 0 consumption, 1 production, 2 both */
     bool accepts_limits;
     bool accepts_setpoints;
     uint64_t minimum; /* the smallest consumption limit that can be set */
-    bool has_maximum_consumption; /* contractual maxima: a higher limit is stored as this */
-    uint64_t maximum_consumption; /* not below the minimum */
-    bool has_maximum_production;
-    uint64_t maximum_production;
-    uint64_t failsafe_consumption;
-    uint64_t failsafe_production;
+    uint64_t maximum[2]; /* contractual: a higher limit is stored as this; CEKARUM_NONE: there is none */
+    uint64_t failsafe[2]; /* limits that hold while zones are joined and no link is up */
     uint64_t failsafe_duration; /* 7,200 to 86,400 s */
     bool energy_manager;
 };
 
 /* Makes a fresh device, with its clock at 0, whatever the words held before.
- * Refuses: 16. The device is then fresh too: it accepts neither limits nor setpoints, consumption only, failsafe duration
+ * Refuses: 16 for a setting out of range, or a maximum[0] below the minimum. The device is then fresh too: it accepts neither limits nor setpoints, consumption only, failsafe duration
  * 7,200, all else 0, none or no. */
 uint64_t cekarum_start(uint64_t *device, struct cekarum_settings settings);
 
@@ -113,14 +112,19 @@ uint64_t cekarum_clear(uint64_t *device, uint64_t time);
 
 /* ---- what holds, and what will change ---- */
 
+/* Places in cekarum_answer's values and, after the second, in a plan's row. */
+enum {
+    CEKARUM_STATE = 0,
+    CEKARUM_LIMIT_CONSUMPTION = 1,
+    CEKARUM_LIMIT_PRODUCTION = 2,
+    CEKARUM_SETPOINT_CONSUMPTION = 3,
+    CEKARUM_SETPOINT_PRODUCTION = 4
+};
+
 /* Limits and setpoints in mW, -1 is absent. Beside a refusal all five are -1. */
 struct cekarum_answer {
     uint64_t number;
-    int64_t state;
-    int64_t limit_consumption;
-    int64_t limit_production;
-    int64_t setpoint_consumption;
-    int64_t setpoint_production;
+    int64_t values[5];
 };
 
 /* What holds at this second. Refuses: 5. */
@@ -142,23 +146,26 @@ struct cekarum_written cekarum_frame(uint64_t *device, uint64_t zone, uint64_t t
 
 /* ---- messages, for the other side of the wire ---- */
 
-/* A field of a Set command. */
+/* What a field of a Set command is. */
 enum { CEKARUM_ABSENT = 0, CEKARUM_NULL = 1, CEKARUM_NUMBER = 2 };
 
+struct cekarum_field {
+    uint64_t kind; /* absent, null (SetLimit alone) or a number */
+    int64_t value; /* mW; 0 when read and passed over when written, unless the kind is a number */
+};
+
 /* Commands 1 SetLimit and 3 SetSetpoint use the two fields, duration (0: until replaced) and cause; 2 ClearLimit and
- * 4 ClearSetpoint use direction. The other fields are 0 when read and passed over when written. */
+ * 4 ClearSetpoint use the direction. The other members are 0 when read and passed over when written. */
 struct cekarum_request {
     uint64_t id;       /* 32 bits */
     uint64_t endpoint; /* 1 */
     uint64_t feature;  /* 5 */
     uint64_t command;  /* 1 to 4 */
-    uint64_t consumption_kind; /* absent, null (SetLimit alone) or a number */
-    int64_t consumption;
-    uint64_t production_kind;
-    int64_t production;
-    uint64_t duration; /* 32 bits */
+    struct cekarum_field consumption;
+    struct cekarum_field production;
+    uint64_t duration; /* seconds, 32 bits */
     uint64_t cause;    /* 0 to 255 */
-    bool has_direction;
+    bool has_direction; /* without one a clear clears both */
     uint64_t direction; /* 0 or 1 */
 };
 

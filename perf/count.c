@@ -32,9 +32,8 @@ static void begin(void)
                                        .accepts_limits = true,
                                        .accepts_setpoints = true,
                                        .minimum = 1380000,
-                                       .has_maximum_consumption = true,
-                                       .maximum_consumption = 43000000,
-                                       .failsafe_consumption = 4200000,
+                                       .maximum = {43000000, CEKARUM_NONE},
+                                       .failsafe = {4200000, 0},
                                        .failsafe_duration = 7200});
 #else
     static const struct plain_settings s = {.directions = 2,

@@ -2,18 +2,17 @@
 #include "cekarum.h"
 #include "kernel.h"
 
+/* A maximum that is told and is the largest number is out of range, as the number below it is; told alone it would be none. */
+static uint64_t maximum(bool has, uint64_t value) { return !has ? CEKARUM_NONE : value == CEKARUM_NONE ? value - 1 : value; }
+
 static uint64_t start(void *d, const struct plain_settings *s)
 {
     struct cekarum_settings t = {.directions = s->directions,
                                  .accepts_limits = s->accepts_limits,
                                  .accepts_setpoints = s->accepts_setpoints,
                                  .minimum = s->minimum,
-                                 .has_maximum_consumption = s->has_maximum[0],
-                                 .maximum_consumption = s->maximum[0],
-                                 .has_maximum_production = s->has_maximum[1],
-                                 .maximum_production = s->maximum[1],
-                                 .failsafe_consumption = s->failsafe[0],
-                                 .failsafe_production = s->failsafe[1],
+                                 .maximum = {maximum(s->has_maximum[0], s->maximum[0]), maximum(s->has_maximum[1], s->maximum[1])},
+                                 .failsafe = {s->failsafe[0], s->failsafe[1]},
                                  .failsafe_duration = s->duration,
                                  .energy_manager = s->manager};
     return cekarum_start(d, t);
@@ -33,8 +32,7 @@ static uint64_t override(void *d, uint64_t reason, uint64_t direction, uint64_t 
 static struct plain_answer ask(void *d, uint64_t time)
 {
     struct cekarum_answer a = cekarum_ask(d, time);
-    return (struct plain_answer){
-        a.number, {a.state, a.limit_consumption, a.limit_production, a.setpoint_consumption, a.setpoint_production}};
+    return (struct plain_answer){a.number, {a.values[0], a.values[1], a.values[2], a.values[3], a.values[4]}};
 }
 
 static struct plain_written written(struct cekarum_written w)
@@ -60,7 +58,7 @@ static uint64_t read_request(const uint8_t *in, size_t n, struct plain_request *
                                 .endpoint = q.endpoint,
                                 .feature = q.feature,
                                 .command = q.command,
-                                .field = {{q.consumption_kind, q.consumption}, {q.production_kind, q.production}},
+                                .field = {{q.consumption.kind, q.consumption.value}, {q.production.kind, q.production.value}},
                                 .duration = q.duration,
                                 .cause = q.cause,
                                 .has_direction = q.has_direction,
@@ -74,10 +72,8 @@ static struct plain_written write_request(const struct plain_request *r, uint8_t
                                 .endpoint = r->endpoint,
                                 .feature = r->feature,
                                 .command = r->command,
-                                .consumption_kind = r->field[0].kind,
-                                .consumption = r->field[0].value,
-                                .production_kind = r->field[1].kind,
-                                .production = r->field[1].value,
+                                .consumption = {r->field[0].kind, r->field[0].value},
+                                .production = {r->field[1].kind, r->field[1].value},
                                 .duration = r->duration,
                                 .cause = r->cause,
                                 .has_direction = r->has_direction,
