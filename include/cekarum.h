@@ -165,7 +165,7 @@ struct cekarum_request {
     struct cekarum_field production;
     uint64_t duration; /* seconds, 32 bits */
     uint64_t cause;    /* 0 to 255 */
-    bool has_direction; /* without one a clear clears both */
+    bool directed; /* without one a clear clears both */
     uint64_t direction; /* 0 or 1 */
 };
 
@@ -186,7 +186,7 @@ struct cekarum_written cekarum_write_request(struct cekarum_request request, uin
 struct cekarum_response {
     uint64_t id;
     uint64_t status; /* 0, 4, 5, 9 to 14 */
-    bool has_result;
+    bool result;
     bool applied;
     uint64_t state;
     int64_t consumption;

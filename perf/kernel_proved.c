@@ -61,7 +61,7 @@ static uint64_t read_request(const uint8_t *in, size_t n, struct plain_request *
                                 .field = {{q.consumption.kind, q.consumption.value}, {q.production.kind, q.production.value}},
                                 .duration = q.duration,
                                 .cause = q.cause,
-                                .has_direction = q.has_direction,
+                                .has_direction = q.directed,
                                 .direction = q.direction};
     return got.number;
 }
@@ -76,7 +76,7 @@ static struct plain_written write_request(const struct plain_request *r, uint8_t
                                 .production = {r->field[1].kind, r->field[1].value},
                                 .duration = r->duration,
                                 .cause = r->cause,
-                                .has_direction = r->has_direction,
+                                .directed = r->has_direction,
                                 .direction = r->direction};
     return written(cekarum_write_request(q, out, room));
 }
@@ -85,7 +85,7 @@ static uint64_t read_response(uint64_t command, const uint8_t *in, size_t n, str
 {
     struct cekarum_response_read got = cekarum_read_response(command, in, n);
     struct cekarum_response p = got.response;
-    *r = (struct plain_response){p.id, p.status, p.has_result, p.applied, p.state, {p.consumption, p.production}, p.reason};
+    *r = (struct plain_response){p.id, p.status, p.result, p.applied, p.state, {p.consumption, p.production}, p.reason};
     return got.number;
 }
 

@@ -49,7 +49,12 @@ pub extern "C" fn cekarum_back(device: &mut State, zone: u64, time: u64) -> u64
 }
 
 #[no_mangle]
-pub extern "C" fn cekarum_override(device: &mut State, reason: u64, direction: u64, time: u64) -> u64
+pub extern "C" fn cekarum_override(
+    device: &mut State,
+    reason: u64,
+    direction: u64,
+    time: u64,
+) -> u64
     ensures { λ r. ⌜ (r ≡ overrideNumber (now (device .entry)) reason direction time) × (now (device .exit) ≡ overrideAfter (now (device .entry)) reason direction time) ⌝ }
 {
     device::calls::set_override(device, reason, direction, time)
