@@ -29,7 +29,7 @@ extern "C" {
 #define CEKARUM_RESPONSE_MAX 41  /* bytes of the longest response frame */
 #define CEKARUM_REQUEST_MAX 48   /* bytes of the longest request frame that is written */
 #define CEKARUM_PLAN_MAX 192     /* numbers of the longest plan: 32 rows of 6 */
-#define CEKARUM_REPORT_MAX 96    /* numbers of the longest report: 48 pairs */
+#define CEKARUM_REPORT_MAX 114   /* no report is longer: 57 pairs, every bit and every attribute a breach */
 
 /* The last second the clock can show. */
 #define CEKARUM_LAST_SECOND ((UINT64_C(1) << 40) - 1)
@@ -158,14 +158,14 @@ struct cekarum_field {
  * 4 ClearSetpoint use the direction. The other members are 0 when read and passed over when written. */
 struct cekarum_request {
     uint64_t id;       /* 32 bits */
-    uint64_t endpoint; /* 1 */
-    uint64_t feature;  /* 5 */
-    uint64_t command;  /* 1 to 4 */
+    uint64_t endpoint; /* 1 is served; 8 bits */
+    uint64_t feature;  /* 5 is served; 16 bits */
+    uint64_t command;  /* 1 to 4 are served; 16 bits */
     struct cekarum_field consumption;
     struct cekarum_field production;
     uint64_t duration; /* seconds, 32 bits */
     uint64_t cause;    /* 0 to 255 */
-    bool directed; /* without one a clear clears both */
+    bool directed;      /* whether a clear names a direction; if not, it clears both */
     uint64_t direction; /* 0 or 1 */
 };
 
@@ -174,11 +174,12 @@ struct cekarum_request_read {
     struct cekarum_request request;
 };
 
-/* Refuses: 1, 2, 3 (envelope), 4, 3 (parameters). All fields are then 0. */
+/* Reads a frame without applying it. Refuses: 1, 2, 3 (envelope), 4, 3 (parameters). All of the request is then 0. */
 struct cekarum_request_read cekarum_read_request(const uint8_t *in, uint64_t in_length);
 
-/* Refuses: 3 for a value out of range (a kind above 2, or null in SetSetpoint, included), 4, 15. Negative values and a Set
- * command without a direction are written: a device refuses them with 13. */
+/* Writes a request frame; a duration of 0 is left out. Refuses: 3 for a value out of range (a kind above 2, or null in
+ * SetSetpoint, included), 4 for an endpoint, feature or command that is not served, 15. Negative values and a Set command that
+ * names neither direction are written: a device refuses them with 13. CEKARUM_REQUEST_MAX bytes of room are always enough. */
 struct cekarum_written cekarum_write_request(struct cekarum_request request, uint8_t *out, uint64_t out_length);
 
 /* The result stands at status 0, and for SetLimit also at 11 to 14. SetLimit: applied, state, the two effective limits and the
@@ -186,12 +187,12 @@ struct cekarum_written cekarum_write_request(struct cekarum_request request, uin
 struct cekarum_response {
     uint64_t id;
     uint64_t status; /* 0, 4, 5, 9 to 14 */
-    bool result;
+    bool result;   /* whether a result stands; if not, what follows is no, 0 or -1 when read and passed over when written */
     bool applied;
     uint64_t state;
-    int64_t consumption;
+    int64_t consumption; /* mW */
     int64_t production;
-    int64_t reason; /* 0 to 4 */
+    int64_t reason; /* 0 below minimum, 1 above contractual, 2 invalid, 3 override, 4 not supported */
 };
 
 struct cekarum_response_read {
@@ -202,7 +203,9 @@ struct cekarum_response_read {
 /* Reads the response to a command. Refuses: 4 for a command that is not served, 1, 2, 3. All is then 0, no or -1. */
 struct cekarum_response_read cekarum_read_response(uint64_t command, const uint8_t *in, uint64_t in_length);
 
-/* Refuses: 4, 3, 15. */
+/* Writes the response to a command. Refuses: 4 for a command that is not served; 3 for a value out of range (a negative one
+ * other than -1 included), a status that is none, a result that is missing or does not stand there, or applied false in another
+ * result than SetLimit's; 15. */
 struct cekarum_written cekarum_write_response(uint64_t command, struct cekarum_response response, uint8_t *out,
                                               uint64_t out_length);
 
