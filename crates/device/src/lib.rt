@@ -51,6 +51,7 @@ pub struct Zone {
 }
 
 // What a device starts with. Maxima and failsafe limits go by direction; MOST is no maximum.
+#[repr(C)]
 pub struct Settings {
     pub directions: u64,
     pub limits: bool,
@@ -80,6 +81,7 @@ pub struct Change {
 }
 
 // The answer to an ask: the control state, then each quantity, -1 absent.
+#[repr(C)]
 pub struct Asked {
     pub number: u64,
     pub values: [i64; VALUES],

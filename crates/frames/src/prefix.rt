@@ -10,6 +10,7 @@ ghost use Rattle.frames.specs.Writing.{refusedWith, writtenOf, leftBy};
 pub const MOST: usize = 2048;
 
 // What a writer answers: the refusal number or 0, and the length of the frame written.
+#[repr(C)]
 pub struct Written {
     pub number: u64,
     pub length: usize,

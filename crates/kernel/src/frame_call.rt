@@ -13,6 +13,7 @@ ghost use Rattle.frames.specs.declared.requests.Reading.{Reading};
 ghost use Rattle.kernel.specs.Frame.{answerFrom, afterFrom, outFrom, frameAnswer, frameAfter, frameOut};
 
 // The answer to a frame: its number, and the length of the response frame that was written.
+#[repr(C)]
 pub struct Framed {
     pub number: u64,
     pub length: usize,

@@ -14,6 +14,7 @@ ghost use lib.ListN.{length};
 ghost use Rattle.planner.specs.Plan.{planAnswer, planAfter, planSlice};
 
 // The answer to a plan: its number, and the count of rows written.
+#[repr(C)]
 pub struct Planned {
     pub number: u64,
     pub count: u64,

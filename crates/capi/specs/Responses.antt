@@ -1,0 +1,110 @@
+-- Responses as C has them, flat, and as the kernel has them: each from the other. Absent is -1.
+use Prim.Native.Nat.{ℕ, zero, suc}
+use mathlib.Core.Bool.{Bool, true, false, cond, not, _||_}
+use lib.Dec.{eqb}
+use lib.IntN.{ℤ, pos, negsuc}
+use Rattle.messages.specs.declared.Amount.{Amount}
+use Rattle.messages.specs.declared.LimitResult.{LimitResult}
+use Rattle.messages.specs.declared.SetpointResult.{SetpointResult}
+use Rattle.messages.specs.declared.Outcome.{Outcome}
+use Rattle.messages.specs.declared.Response.{Response}
+use Rattle.device.specs.Sizes.{most}
+use Rattle.device.specs.Holds.{shown}
+use Rattle.frames.specs.declared.responses.Answer.{Answer}
+use Rattle.capi.specs.declared.responses.FlatResponse.{FlatResponse}
+use Rattle.capi.specs.declared.responses.FlatAnswer.{FlatAnswer}
+
+-- FROM C: -1 is absent; any other negative number is a value that no response has, and is refused with 3
+unfoldable pub amountOf : ℤ → Amount
+amountOf (pos n) = Amount.Is n
+amountOf (negsuc zero) = Amount.Absent
+amountOf (negsuc (suc n)) = Amount.Is most
+
+unfoldable pub limitOf : FlatResponse → LimitResult
+limitOf p =
+    record {
+      applied = p .applied;
+      state = p .state;
+      consumption = amountOf (p .consumption);
+      production = amountOf (p .production);
+      reason = amountOf (p .reason);
+    }
+
+unfoldable pub setpointOf : FlatResponse → SetpointResult
+setpointOf p = record { consumption = amountOf (p .consumption); production = amountOf (p .production) }
+
+-- a result with applied false is SetLimit's: beside another command it is refused with 3
+unfoldable pub outcomeOf : ℕ → FlatResponse → Outcome
+outcomeOf command p =
+    cond (p .result)
+    (cond (eqb command 1 || not (p .applied)) (Outcome.Limit (limitOf p))
+    (cond (eqb command 3) (Outcome.Setpoint (setpointOf p)) Outcome.Success))
+    Outcome.Nothing
+
+unfoldable pub responseOf : ℕ → FlatResponse → Response
+responseOf command p = record { id = p .id; status = p .status; outcome = outcomeOf command p }
+
+-- TO C
+unfoldable pub flatResponse : Response → Outcome → FlatResponse
+flatResponse r Outcome.Nothing =
+    record {
+      id = r .id;
+      status = r .status;
+      result = false;
+      applied = false;
+      state = 0;
+      consumption = negsuc 0;
+      production = negsuc 0;
+      reason = negsuc 0;
+    }
+flatResponse r (Outcome.Limit l) =
+    record {
+      id = r .id;
+      status = r .status;
+      result = true;
+      applied = l .applied;
+      state = l .state;
+      consumption = shown (l .consumption);
+      production = shown (l .production);
+      reason = shown (l .reason);
+    }
+flatResponse r (Outcome.Setpoint l) =
+    record {
+      id = r .id;
+      status = r .status;
+      result = true;
+      applied = true;
+      state = 0;
+      consumption = shown (l .consumption);
+      production = shown (l .production);
+      reason = negsuc 0;
+    }
+flatResponse r Outcome.Success =
+    record {
+      id = r .id;
+      status = r .status;
+      result = true;
+      applied = true;
+      state = 0;
+      consumption = negsuc 0;
+      production = negsuc 0;
+      reason = negsuc 0;
+    }
+
+-- beside a refusal all is 0, no or -1
+abbrev pub noResponse : FlatResponse
+noResponse =
+    record {
+      id = 0;
+      status = 0;
+      result = false;
+      applied = false;
+      state = 0;
+      consumption = negsuc 0;
+      production = negsuc 0;
+      reason = negsuc 0;
+    }
+
+unfoldable pub flatAnswer : Answer → FlatAnswer
+flatAnswer (Answer.Is r) = record { number = 0; response = flatResponse r (r .outcome) }
+flatAnswer (Answer.Refused n) = record { number = n; response = noResponse }

@@ -1,0 +1,19 @@
+// A frame applied, and its response.
+use device::State;
+use kernel::Framed;
+ghost use mathlib.Core.Path.{_≡_};
+ghost use lib.ListN.{length};
+ghost use Rattle.kernel.specs.Frame.{frameAnswer, frameAfter, frameOut};
+
+#[no_mangle]
+pub extern "C" fn cekarum_frame(
+    device: &mut State,
+    zone: u64,
+    time: u64,
+    bytes: &[u8],
+    out: &mut [u8],
+) -> Framed
+    ensures { λ r. ⌜ (r ≡ frameAnswer (now (device .entry)) zone time (now (bytes .entry)) (length (now (out .entry)))) × (now (device .exit) ≡ frameAfter (now (device .entry)) zone time (now (bytes .entry)) (length (now (out .entry)))) × (now (out .exit) ≡ frameOut (now (device .entry)) zone time (now (bytes .entry)) (now (out .entry))) ⌝ }
+{
+    kernel::frame(device, zone, time, bytes, out)
+}

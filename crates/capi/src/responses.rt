@@ -1,0 +1,217 @@
+// Responses for C: flat structs of numbers, and the kernel's responses from them and to them.
+use device::MOST;
+use device::fields::is_negative;
+use device::fields::natural_of;
+use device::holds::shown;
+use frames::Answer;
+use frames::Written;
+use messages::Amount;
+use messages::LimitResult;
+use messages::Outcome;
+use messages::Response;
+use messages::SetpointResult;
+ghost use mathlib.Core.Path.{_≡_};
+ghost use mathlib.Core.Bool.{not, _||_};
+ghost use lib.Dec.{eqb};
+ghost use lib.IntN.{negsuc};
+ghost use lib.ListN.{length};
+ghost use Rattle.planner.specs.Walk.{sameNumber};
+ghost use Rattle.frames.specs.Responses.{readResponse, responseNumber, responseItem};
+ghost use Rattle.frames.specs.Writing.{itemFrame, writtenOf, leftBy};
+ghost use Rattle.capi.specs.Responses.{amountOf, limitOf, setpointOf, outcomeOf, responseOf, flatResponse, noResponse, flatAnswer};
+
+// Absent is -1. The result stands at status 0, and for SetLimit also at 11 to 14.
+#[repr(C)]
+pub struct FlatResponse {
+    pub id: u64,
+    pub status: u64,
+    pub result: bool,
+    pub applied: bool,
+    pub state: u64,
+    pub consumption: i64,
+    pub production: i64,
+    pub reason: i64,
+}
+
+#[repr(C)]
+pub struct FlatAnswer {
+    pub number: u64,
+    pub response: FlatResponse,
+}
+
+fn is_absent(v: i64) -> bool
+    ensures { λ r. ⌜ r ≡ sameNumber v (negsuc 0) ⌝ }
+{
+    v == -1
+}
+
+fn amount_of(v: i64) -> Amount
+    ensures { λ r. ⌜ r ≡ amountOf v ⌝ }
+{
+    if is_absent(v) {
+        return Amount::Absent;
+    }
+    if is_negative(v) {
+        return Amount::Is(MOST);
+    }
+    Amount::Is(natural_of(v))
+}
+
+fn limit_of(p: FlatResponse) -> LimitResult
+    ensures { λ r. ⌜ r ≡ limitOf p ⌝ }
+{
+    LimitResult {
+        applied: p.applied,
+        state: p.state,
+        consumption: amount_of(p.consumption),
+        production: amount_of(p.production),
+        reason: amount_of(p.reason),
+    }
+}
+
+fn setpoint_of(p: FlatResponse) -> SetpointResult
+    ensures { λ r. ⌜ r ≡ setpointOf p ⌝ }
+{
+    SetpointResult {
+        consumption: amount_of(p.consumption),
+        production: amount_of(p.production),
+    }
+}
+
+fn is_limit(command: u64, applied: bool) -> bool
+    ensures { λ r. ⌜ r ≡ (eqb command 1 || not applied) ⌝ }
+{
+    (command == 1) | !applied
+}
+
+fn outcome_of(command: u64, p: FlatResponse) -> Outcome
+    ensures { λ r. ⌜ r ≡ outcomeOf command p ⌝ }
+{
+    if p.result {
+        if is_limit(command, p.applied) {
+            return Outcome::Limit(limit_of(p));
+        }
+        if command == 3 {
+            return Outcome::Setpoint(setpoint_of(p));
+        }
+        return Outcome::Success;
+    }
+    Outcome::Nothing
+}
+
+fn response_of(command: u64, p: FlatResponse) -> Response
+    ensures { λ r. ⌜ r ≡ responseOf command p ⌝ }
+{
+    Response {
+        id: p.id,
+        status: p.status,
+        outcome: outcome_of(command, p),
+    }
+}
+
+fn flat_response(r: Response, o: Outcome) -> FlatResponse
+    ensures { λ p. ⌜ p ≡ flatResponse r o ⌝ }
+{
+    match o {
+        Outcome::Nothing => FlatResponse {
+            id: r.id,
+            status: r.status,
+            result: false,
+            applied: false,
+            state: 0,
+            consumption: -1,
+            production: -1,
+            reason: -1,
+        },
+        Outcome::Limit(l) => {
+            let a = l.consumption;
+            let b = l.production;
+            let why = l.reason;
+            FlatResponse {
+                id: r.id,
+                status: r.status,
+                result: true,
+                applied: l.applied,
+                state: l.state,
+                consumption: shown(a),
+                production: shown(b),
+                reason: shown(why),
+            }
+        }
+        Outcome::Setpoint(l) => {
+            let a = l.consumption;
+            let b = l.production;
+            FlatResponse {
+                id: r.id,
+                status: r.status,
+                result: true,
+                applied: true,
+                state: 0,
+                consumption: shown(a),
+                production: shown(b),
+                reason: -1,
+            }
+        }
+        Outcome::Success => FlatResponse {
+            id: r.id,
+            status: r.status,
+            result: true,
+            applied: true,
+            state: 0,
+            consumption: -1,
+            production: -1,
+            reason: -1,
+        },
+    }
+}
+
+fn no_response() -> FlatResponse
+    ensures { λ r. ⌜ r ≡ noResponse ⌝ }
+{
+    FlatResponse {
+        id: 0,
+        status: 0,
+        result: false,
+        applied: false,
+        state: 0,
+        consumption: -1,
+        production: -1,
+        reason: -1,
+    }
+}
+
+fn flat_answer(x: Answer) -> FlatAnswer
+    ensures { λ r. ⌜ r ≡ flatAnswer x ⌝ }
+{
+    match x {
+        Answer::Is(r) => {
+            let o = r.outcome;
+            FlatAnswer {
+                number: 0,
+                response: flat_response(r, o),
+            }
+        }
+        Answer::Refused(n) => FlatAnswer {
+            number: n,
+            response: no_response(),
+        },
+    }
+}
+
+#[no_mangle]
+pub extern "C" fn cekarum_read_response(command: u64, frame: &[u8]) -> FlatAnswer
+    ensures { λ r. ⌜ r ≡ flatAnswer (readResponse command (now (frame .entry))) ⌝ }
+{
+    flat_answer(frames::read_response(command, frame))
+}
+
+#[no_mangle]
+pub extern "C" fn cekarum_write_response(
+    command: u64,
+    response: FlatResponse,
+    out: &mut [u8],
+) -> Written
+    ensures { λ w. ⌜ (w ≡ writtenOf (responseNumber command (responseOf command response)) (itemFrame (responseItem (responseOf command response))) (length (now (out .entry)))) × (now (out .exit) ≡ leftBy (responseNumber command (responseOf command response)) (itemFrame (responseItem (responseOf command response))) (now (out .entry))) ⌝ }
+{
+    frames::write_response(out, command, response_of(command, response))
+}

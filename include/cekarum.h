@@ -1,0 +1,233 @@
+/* Cekarum: the control kernel for one energy endpoint, for C.
+ *
+ * Link libcapi.a (rt staticlib capi; x86-64). The kernel has no state of its own, takes no memory and calls nothing: all that
+ * it reads and writes is what a call lends it. Every call ends with an answer, for every number and every byte it is given;
+ * nothing has to be checked first. Calls on one device must not overlap; calls on two devices may.
+ *
+ * Slices are a pointer and a count of elements. A pointer may not be NULL, not even beside the count 0 (lend any valid
+ * address). Two slices of one call may not overlap.
+ *
+ * A refusal changes nothing: neither the device nor its clock nor a lent buffer, except that cekarum_frame may write a response
+ * frame to the front of its output. Beside a refusal values are -1 and lengths 0, except the length of such a response. What
+ * lies behind a response, the rows or the pairs stays as it was.
+ */
+#ifndef CEKARUM_H
+#define CEKARUM_H
+
+#include <stdbool.h>
+#include <stdint.h>
+
+#ifdef __cplusplus
+extern "C" {
+#endif
+
+/* Words of a device. The driver lends all of them to each call and never looks inside. */
+#define CEKARUM_WORDS 101
+
+/* Enough room for every answer. */
+#define CEKARUM_FRAME_MAX 2052   /* bytes of the longest frame, prefix and payload */
+#define CEKARUM_RESPONSE_MAX 41  /* bytes of the longest response frame */
+#define CEKARUM_REQUEST_MAX 48   /* bytes of the longest request frame that is written */
+#define CEKARUM_PLAN_MAX 192     /* numbers of the longest plan: 32 rows of 6 */
+#define CEKARUM_REPORT_MAX 114   /* no report is longer: 57 pairs, every bit and every attribute a breach */
+
+/* The last second the clock can show. */
+#define CEKARUM_LAST_SECOND ((UINT64_C(1) << 40) - 1)
+
+/* Refusal numbers. Where several apply, the first in the order that a call names is given. */
+enum {
+    CEKARUM_OK = 0,
+    CEKARUM_BAD_LENGTH = 1,      /* prefix or payload length wrong */
+    CEKARUM_BAD_CBOR = 2,        /* payload is not the strict CBOR */
+    CEKARUM_BAD_MESSAGE = 3,     /* not a map, a needed key missing, or a known key with a wrong type or range */
+    CEKARUM_NOT_SERVED = 4,      /* endpoint, feature or command is not served */
+    CEKARUM_BAD_TIME = 5,        /* time before the last accepted call's, or past the last second */
+    CEKARUM_BAD_ZONE = 6,        /* join: id outside 1 to 255, or rank outside 1 to 4 */
+    CEKARUM_ALREADY = 7,         /* id already joined; link already as told; no override to clear */
+    CEKARUM_FULL = 8,            /* eight zones joined */
+    CEKARUM_NOT_JOINED = 9,      /* zone not joined */
+    CEKARUM_LINK_DOWN = 10,      /* command from a zone whose link is down */
+    CEKARUM_NOT_SUPPORTED = 11,  /* limits or setpoints not accepted, or a named direction not supported */
+    CEKARUM_OVERRIDDEN = 12,     /* SetLimit while an override is set */
+    CEKARUM_BAD_VALUE = 13,      /* a Set command with a negative value or naming neither direction */
+    CEKARUM_BELOW_MINIMUM = 14,  /* a consumption limit below the minimum */
+    CEKARUM_NO_ROOM = 15,        /* nothing else is refused, and the output is longer than the lent buffer */
+    CEKARUM_BAD_SETTINGS = 16,   /* bad settings, or conformance inputs out of range */
+    CEKARUM_NOT_ASCENDING = 17,  /* attribute list not strictly ascending */
+    CEKARUM_BAD_OVERRIDE = 18    /* override reason and direction do not go together */
+};
+
+/* Control states. */
+enum { CEKARUM_AUTONOMOUS = 0, CEKARUM_CONTROLLED = 1, CEKARUM_LIMITED = 2, CEKARUM_FAILSAFE = 3, CEKARUM_OVERRIDE = 4 };
+
+/* A refusal number and how much was written: bytes of a frame, rows of a plan, pairs of a report. */
+struct cekarum_written {
+    uint64_t number;
+    uint64_t length;
+};
+
+/* ---- starting ---- */
+
+/* No contractual maximum. */
+#define CEKARUM_NONE UINT64_MAX
+
+/* Powers in mW, 0 to 2^63 - 1. Pairs go by direction: [0] consumption, [1] production. */
+struct cekarum_settings {
+    uint64_t directions; /* supported: 0 consumption, 1 production, 2 both */
+    bool accepts_limits;
+    bool accepts_setpoints;
+    uint64_t minimum; /* the smallest consumption limit that can be set */
+    uint64_t maximum[2]; /* contractual: a higher limit is stored as this; CEKARUM_NONE: there is none */
+    uint64_t failsafe[2]; /* limits that hold while zones are joined and no link is up */
+    uint64_t failsafe_duration; /* 7,200 to 86,400 s */
+    bool energy_manager;
+};
+
+/* Makes a fresh device, with its clock at 0, whatever the words held before.
+ * Refuses: 16 for a setting out of range, or a maximum[0] below the minimum. The device is then fresh too: it accepts neither limits nor setpoints, consumption only, failsafe duration
+ * 7,200, all else 0, none or no. */
+uint64_t cekarum_start(uint64_t *device, struct cekarum_settings settings);
+
+/* ---- zones, links, override ----
+ * An accepted call moves the clock to its time. Each gives its refusal number, 0 if accepted. */
+
+/* Joins a zone, link up, with no values. Refuses: 5, 6, 7, 8. */
+uint64_t cekarum_join(uint64_t *device, uint64_t zone, uint64_t rank, uint64_t time);
+
+/* Removes a zone and all its values. Refuses: 5, 9. */
+uint64_t cekarum_leave(uint64_t *device, uint64_t zone, uint64_t time);
+
+/* A zone's link went down. When no link is up any more, the failsafe begins. Refuses: 5, 9, 7. */
+uint64_t cekarum_lost(uint64_t *device, uint64_t zone, uint64_t time);
+
+/* A zone's link is up again. Refuses: 5, 9, 7. */
+uint64_t cekarum_back(uint64_t *device, uint64_t zone, uint64_t time);
+
+/* Sets the override, or replaces it. Reasons 0 and 1 go with consumption (direction 0), 2 with either; on an energy manager
+ * also 3 with consumption and 4 with production (direction 1). Refuses: 5, 18. */
+uint64_t cekarum_override(uint64_t *device, uint64_t reason, uint64_t direction, uint64_t time);
+
+/* Clears the override. Refuses: 5, 7. */
+uint64_t cekarum_clear(uint64_t *device, uint64_t time);
+
+/* ---- what holds, and what will change ---- */
+
+/* Places in cekarum_answer's values and, after the second, in a plan's row. */
+enum {
+    CEKARUM_STATE = 0,
+    CEKARUM_LIMIT_CONSUMPTION = 1,
+    CEKARUM_LIMIT_PRODUCTION = 2,
+    CEKARUM_SETPOINT_CONSUMPTION = 3,
+    CEKARUM_SETPOINT_PRODUCTION = 4
+};
+
+/* Limits and setpoints in mW, -1 is absent. Beside a refusal all five are -1. */
+struct cekarum_answer {
+    uint64_t number;
+    int64_t values[5];
+};
+
+/* What holds at this second. Refuses: 5. */
+struct cekarum_answer cekarum_ask(uint64_t *device, uint64_t time);
+
+/* Every later second at which the control state, a limit or a setpoint changes if only the clock moves, in order: six numbers
+ * a row: second, state, limits (consumption, production), setpoints (consumption, production); -1 is absent.
+ * room is counted in numbers; CEKARUM_PLAN_MAX is always enough. length is in rows. Refuses: 5, 15. */
+struct cekarum_written cekarum_plan(uint64_t *device, uint64_t time, int64_t *rows, uint64_t room);
+
+/* ---- frames ---- */
+
+/* Applies one frame (four bytes of length, then the payload) that came from a zone, and writes the response.
+ * Refuses, in this order: 1, 2, 3 (envelope), 4, 3 (parameters), 5, 9, 10, 11, 12, 13, 14, 15. At 4, 5 and 9 to 14 the response
+ * says so in its status and is written if it has room; if it has none, length is 0 and out stays as it was. At 1, 2, 3 and 15
+ * there is no response. CEKARUM_RESPONSE_MAX bytes of room are always enough. length is in bytes. */
+struct cekarum_written cekarum_frame(uint64_t *device, uint64_t zone, uint64_t time, const uint8_t *in, uint64_t in_length,
+                                     uint8_t *out, uint64_t out_length);
+
+/* ---- messages, for the other side of the wire ---- */
+
+/* What a field of a Set command is. */
+enum { CEKARUM_ABSENT = 0, CEKARUM_NULL = 1, CEKARUM_NUMBER = 2 };
+
+struct cekarum_field {
+    uint64_t kind; /* absent, null (SetLimit alone) or a number */
+    int64_t value; /* mW; 0 when read and passed over when written, unless the kind is a number */
+};
+
+/* Commands 1 SetLimit and 3 SetSetpoint use the two fields, duration (0: until replaced) and cause; 2 ClearLimit and
+ * 4 ClearSetpoint use the direction. The other members are 0 when read and passed over when written. */
+struct cekarum_request {
+    uint64_t id;       /* 32 bits */
+    uint64_t endpoint; /* 1 is served; 8 bits */
+    uint64_t feature;  /* 5 is served; 16 bits */
+    uint64_t command;  /* 1 to 4 are served; 16 bits */
+    struct cekarum_field consumption;
+    struct cekarum_field production;
+    uint64_t duration; /* seconds, 32 bits */
+    uint64_t cause;    /* 0 to 255 */
+    bool directed;      /* whether a clear names a direction; if not, it clears both */
+    uint64_t direction; /* 0 or 1 */
+};
+
+struct cekarum_request_read {
+    uint64_t number;
+    struct cekarum_request request;
+};
+
+/* Reads a frame without applying it. Refuses: 1, 2, 3 (envelope), 4, 3 (parameters). All of the request is then 0. */
+struct cekarum_request_read cekarum_read_request(const uint8_t *in, uint64_t in_length);
+
+/* Writes a request frame; a duration of 0 is left out. Refuses: 3 for a value out of range (a kind above 2, or null in
+ * SetSetpoint, included), 4 for an endpoint, feature or command that is not served, 15. Negative values and a Set command that
+ * names neither direction are written: a device refuses them with 13. CEKARUM_REQUEST_MAX bytes of room are always enough. */
+struct cekarum_written cekarum_write_request(struct cekarum_request request, uint8_t *out, uint64_t out_length);
+
+/* The result stands at status 0, and for SetLimit also at 11 to 14. SetLimit: applied, state, the two effective limits and the
+ * reject reason; SetSetpoint: applied (true) and the two effective setpoints; the clears: applied (true). Absent is -1. */
+struct cekarum_response {
+    uint64_t id;
+    uint64_t status; /* 0, 4, 5, 9 to 14 */
+    bool result;   /* whether a result stands; if not, what follows is no, 0 or -1 when read and passed over when written */
+    bool applied;
+    uint64_t state;
+    int64_t consumption; /* mW */
+    int64_t production;
+    int64_t reason; /* 0 below minimum, 1 above contractual, 2 invalid, 3 override, 4 not supported */
+};
+
+struct cekarum_response_read {
+    uint64_t number;
+    struct cekarum_response response;
+};
+
+/* Reads the response to a command. Refuses: 4 for a command that is not served, 1, 2, 3. All is then 0, no or -1. */
+struct cekarum_response_read cekarum_read_response(uint64_t command, const uint8_t *in, uint64_t in_length);
+
+/* Writes the response to a command. Refuses: 4 for a command that is not served; 3 for a value out of range (a negative one
+ * other than -1 included), a status that is none, a result that is missing or does not stand there, or applied false in another
+ * result than SetLimit's; 15. */
+struct cekarum_written cekarum_write_response(uint64_t command, struct cekarum_response response, uint8_t *out,
+                                              uint64_t out_length);
+
+/* ---- conformance ---- */
+
+struct cekarum_inputs {
+    uint64_t type;       /* endpoint type, 0 to 10 */
+    uint64_t map;        /* feature map, 11 bits */
+    uint64_t phases;     /* 1 to 3 */
+    uint64_t directions; /* as in the settings */
+    bool accepts_limits;
+    bool accepts_current_limits;
+    bool accepts_setpoints;
+    bool has_process; /* process state is not NONE */
+};
+
+/* Every breach, once, ascending: two numbers a pair, group then bit or attribute. room is counted in numbers;
+ * CEKARUM_REPORT_MAX is always enough. length is in pairs. Refuses: 16, 17, 15. */
+struct cekarum_written cekarum_report(struct cekarum_inputs inputs, const uint16_t *attributes, uint64_t count, uint64_t *pairs,
+                                      uint64_t room);
+
+#ifdef __cplusplus
+}
+#endif
+#endif

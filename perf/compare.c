@@ -1,0 +1,447 @@
+/* Drives two kernels with one random mix of calls and compares all that can be seen: numbers, lengths, response bytes, rows,
+   pairs, values, what lies behind them in the lent buffers, and that a refusal leaves the device as it was.
+   Words: how many calls (default 1,000,000), the seed (default 1). Ends with 'N compared, 0 differ'; stops early at 100
+   differences. */
+#include "kernel.h"
+#include "mix.h"
+#include <stdio.h>
+#include <stdlib.h>
+#include <string.h>
+
+enum { OUT = 128, ROWS = 6 * PLAIN_ROWS + 16, PAIRS = 2 * PLAIN_PAIRS + 16, CALLS = 15, NUMBERS = 19 };
+
+enum call {
+    START,
+    JOIN,
+    LEAVE,
+    LOST,
+    BACK,
+    OVERRIDE,
+    CLEAR,
+    ASK,
+    FRAME,
+    PLAN,
+    READ_REQUEST,
+    WRITE_REQUEST,
+    READ_RESPONSE,
+    WRITE_RESPONSE,
+    REPORT
+};
+
+static const char *const call_names[CALLS] = {
+    [START] = "start",
+    [JOIN] = "join",
+    [LEAVE] = "leave",
+    [LOST] = "lost",
+    [BACK] = "back",
+    [OVERRIDE] = "override",
+    [CLEAR] = "clear",
+    [ASK] = "ask",
+    [FRAME] = "frame",
+    [PLAN] = "plan",
+    [READ_REQUEST] = "read_request",
+    [WRITE_REQUEST] = "write_request",
+    [READ_RESPONSE] = "read_response",
+    [WRITE_RESPONSE] = "write_response",
+    [REPORT] = "report",
+};
+
+/* One kernel's side: its device, what it was lent and what it answered. */
+struct side {
+    const struct kernel *k;
+    void *device, *before;
+    uint64_t number, length;
+    int64_t value[5];
+    uint8_t out[OUT];
+    int64_t rows[ROWS];
+    uint64_t pairs[PAIRS];
+    struct plain_request request;
+    struct plain_response response;
+};
+
+/* One call, as both kernels get it. */
+struct ask {
+    enum call call;
+    uint64_t zone, time, a, b; /* a, b: rank, reason and direction, or the named command */
+    size_t room;
+    struct plain_settings settings;
+    struct plain_request request;
+    struct plain_response response;
+    struct plain_inputs inputs;
+    uint16_t attributes[80];
+    size_t attribute_count;
+    struct bytes in;
+};
+
+static struct side sides[2];
+static struct ask ask;
+static struct plain_settings settings; /* of the device as it is */
+static uint64_t compared, differ, most_rows, most_pairs, longest_in, clock_now;
+static uint64_t counts[CALLS][NUMBERS], answered[NUMBERS], unanswered[NUMBERS];
+
+static uint64_t call_one(struct side *s, const struct ask *q)
+{
+    const struct kernel *k = s->k;
+    struct plain_written w = {0, 0};
+    struct plain_answer a;
+    switch (q->call) {
+    case START:
+        return k->start(s->device, &q->settings);
+    case JOIN:
+        return k->join(s->device, q->zone, q->a, q->time);
+    case LEAVE:
+        return k->leave(s->device, q->zone, q->time);
+    case LOST:
+        return k->lost(s->device, q->zone, q->time);
+    case BACK:
+        return k->back(s->device, q->zone, q->time);
+    case OVERRIDE:
+        return k->override(s->device, q->a, q->b, q->time);
+    case CLEAR:
+        return k->clear(s->device, q->time);
+    case ASK:
+        a = k->ask(s->device, q->time);
+        memcpy(s->value, a.value, sizeof s->value);
+        return a.number;
+    case FRAME:
+        w = k->frame(s->device, q->zone, q->time, q->in.at, q->in.n, s->out, q->room);
+        break;
+    case PLAN:
+        w = k->plan(s->device, q->time, s->rows, q->room);
+        break;
+    case READ_REQUEST:
+        return k->read_request(q->in.at, q->in.n, &s->request);
+    case WRITE_REQUEST:
+        w = k->write_request(&q->request, s->out, q->room);
+        break;
+    case READ_RESPONSE:
+        return k->read_response(q->a, q->in.at, q->in.n, &s->response);
+    case WRITE_RESPONSE:
+        w = k->write_response(q->a, &q->response, s->out, q->room);
+        break;
+    case REPORT:
+        w = k->report(&q->inputs, q->attributes, q->attribute_count, s->pairs, q->room);
+        break;
+    }
+    s->length = w.length;
+    return w.number;
+}
+
+static bool same_request(const struct plain_request *x, const struct plain_request *y)
+{
+    if (x->id != y->id || x->endpoint != y->endpoint || x->feature != y->feature || x->command != y->command)
+        return false;
+    if (x->command == 2 || x->command == 4)
+        return x->has_direction == y->has_direction && (!x->has_direction || x->direction == y->direction);
+    for (unsigned i = 0; i < 2; i++)
+        if (x->field[i].kind != y->field[i].kind ||
+            (x->field[i].kind == PLAIN_NUMBER && x->field[i].value != y->field[i].value))
+            return false;
+    return x->duration == y->duration && x->cause == y->cause;
+}
+
+static bool same_response(const struct plain_response *x, const struct plain_response *y)
+{
+    return x->id == y->id && x->status == y->status && x->has_result == y->has_result && x->applied == y->applied &&
+           x->state == y->state && x->value[0] == y->value[0] && x->value[1] == y->value[1] && x->reason == y->reason;
+}
+
+/* The first thing in which the two sides differ, or NULL. */
+static const char *difference(const struct side *x, const struct side *y, const struct ask *q)
+{
+    if (x->number != y->number)
+        return "numbers";
+    if (x->length != y->length)
+        return "lengths";
+    if (memcmp(x->value, y->value, sizeof x->value) != 0)
+        return "values";
+    if (memcmp(x->out, y->out, sizeof x->out) != 0)
+        return "output bytes";
+    if (memcmp(x->rows, y->rows, sizeof x->rows) != 0)
+        return "rows";
+    if (memcmp(x->pairs, y->pairs, sizeof x->pairs) != 0)
+        return "pairs";
+    if (x->number != 0)
+        return NULL;
+    if (q->call == READ_REQUEST && !same_request(&x->request, &y->request))
+        return "requests";
+    if (q->call == READ_RESPONSE && !same_response(&x->response, &y->response))
+        return "responses";
+    return NULL;
+}
+
+static void print_bytes(const char *what, const uint8_t *p, size_t n)
+{
+    printf("  %s ", what);
+    for (size_t i = 0; i < n; i++)
+        printf("%02x", p[i]);
+    putchar('\n');
+}
+
+static void complain(const char *what)
+{
+    differ++;
+    if (differ > 10)
+        return;
+    printf("call %lu, %s: %s\n", compared, call_names[ask.call], what);
+    printf("  zone %lu time %lu a %lu b %lu room %lu\n", ask.zone, ask.time, ask.a, ask.b, ask.room);
+    if (ask.call == FRAME || ask.call == READ_REQUEST || ask.call == READ_RESPONSE)
+        print_bytes("in", ask.in.at, ask.in.n);
+    for (unsigned i = 0; i < 2; i++) {
+        struct side *s = &sides[i];
+        printf("  %s: number %lu, length %lu, values %ld %ld %ld %ld %ld\n", s->k->name, s->number, s->length, s->value[0],
+               s->value[1], s->value[2], s->value[3], s->value[4]);
+        if (s->length > 0 && s->length <= OUT && ask.call != PLAN && ask.call != REPORT)
+            print_bytes("out", s->out, s->length);
+    }
+}
+
+/* Beside an answer: no number outside the table, and a refusal leaves the device as it was. */
+static void judge_one(const struct side *s)
+{
+    if (s->number >= NUMBERS)
+        complain("a number outside the table");
+    if (s->number != 0 && ask.call != START && memcmp(s->device, s->before, s->k->size) != 0)
+        complain("a refusal changed the device");
+}
+
+static void tally(const struct side *s)
+{
+    if (s->number < NUMBERS) {
+        counts[ask.call][s->number]++;
+        if (ask.call == FRAME)
+            *(s->length > 0 ? &answered[s->number] : &unanswered[s->number]) += 1;
+    }
+    if (ask.call == PLAN && s->length > most_rows)
+        most_rows = s->length;
+    if (ask.call == REPORT && s->length > most_pairs)
+        most_pairs = s->length;
+    if ((ask.call == FRAME || ask.call == READ_REQUEST) && s->number == 0 && ask.in.n > longest_in)
+        longest_in = ask.in.n;
+}
+
+/* Makes the call on both sides, over buffers with the same random filling. */
+static uint64_t both(void)
+{
+    uint8_t fill = (uint8_t)mix_any();
+    for (unsigned i = 0; i < 2; i++) {
+        struct side *s = &sides[i];
+        s->length = 0;
+        memset(s->value, fill, sizeof s->value);
+        memset(s->out, fill, sizeof s->out);
+        if (ask.call == PLAN)
+            memset(s->rows, fill, sizeof s->rows);
+        if (ask.call == REPORT)
+            memset(s->pairs, fill, sizeof s->pairs);
+        memcpy(s->before, s->device, s->k->size);
+        s->number = call_one(s, &ask);
+        judge_one(s);
+    }
+    const char *what = difference(&sides[0], &sides[1], &ask);
+    if (what != NULL)
+        complain(what);
+    tally(&sides[0]);
+    compared++;
+    uint64_t number = sides[0].number;
+    if (ask.call == START) {
+        settings = ask.settings;
+        clock_now = 0;
+    } else if (number == 0 && ask.call <= PLAN) {
+        clock_now = ask.time;
+    }
+    return number;
+}
+
+/* ---- the mix ---- */
+
+static uint64_t some_time(void)
+{
+    switch (mix_below(1000)) {
+    case 0 ... 499:
+        return clock_now;
+    case 500 ... 799:
+        return clock_now + mix_below(4);
+    case 800 ... 939:
+        return clock_now + mix_below(60);
+    case 940 ... 959:
+        return clock_now + mix_below(9000);
+    case 960 ... 964:
+        return clock_now + mix_below(100000);
+    case 965 ... 984:
+        return clock_now - 1 - mix_below(3);
+    case 985 ... 990:
+        return PLAIN_LAST_SECOND + 1 + mix_below(3);
+    case 991:
+        return PLAIN_LAST_SECOND - mix_below(8000);
+    case 992 ... 995:
+        return mix_any();
+    default:
+        return clock_now + 7198 + mix_below(5);
+    }
+}
+
+static uint64_t some_zone(void)
+{
+    static const uint64_t odd[] = {0, 255, 256, 257, 259, 65536 + 3, (1UL << 32) + 4, UINT64_MAX, 254};
+    if (mix_chance(30))
+        return odd[mix_below(sizeof odd / sizeof *odd)];
+    return 1 + mix_below(mix_chance(800) ? 8 : 12);
+}
+
+static size_t some_room(size_t enough)
+{
+    return mix_chance(850) ? enough : mix_below(enough + 1);
+}
+
+static void mix_call(void)
+{
+    static const enum call often[] = {FRAME, FRAME, FRAME, FRAME, FRAME, FRAME, FRAME,    FRAME, FRAME, FRAME, PLAN, PLAN,
+                                      ASK,   ASK,   JOIN,  JOIN,  JOIN,  JOIN,  LEAVE,    LOST,  BACK,  BACK,  BACK, OVERRIDE,
+                                      CLEAR, CLEAR, CLEAR};
+    ask.call = mix_chance(900) ? often[mix_below(sizeof often / sizeof *often)] : READ_REQUEST + mix_below(5);
+    ask.zone = some_zone();
+    ask.time = some_time();
+    ask.room = some_room(64);
+    switch (ask.call) {
+    case JOIN:
+        ask.a = mix_chance(950) ? 1 + mix_below(4) : mix_chance(800) ? mix_below(6) : mix_any();
+        break;
+    case OVERRIDE:
+        ask.a = mix_chance(950) ? mix_below(5) : mix_chance(800) ? 5 : mix_any();
+        ask.b = mix_chance(950) ? mix_below(2) : mix_chance(800) ? 2 : mix_any();
+        break;
+    case PLAN:
+        ask.room = mix_chance(200) ? mix_below(40) : some_room(ROWS);
+        break;
+    case FRAME:
+    case READ_REQUEST:
+        mix_request(&ask.in, &settings);
+        break;
+    case WRITE_REQUEST:
+        mix_request_fields(&ask.request, &settings);
+        break;
+    case READ_RESPONSE:
+        ask.a = mix_chance(980) ? 1 + mix_below(4) : mix_chance(500) ? mix_below(7) : mix_any();
+        mix_response(&ask.in);
+        break;
+    case WRITE_RESPONSE:
+        ask.a = mix_chance(980) ? 1 + mix_below(4) : mix_chance(500) ? mix_below(7) : mix_any();
+        mix_response_fields(ask.a, &ask.response);
+        break;
+    case REPORT:
+        ask.room = some_room(PAIRS);
+        mix_inputs(&ask.inputs, ask.attributes, &ask.attribute_count);
+        break;
+    default:
+        break;
+    }
+}
+
+static void start(bool sound)
+{
+    ask.call = START;
+    mix_settings(&ask.settings, sound);
+    both();
+}
+
+/* Writes a Set command's frame with the first kernel's writer. */
+static void set_frame(uint64_t command, uint64_t consumption, uint64_t production, uint64_t lasts)
+{
+    struct plain_request r = {.id = mix_any() >> 32, .endpoint = 1, .feature = 5, .command = command, .duration = lasts};
+    r.field[0] = (struct plain_field){PLAIN_NUMBER, (int64_t)consumption};
+    r.field[1] = (struct plain_field){PLAIN_NUMBER, (int64_t)production};
+    if (mix_chance(200))
+        r.field[mix_below(2)].kind = PLAIN_ABSENT;
+    ask.in.n = first_kernel.write_request(&r, ask.in.at, MIX_MOST).length;
+}
+
+/* Eight zones whose values give way to one another, so that plans grow long: up to 32 rows where all parts differ. */
+static void crowd(void)
+{
+    start(true);
+    uint64_t began = mix_chance(50) ? PLAIN_LAST_SECOND - 200 : mix_below(1000);
+    bool even = mix_chance(500);
+    for (unsigned i = 0; i < 8; i++) {
+        ask.call = JOIN;
+        ask.zone = 1 + i;
+        ask.time = began;
+        ask.a = even ? 1 + i / 2 : 1 + mix_below(4);
+        both();
+    }
+    for (unsigned i = 0; i < 8; i++)
+        for (unsigned j = 0; j < 4; j++) {
+            uint64_t lasts = even ? 1 + 4 * i + j : 1 + mix_below(40);
+            struct plain_request r = {.id = i, .endpoint = 1, .feature = 5, .command = j < 2 ? 1 : 3, .duration = lasts};
+            r.field[j % 2] = (struct plain_field){PLAIN_NUMBER, (int64_t)(settings.minimum + (even ? i : mix_below(9)))};
+            ask.call = FRAME;
+            ask.zone = 1 + i;
+            ask.room = 64;
+            ask.in.n = first_kernel.write_request(&r, ask.in.at, MIX_MOST).length;
+            both();
+        }
+    for (unsigned i = 0; i < 6; i++) {
+        ask.call = PLAN;
+        ask.time = clock_now + mix_below(2);
+        ask.room = i == 5 ? 6 * PLAIN_ROWS : mix_below(6 * PLAIN_ROWS + 2);
+        both();
+    }
+    if (mix_chance(500)) {
+        ask.call = FRAME;
+        ask.zone = 1 + mix_below(8);
+        set_frame(1 + 2 * mix_below(2), settings.minimum + 5, 5, mix_below(90));
+        both();
+    }
+}
+
+static void print_counts(void)
+{
+    bool all = true;
+    printf("%-15s", "call");
+    for (unsigned n = 0; n < NUMBERS; n++)
+        printf(" %7u", n);
+    putchar('\n');
+    for (unsigned c = 0; c <= CALLS; c++) {
+        printf("%-15s", c < CALLS ? call_names[c] : "all");
+        for (unsigned n = 0; n < NUMBERS; n++) {
+            uint64_t v = 0;
+            for (unsigned i = 0; i < CALLS; i++)
+                v += i == c || c == CALLS ? counts[i][n] : 0;
+            all = all && (c < CALLS || v > 0);
+            if (v == 0)
+                printf("       .");
+            else
+                printf(" %7lu", v);
+        }
+        putchar('\n');
+    }
+    printf("frames refused with a response:");
+    for (unsigned n = 1; n < NUMBERS; n++)
+        if (answered[n] > 0)
+            printf(" %u: %lu (and %lu without room)", n, answered[n], unanswered[n]);
+    printf("\nlongest plan %lu rows, longest report %lu pairs, longest accepted frame %lu bytes\n", most_rows, most_pairs,
+           longest_in);
+    printf("every number reached: %s\n", all ? "yes" : "NO");
+}
+
+int main(int argc, char **argv)
+{
+    uint64_t calls = argc > 1 ? strtoul(argv[1], NULL, 10) : 1000000;
+    mix_seed(argc > 2 ? strtoul(argv[2], NULL, 10) : 1);
+    for (unsigned i = 0; i < 2; i++) {
+        sides[i].k = i == 0 ? &first_kernel : &second_kernel;
+        sides[i].device = calloc(1, sides[i].k->size);
+        sides[i].before = calloc(1, sides[i].k->size);
+    }
+    start(false);
+    while (compared < calls && differ < 100) {
+        if (mix_chance(5))
+            start(mix_chance(850));
+        else if (mix_chance(2))
+            crowd();
+        mix_call();
+        both();
+    }
+    print_counts();
+    printf("%lu compared, %lu differ\n", compared, differ);
+    return differ != 0;
+}

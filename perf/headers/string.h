@@ -1,0 +1,12 @@
+#ifndef STRING_H
+#define STRING_H
+#include <stddef.h>
+void *memcpy(void *to, const void *from, size_t n);
+void *memmove(void *to, const void *from, size_t n);
+void *memset(void *to, int c, size_t n);
+int memcmp(const void *a, const void *b, size_t n);
+void *memchr(const void *s, int c, size_t n);
+int strcmp(const char *a, const char *b);
+size_t strlen(const char *s);
+char *strchr(const char *s, int c);
+#endif

@@ -1,0 +1,50 @@
+/* plain.c as a kernel of the harness. With other.h in front it is the second one, under other names. */
+#include "kernel.h"
+
+#ifndef KERNEL
+#define KERNEL first_kernel
+#define KERNEL_NAME "plain"
+#endif
+
+static uint64_t start(void *d, const struct plain_settings *s) { return plain_start(d, s); }
+static uint64_t join(void *d, uint64_t zone, uint64_t rank, uint64_t time) { return plain_join(d, zone, rank, time); }
+static uint64_t leave(void *d, uint64_t zone, uint64_t time) { return plain_leave(d, zone, time); }
+static uint64_t lost(void *d, uint64_t zone, uint64_t time) { return plain_lost(d, zone, time); }
+static uint64_t back(void *d, uint64_t zone, uint64_t time) { return plain_back(d, zone, time); }
+static uint64_t clear(void *d, uint64_t time) { return plain_clear(d, time); }
+static struct plain_answer ask(void *d, uint64_t time) { return plain_ask(d, time); }
+
+static uint64_t override(void *d, uint64_t reason, uint64_t direction, uint64_t time)
+{
+    return plain_override(d, reason, direction, time);
+}
+
+static struct plain_written frame(void *d, uint64_t zone, uint64_t time, const uint8_t *in, size_t n, uint8_t *out, size_t room)
+{
+    return plain_frame(d, zone, time, in, n, out, room);
+}
+
+static struct plain_written plan(void *d, uint64_t time, int64_t *rows, size_t room)
+{
+    return plain_plan(d, time, rows, room);
+}
+
+const struct kernel KERNEL = {
+    .name = KERNEL_NAME,
+    .size = sizeof(struct plain),
+    .start = start,
+    .join = join,
+    .leave = leave,
+    .lost = lost,
+    .back = back,
+    .override = override,
+    .clear = clear,
+    .ask = ask,
+    .frame = frame,
+    .plan = plan,
+    .read_request = plain_read_request,
+    .write_request = plain_write_request,
+    .read_response = plain_read_response,
+    .write_response = plain_write_response,
+    .report = plain_report,
+};

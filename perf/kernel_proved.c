@@ -1,0 +1,124 @@
+/* The proved kernel's exports as the second kernel of the harness. */
+#include "cekarum.h"
+#include "kernel.h"
+
+/* A maximum that is told and is the largest number is out of range, as the number below it is; told alone it would be none. */
+static uint64_t maximum(bool has, uint64_t value) { return !has ? CEKARUM_NONE : value == CEKARUM_NONE ? value - 1 : value; }
+
+static uint64_t start(void *d, const struct plain_settings *s)
+{
+    struct cekarum_settings t = {.directions = s->directions,
+                                 .accepts_limits = s->accepts_limits,
+                                 .accepts_setpoints = s->accepts_setpoints,
+                                 .minimum = s->minimum,
+                                 .maximum = {maximum(s->has_maximum[0], s->maximum[0]), maximum(s->has_maximum[1], s->maximum[1])},
+                                 .failsafe = {s->failsafe[0], s->failsafe[1]},
+                                 .failsafe_duration = s->duration,
+                                 .energy_manager = s->manager};
+    return cekarum_start(d, t);
+}
+
+static uint64_t join(void *d, uint64_t zone, uint64_t rank, uint64_t time) { return cekarum_join(d, zone, rank, time); }
+static uint64_t leave(void *d, uint64_t zone, uint64_t time) { return cekarum_leave(d, zone, time); }
+static uint64_t lost(void *d, uint64_t zone, uint64_t time) { return cekarum_lost(d, zone, time); }
+static uint64_t back(void *d, uint64_t zone, uint64_t time) { return cekarum_back(d, zone, time); }
+static uint64_t clear(void *d, uint64_t time) { return cekarum_clear(d, time); }
+
+static uint64_t override(void *d, uint64_t reason, uint64_t direction, uint64_t time)
+{
+    return cekarum_override(d, reason, direction, time);
+}
+
+static struct plain_answer ask(void *d, uint64_t time)
+{
+    struct cekarum_answer a = cekarum_ask(d, time);
+    return (struct plain_answer){a.number, {a.values[0], a.values[1], a.values[2], a.values[3], a.values[4]}};
+}
+
+static struct plain_written written(struct cekarum_written w)
+{
+    return (struct plain_written){w.number, w.length};
+}
+
+static struct plain_written frame(void *d, uint64_t zone, uint64_t time, const uint8_t *in, size_t n, uint8_t *out, size_t room)
+{
+    return written(cekarum_frame(d, zone, time, in, n, out, room));
+}
+
+static struct plain_written plan(void *d, uint64_t time, int64_t *rows, size_t room)
+{
+    return written(cekarum_plan(d, time, rows, room));
+}
+
+static uint64_t read_request(const uint8_t *in, size_t n, struct plain_request *r)
+{
+    struct cekarum_request_read got = cekarum_read_request(in, n);
+    struct cekarum_request q = got.request;
+    *r = (struct plain_request){.id = q.id,
+                                .endpoint = q.endpoint,
+                                .feature = q.feature,
+                                .command = q.command,
+                                .field = {{q.consumption.kind, q.consumption.value}, {q.production.kind, q.production.value}},
+                                .duration = q.duration,
+                                .cause = q.cause,
+                                .has_direction = q.directed,
+                                .direction = q.direction};
+    return got.number;
+}
+
+static struct plain_written write_request(const struct plain_request *r, uint8_t *out, size_t room)
+{
+    struct cekarum_request q = {.id = r->id,
+                                .endpoint = r->endpoint,
+                                .feature = r->feature,
+                                .command = r->command,
+                                .consumption = {r->field[0].kind, r->field[0].value},
+                                .production = {r->field[1].kind, r->field[1].value},
+                                .duration = r->duration,
+                                .cause = r->cause,
+                                .directed = r->has_direction,
+                                .direction = r->direction};
+    return written(cekarum_write_request(q, out, room));
+}
+
+static uint64_t read_response(uint64_t command, const uint8_t *in, size_t n, struct plain_response *r)
+{
+    struct cekarum_response_read got = cekarum_read_response(command, in, n);
+    struct cekarum_response p = got.response;
+    *r = (struct plain_response){p.id, p.status, p.result, p.applied, p.state, {p.consumption, p.production}, p.reason};
+    return got.number;
+}
+
+static struct plain_written write_response(uint64_t command, const struct plain_response *r, uint8_t *out, size_t room)
+{
+    struct cekarum_response p = {r->id, r->status, r->has_result, r->applied, r->state, r->value[0], r->value[1], r->reason};
+    return written(cekarum_write_response(command, p, out, room));
+}
+
+static struct plain_written report(const struct plain_inputs *in, const uint16_t *attributes, size_t n, uint64_t *pairs,
+                                   size_t room)
+{
+    struct cekarum_inputs i = {in->type,   in->map,     in->phases,    in->directions,
+                               in->limits, in->current, in->setpoints, in->process};
+    return written(cekarum_report(i, attributes, n, pairs, room));
+}
+
+const struct kernel second_kernel = {
+    .name = "proved",
+    .size = 8 * CEKARUM_WORDS,
+    .start = start,
+    .join = join,
+    .leave = leave,
+    .lost = lost,
+    .back = back,
+    .override = override,
+    .clear = clear,
+    .ask = ask,
+    .frame = frame,
+    .plan = plan,
+    .read_request = read_request,
+    .write_request = write_request,
+    .read_response = read_response,
+    .write_response = write_response,
+    .report = report,
+};

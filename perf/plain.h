@@ -1,0 +1,107 @@
+/* Document 01 in plain C: the yardstick that the proved kernel is compared with. No heap, no libc state. */
+#ifndef PLAIN_H
+#define PLAIN_H
+#include <stdbool.h>
+#include <stddef.h>
+#include <stdint.h>
+
+enum { PLAIN_ZONES = 8, PLAIN_ROWS = 32, PLAIN_PAIRS = 64 };
+
+/* The longest response and the longest request that a writer makes, prefix included. */
+enum { PLAIN_RESPONSE_MAX = 41, PLAIN_REQUEST_MAX = 48, PLAIN_FRAME_MAX = 2052 };
+
+#define PLAIN_LAST_SECOND ((UINT64_C(1) << 40) - 1)
+#define PLAIN_LARGEST ((uint64_t)INT64_MAX)
+
+struct plain_settings {
+    uint64_t directions; /* 0 consumption, 1 production, 2 both */
+    bool accepts_limits, accepts_setpoints;
+    uint64_t minimum;
+    bool has_maximum[2];
+    uint64_t maximum[2];
+    uint64_t failsafe[2];
+    uint64_t duration;
+    bool manager;
+};
+
+struct plain_held {
+    uint64_t value, until; /* holds while t < until; never set is {0, 0} */
+};
+
+/* held: limit consumption, limit production, setpoint consumption, setpoint production */
+struct plain_zone {
+    uint16_t id; /* 0: a free slot */
+    uint8_t rank;
+    bool up;
+    struct plain_held held[4];
+};
+
+struct plain {
+    struct plain_settings settings;
+    uint64_t clock, since; /* since: the second since which no link is up */
+    bool overridden;
+    uint8_t joined, up; /* counts of zones */
+    struct plain_zone zones[PLAIN_ZONES];
+};
+
+/* A refusal number and a length: bytes of a frame, rows of a plan, pairs of a report. */
+struct plain_written {
+    uint64_t number, length;
+};
+
+/* Values: control state, two limits, two setpoints; -1 is absent. */
+struct plain_answer {
+    uint64_t number;
+    int64_t value[5];
+};
+
+enum { PLAIN_ABSENT, PLAIN_NULL, PLAIN_NUMBER };
+
+struct plain_field {
+    uint64_t kind;
+    int64_t value;
+};
+
+/* Commands 1 and 3 use field, duration and cause; 2 and 4 use direction (0, 1, or absent: has_direction false). */
+struct plain_request {
+    uint64_t id, endpoint, feature, command;
+    struct plain_field field[2];
+    uint64_t duration, cause;
+    bool has_direction;
+    uint64_t direction;
+};
+
+/* value: limits or setpoints, -1 is absent; reason: -1 is absent. */
+struct plain_response {
+    uint64_t id, status;
+    bool has_result, applied;
+    uint64_t state;
+    int64_t value[2], reason;
+};
+
+struct plain_inputs {
+    uint64_t type, map, phases, directions;
+    bool limits, current, setpoints, process;
+};
+
+uint64_t plain_start(struct plain *d, const struct plain_settings *s);
+uint64_t plain_join(struct plain *d, uint64_t zone, uint64_t rank, uint64_t time);
+uint64_t plain_leave(struct plain *d, uint64_t zone, uint64_t time);
+uint64_t plain_lost(struct plain *d, uint64_t zone, uint64_t time);
+uint64_t plain_back(struct plain *d, uint64_t zone, uint64_t time);
+uint64_t plain_override(struct plain *d, uint64_t reason, uint64_t direction, uint64_t time);
+uint64_t plain_clear(struct plain *d, uint64_t time);
+struct plain_answer plain_ask(struct plain *d, uint64_t time);
+struct plain_written plain_frame(struct plain *d, uint64_t zone, uint64_t time, const uint8_t *in, size_t n, uint8_t *out,
+                                 size_t room);
+struct plain_written plain_plan(struct plain *d, uint64_t time, int64_t *rows, size_t room);
+
+uint64_t plain_read_request(const uint8_t *in, size_t n, struct plain_request *r);
+struct plain_written plain_write_request(const struct plain_request *r, uint8_t *out, size_t room);
+uint64_t plain_read_response(uint64_t command, const uint8_t *in, size_t n, struct plain_response *r);
+struct plain_written plain_write_response(uint64_t command, const struct plain_response *r, uint8_t *out, size_t room);
+
+/* Pairs: two numbers each, group then bit or attribute. */
+struct plain_written plain_report(const struct plain_inputs *in, const uint16_t *attributes, size_t n, uint64_t *pairs,
+                                  size_t room);
+#endif
