@@ -1,4 +1,5 @@
--- What is proved of reading and writing, each stated once; proofs/RoundTrips.antt has the proofs. Assumes nothing: these are statements.
+-- What is proved of reading and writing, each stated once. The proof of RequestReadsBack is request-reads-back, in proofs/, and so for the others.
+-- Assumes nothing: these are statements.
 use Prim.Native.Nat.{ℕ, _^_, _≤_, _<_}
 use mathlib.Core.Path.{_≡_}
 use mathlib.Core.Bool.{true, false, cond, _&&_, _||_}
