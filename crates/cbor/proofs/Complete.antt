@@ -1,16 +1,15 @@
 -- A well-formed item is read where its encoding stands. Assumes nothing.
-use Prim.Native.Nat.{ℕ, zero, suc, _+_, _-_, _^_, _<_, _≤_}
+use Prim.Native.Nat.{ℕ, zero, suc, _+_, _-_, _^_, _<_}
 use mathlib.Core.Path.{_≡_, refl, sym, ap, _∙_}
 use mathlib.Core.List.{List, _++_, append-assoc}
 use native.Mathlib.Omega.{arith}
-use lib.ListN.{length, take, drop, length-append}
+use lib.ListN.{length, drop, length-append}
 use lib.Seq.{take-append-seam}
 use borrow.Author.Tests.{le-leb}
 use Rattle.cbor.specs.Head.{headBytes, headLen, headAt, Within}
-use Rattle.cbor.specs.Item.{Item, Items, Pairs, Got, got, bad, andThen, keyAt, keyed, itemsAt, pairsAt, stringAt, fromHead, itemAt, encode, encodeItems, encodePairs, count, countPairs, Ok, OkItems, OkPairs}
+use Rattle.cbor.specs.Item.{Item, Items, Pairs, Got, got, bad, keyAt, itemsAt, pairsAt, fromHead, itemAt, encode, encodeItems, encodePairs, count, countPairs, Ok, OkItems, OkPairs}
 use Rattle.cbor.specs.Laws.{ItemReadsBack}
 use Rattle.cbor.specs.declared.heads.Head.{Head}
-use Rattle.cbor.specs.declared.items.Key.{Key}
 use Rattle.cbor.proofs.Numbers.{past, room}
 use Rattle.cbor.proofs.Widths.{head-length}
 use Rattle.cbor.proofs.HeadLaws.{head-reads-back}

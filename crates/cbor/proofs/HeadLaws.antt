@@ -1,15 +1,15 @@
 -- Heads: what stands at a position is read there, and what is read stands there. Assumes nothing.
-use Prim.Native.Nat.{ℕ, suc, _+_, _-_, _*_, _/_, _%_, _^_, _<_, _≤_}
-use mathlib.Core.Path.{_≡_, refl, sym, ap, subst, _∙_}
+use Prim.Native.Nat.{ℕ, _+_, _-_, _*_, _/_, _%_, _^_, _<_, _≤_}
+use mathlib.Core.Path.{_≡_, refl, ap, _∙_}
 use mathlib.Core.Logic.{⊎-elim}
 use mathlib.Core.Bool.{Bool, true, false, cond}
 use mathlib.Core.List.{List, [], _∷_, _++_}
 use native.Mathlib.Omega.{arith}
 use lib.ListN.{length, getD, drop}
 use lib.Dec.{leb, ltb, eqb}
-use borrow.Author.Tests.{lt-leb, le-leb, le-ltb, lt-ltb, ltb-true, ltb-false, leb-true, leb-false, eqb-true, eq-eqb}
+use borrow.Author.Tests.{lt-leb, le-leb, le-ltb, lt-ltb, ltb-true, leb-true, leb-false, eqb-true, eq-eqb}
 use Rattle.cbor.specs.Bytes.{numberAt, bytesOf, Bytes, Stands}
-use Rattle.cbor.specs.Head.{infoOf, widthOf, headBytes, headLen, wideAt, argAt, allowed, withMajor, headFrom, headAt, Within}
+use Rattle.cbor.specs.Head.{infoOf, widthOf, headBytes, headLen, wideAt, argAt, allowed, withMajor, headAt, Within}
 use Rattle.cbor.specs.Laws.{HeadReadsBack, HeadExact}
 use Rattle.cbor.specs.declared.heads.Arg.{Arg}
 use Rattle.cbor.specs.declared.heads.Head.{Head}

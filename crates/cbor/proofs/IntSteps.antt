@@ -8,7 +8,7 @@ use native.Mathlib.Nat.{zero-add}
 use mir.Val.{toZ, ofZ, SFits}
 use mir.ValLaws.{toZ-ofZ}
 use mir.Syntax.{w64}
-use lib.IntN.{ℤ, pos, negsuc, _-ℤ_}
+use lib.IntN.{pos, negsuc, _-ℤ_}
 use borrow.Author.Tests.{lt-ltb, le-ltb, ne-eqb}
 use Rattle.cbor.specs.Head.{headAt}
 use Rattle.cbor.specs.Int.{intAt}

@@ -8,9 +8,9 @@ use native.Mathlib.Omega.{arith}
 use lib.ListN.{length, take, drop, length-append}
 use lib.Dec.{leb, eqb}
 use borrow.Author.Tests.{ne-eqb}
-use Rattle.cbor.specs.Bytes.{Bytes, Stands}
+use Rattle.cbor.specs.Bytes.{Bytes}
 use Rattle.cbor.specs.Head.{headBytes, headAt}
-use Rattle.cbor.specs.Item.{Item, Items, Pairs, Got, got, bad, andThen, keyAt, keyed, itemsAt, pairsAt, stringAt, fromHead, itemAt, endOf, stringEnd, levels, payloadOf, isSome, encode, encodeItems, encodePairs, count, countPairs}
+use Rattle.cbor.specs.Item.{Item, Items, Pairs, Got, got, bad, andThen, keyAt, itemsAt, pairsAt, stringAt, fromHead, itemAt, endOf, stringEnd, levels, payloadOf, isSome, encode, encodeItems, encodePairs, count, countPairs}
 use Rattle.cbor.specs.declared.heads.Head.{Head}
 use Rattle.cbor.specs.declared.items.Key.{Key}
 use Rattle.cbor.specs.declared.items.End.{End}

@@ -9,7 +9,7 @@ use lib.ListN.{length, getD, drop, length-append, length-drop, List·getD-eq-def
 use lib.Seq.{getD-drop, drop-drop, drop-cons, drop-append-seam}
 use mir.Val.{Fits}
 use mir.Syntax.{w8}
-use Rattle.cbor.specs.Bytes.{numberAt, bytesOf, Bytes, Stands}
+use Rattle.cbor.specs.Bytes.{numberAt, bytesOf, Bytes}
 use Rattle.cbor.specs.Laws.{NumberExact}
 
 -- a slice of bytes holds bytes

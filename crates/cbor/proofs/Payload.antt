@@ -1,15 +1,14 @@
 -- Items against their encodings: exactly these are read, and no two share one. Assumes nothing.
-use Prim.Native.Nat.{ℕ, _+_, _≤_}
-use mathlib.Core.Path.{_≡_, refl, sym, ap, subst, _∙_}
+use Prim.Native.Nat.{ℕ, _+_}
+use mathlib.Core.Path.{_≡_, refl, sym, ap, _∙_}
 use mathlib.Core.Bool.{Bool, true, false, cond}
-use mathlib.Core.Option.{Option, some, none}
+use mathlib.Core.Option.{some, none}
 use mathlib.Core.List.{List, [], _++_, append-nil}
 use native.Mathlib.Omega.{arith}
 use lib.ListN.{length, drop}
 use lib.Seq.{drop-length}
 use lib.Dec.{eqb}
 use borrow.Author.Tests.{eqb-true, eq-eqb}
-use Rattle.cbor.specs.Bytes.{Bytes, Stands}
 use Rattle.cbor.specs.Head.{headBytes}
 use Rattle.cbor.specs.Item.{Item, Got, got, bad, itemAt, encode, Ok, levels, endsAt, payloadOf}
 use Rattle.cbor.specs.Laws.{ItemExact, PayloadExact, NoneBeginsAnother, OneItem, HeadWritten, ItemWritten}

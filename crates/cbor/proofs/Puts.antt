@@ -9,7 +9,7 @@ use lib.ListN.{length, set, take, drop, length-append}
 use lib.Seq.{sets, sets-eq, set-comm, length-sets, length-take-le, drop-at}
 use lib.Dec.{leb}
 use borrow.Author.Tests.{le-leb, lt-leb, leb-true, leb-false}
-use Rattle.cbor.specs.Bytes.{bytesOf, put, putWhole, pastWhole, Stands}
+use Rattle.cbor.specs.Bytes.{bytesOf, put, putWhole, pastWhole}
 use Rattle.cbor.specs.Laws.{PutsJoin, PutStands}
 use Rattle.cbor.proofs.Numbers.{bytes-length, past}
 

@@ -1,8 +1,8 @@
 -- Pairs with ascending keys are known by what they hold under each key. Assumes nothing.
 use Prim.Native.Nat.{ℕ, _+_, _<_, _≤_}
-use mathlib.Core.Path.{_≡_, refl, sym, ap, _∙_}
+use mathlib.Core.Path.{_≡_, refl, sym, _∙_}
 use mathlib.Core.Logic.{⊎-elim}
-use mathlib.Core.Option.{Option, some, none}
+use mathlib.Core.Option.{none}
 use native.Mathlib.Omega.{arith}
 use Rattle.cbor.specs.Item.{Item, Pairs, Ok, OkPairs}
 use Rattle.cbor.specs.Find.{valueOf}

@@ -3,15 +3,15 @@ use Prim.Native.Nat.{ℕ, zero, suc, _+_, _-_, _^_, _<_, _≤_}
 use mathlib.Core.Path.{_≡_, refl, sym, ap, subst, subst₂, _∙_}
 use mathlib.Core.Logic.{⊎-elim}
 use mathlib.Core.Bool.{Bool, true, false, cond}
-use mathlib.Core.List.{List, [], _∷_, _++_, append-assoc}
+use mathlib.Core.List.{List, [], _++_, append-assoc}
 use native.Mathlib.Omega.{arith}
-use lib.ListN.{length, getD, take, drop, length-append, length-take, length-drop, take-append-drop}
+use lib.ListN.{length, take, drop, length-append, length-take, length-drop, take-append-drop}
 use lib.Seq.{drop-drop, getD-take, getD-drop}
 use lib.Dec.{leb, eqb}
 use borrow.Author.Tests.{leb-true, eqb-true, eqb-false, lt-leb}
 use Rattle.cbor.specs.Bytes.{Bytes, Stands}
-use Rattle.cbor.specs.Head.{headBytes, headAt, Within, allowed}
-use Rattle.cbor.specs.Item.{Item, Items, Pairs, Got, got, bad, andThen, keyOf, keyAt, keyed, itemsAt, pairsAt, stringAt, fromHead, itemAt, encode, encodeItems, encodePairs, count, countPairs, Ok, OkItems, OkPairs}
+use Rattle.cbor.specs.Head.{headBytes, headAt, Within}
+use Rattle.cbor.specs.Item.{Item, Items, Pairs, Got, got, bad, andThen, keyOf, keyAt, keyed, itemsAt, pairsAt, fromHead, itemAt, encode, encodeItems, encodePairs, count, countPairs, Ok, OkItems, OkPairs}
 use Rattle.cbor.specs.declared.heads.Head.{Head}
 use Rattle.cbor.specs.declared.items.Key.{Key}
 use Rattle.cbor.proofs.Order.{below}

@@ -1,24 +1,21 @@
 -- Walks over the pairs of a map: what they find is what the map holds. Assumes nothing.
-use Prim.Native.Nat.{ℕ, zero, suc, _+_, _-_, _≤_, _<_}
-use mathlib.Core.Path.{_≡_, refl, sym, ap, subst, _∙_}
-use mathlib.Core.Logic.{⊎-elim, _⊎_, inl, inr}
-use mathlib.Core.Bool.{Bool, true, false}
+use Prim.Native.Nat.{ℕ, zero, suc, _+_, _≤_, _<_}
+use mathlib.Core.Path.{_≡_, refl, sym, ap, _∙_}
+use mathlib.Core.Logic.{⊎-elim}
 use mathlib.Core.List.{List}
 use mathlib.Core.Option.{Option, some, none}
 use native.Mathlib.Omega.{arith}
 use lib.ListN.{drop}
 use borrow.Author.Tests.{le-leb, lt-ltb, le-ltb, eq-eqb, ne-eqb}
-use Rattle.cbor.specs.Bytes.{Bytes, Stands}
+use Rattle.cbor.specs.Bytes.{Bytes}
 use Rattle.cbor.specs.Head.{headAt, headLen}
-use Rattle.cbor.specs.Item.{Item, Pairs, Got, got, andThen, keyAt, keyed, pairsAt, fromHead, itemAt, endOf, countPairs}
-use Rattle.cbor.specs.Find.{valueOf, stopped, stepAt, seekAt, foundBy, findAt}
+use Rattle.cbor.specs.Item.{Item, Pairs, Got, got, keyAt, pairsAt, fromHead, itemAt, countPairs}
+use Rattle.cbor.specs.Find.{valueOf, stepAt, seekAt, foundBy, findAt}
 use Rattle.cbor.specs.Int.{intOf, intFrom, intAt}
-use Rattle.cbor.specs.Laws.{IntExact, Walking, Sought, WalkStarts, SeekExact, Finds, FindExact}
+use Rattle.cbor.specs.Laws.{IntExact, Sought, WalkStarts, SeekExact, Finds, FindExact}
 use Rattle.cbor.specs.declared.heads.Head.{Head}
 use Rattle.cbor.specs.declared.items.Key.{Key}
-use Rattle.cbor.specs.declared.items.End.{End}
 use Rattle.cbor.specs.declared.pairs.Stop.{Stop}
-use Rattle.cbor.specs.declared.pairs.Found.{Found}
 use Rattle.cbor.proofs.Order.{below}
 use Rattle.cbor.proofs.Sound.{then-inv, keyed-inv, key-found}
 use Rattle.cbor.proofs.Complete.{majorOf, argOf, item-head}

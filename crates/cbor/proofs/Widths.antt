@@ -1,14 +1,13 @@
 -- The five widths of an argument, taken together. Assumes nothing.
-use Prim.Native.Nat.{ℕ, suc, _+_, _^_, _<_, _≤_}
-use mathlib.Core.Path.{_≡_, refl}
+use Prim.Native.Nat.{ℕ, _+_, _^_, _<_, _≤_}
+use mathlib.Core.Path.{_≡_}
 use mathlib.Core.Logic.{⊎-elim}
 use native.Mathlib.Omega.{arith}
 use borrow.Author.Tests.{lt-ltb, le-ltb, ne-eqb}
 use mathlib.Core.Bool.{Bool, true, false, cond}
-use lib.ListN.{length}
 use lib.Dec.{eqb}
 use Rattle.cbor.specs.Head.{infoOf, widthOf, headLen, headBytes}
-use Rattle.cbor.specs.Laws.{HeadLength}
+use Rattle.cbor.specs.Laws.{HeadLength, HeadShort}
 use Rattle.cbor.proofs.Order.{below}
 use Rattle.cbor.proofs.Numbers.{bytes-length}
 
@@ -59,9 +58,9 @@ info-high v k = by-width (λ i w. 24 ≤ i) v (λ h. omega arith) (λ g h. omega
 pub width-enough : (v : ℕ) → 24 ≤ v → v < 2 ^ 64 → v < 256 ^ widthOf (infoOf v)
 width-enough v k l = by-width (λ i w. v < 256 ^ w) v (λ h. omega arith) (λ g h. omega arith) (λ g h. omega arith) (λ g h. omega arith) (λ g. omega arith)
 
-pub len-small : (v : ℕ) → headLen v ≤ 9
+pub head-short : HeadShort
 unfolding headLen
-len-small v = by-width (λ i w. 1 + w ≤ 9) v (λ h. omega arith) (λ g h. omega arith) (λ g h. omega arith) (λ g h. omega arith) (λ g. omega arith)
+head-short v = by-width (λ i w. 1 + w ≤ 9) v (λ h. omega arith) (λ g h. omega arith) (λ g h. omega arith) (λ g h. omega arith) (λ g. omega arith)
 
 pub head-length : HeadLength
 unfolding headLen headBytes

@@ -1,11 +1,10 @@
 -- Items of the strict subset as trees, their one encoding, which are well formed, and the decoder. Assumes nothing: these are definitions.
 use Prim.Native.Nat.{ℕ, zero, suc, _+_, _-_, _^_, _≤_, _<_}
-use mathlib.Core.Path.{_≡_}
 use mathlib.Core.Bool.{Bool, true, false, cond}
-use mathlib.Core.List.{List, [], _∷_, _++_}
+use mathlib.Core.List.{List, [], _++_}
 use mathlib.Core.Option.{Option, some, none as nothing}
 use lib.ListN.{length, take, drop}
-use lib.Dec.{ltb, leb, eqb}
+use lib.Dec.{leb, eqb}
 use Rattle.cbor.specs.Bytes.{Bytes}
 use Rattle.cbor.specs.Head.{headBytes, headAt}
 use Rattle.cbor.specs.declared.heads.Head.{Head}

@@ -10,7 +10,7 @@ use lib.ListN.{length, drop}
 use lib.IntN.{pos, negsuc, _-ℤ_}
 use Rattle.cbor.specs.Bytes.{numberAt, bytesOf, Bytes, Stands, putWhole, pastWhole}
 use Rattle.cbor.specs.Head.{headBytes, headAt, headLen, Within}
-use Rattle.cbor.specs.Item.{Item, Pairs, Got, got, itemAt, pairsAt, encode, Ok, OkPairs, levels, payloadOf}
+use Rattle.cbor.specs.Item.{Item, Pairs, got, itemAt, pairsAt, encode, Ok, OkPairs, levels, payloadOf}
 use Rattle.cbor.specs.Int.{intOf, intAt}
 use Rattle.cbor.specs.Find.{valueOf, seekAt, findAt}
 use Rattle.cbor.specs.declared.heads.Head.{Head}
@@ -24,6 +24,10 @@ NumberExact = (s : List ℕ) → Bytes s → (w p v : ℕ) → p + w ≤ length 
 -- a head is as long as headLen says
 abbrev pub HeadLength : Type 0
 HeadLength = (m v : ℕ) → length (headBytes m v) ≡ headLen v
+
+-- and that is nine bytes at most
+abbrev pub HeadShort : Type 0
+HeadShort = (v : ℕ) → headLen v ≤ 9
 
 -- a head that stands in a list is read there, whatever its width
 abbrev pub HeadReadsBack : Type 0

@@ -1,28 +1,27 @@
 -- A command in three steps: the decision as the code makes it, what it is answered, and what it leaves, are those of the one call.
-use Prim.Native.Nat.{ℕ, _<_, _≤_}
-use mathlib.Core.Bool.{Bool, true, false, cond, not, _&&_, _||_}
-use mathlib.Core.Path.{_≡_, refl, sym, ap, _∙_}
-use mathlib.Core.List.{List, [], _∷_}
+use Prim.Native.Nat.{ℕ}
+use mathlib.Core.Bool.{Bool, true, false, cond, not}
+use mathlib.Core.Path.{_≡_, refl, sym, _∙_}
+use mathlib.Core.List.{List}
 use native.Mathlib.Omega.{arith}
 use borrow.Author.Tests.{ltb-true, eq-eqb, ne-eqb, eqb-true, eqb-false}
 use lib.Dec.{ltb, eqb}
-use lib.ListN.{length, getD, set}
+use lib.ListN.{length, getD}
 use Rattle.messages.specs.declared.Command.{Command}
 use Rattle.messages.specs.declared.Outcome.{Outcome}
 use Rattle.device.specs.Sizes.{helds, slots, words}
-use Rattle.device.specs.Zones.{upTo, freeZone, isJoined, isUp, slotOf, joined, zoneOf, heldOf}
+use Rattle.device.specs.Zones.{freeZone, isJoined, isUp, slotOf, joined, zoneOf}
 use Rattle.device.specs.Words.{clockOf, sinceOf, overrideOf, settingsOf, zonesOf, applied, after}
-use Rattle.device.specs.Holds.{Situation, situationOf, withZone, valuesAt}
+use Rattle.device.specs.Holds.{situationOf, withZone}
 use Rattle.device.specs.Refusals.{firstOf, late}
 use Rattle.device.specs.Calls.{zoneChange}
-use Rattle.device.specs.Commands.{isUnserved, unsupported, isSetLimit, invalid, belowTheMinimum, commandTests, commandNumber, done, action, untilOf, durationOf, obeyed, commandAfter, isCapped, outcomeWith, commandAnswer, decisionOf, outcomeFor, enacted}
+use Rattle.device.specs.Commands.{isUnserved, commandTests, commandNumber, obeyed, commandAfter, commandAnswer, decisionOf, outcomeFor, enacted}
 use Rattle.device.specs.declared.Zone.{Zone}
-use Rattle.device.specs.declared.Settings.{Settings}
 use Rattle.device.specs.declared.Change.{Change}
 use Rattle.device.specs.declared.Decision.{Decision}
 use Rattle.device.proofs.Runs.{length-upTo}
 use Rattle.device.proofs.Effects.{applied-settings, applied-zones, applied-since, applied-override}
-use Rattle.device.proofs.Slots.{seat, seat-joined, seat-slot, joined-above}
+use Rattle.device.proofs.Slots.{seat, seat-joined, seat-slot}
 use Rattle.device.proofs.Answered.{refusal-keeps}
 use Rattle.device.proofs.Changes.{up-change, joined-there}
 use Rattle.device.proofs.Gather.{with-none}

@@ -1,13 +1,11 @@
 -- What a command set is claimed until its second of expiry, and not from that second on.
-use Prim.Native.Nat.{ℕ, _+_, _<_, _≤_, min}
-use mathlib.Core.Bool.{Bool, true, false, cond, _&&_}
-use mathlib.Core.Path.{_≡_, refl, _∙_}
+use Prim.Native.Nat.{ℕ, _+_, _<_, _≤_}
+use mathlib.Core.Path.{_≡_, refl}
 use native.Mathlib.Nat.{min-eq-left}
-use lib.Dec.{eqb}
 use lib.ListN.{getD}
 use Rattle.messages.specs.declared.Command.{Command}
 use Rattle.device.specs.Sizes.{helds, most}
-use Rattle.device.specs.Zones.{nothing, upTo, isJoined, heldOf}
+use Rattle.device.specs.Zones.{nothing, isJoined, heldOf}
 use Rattle.device.specs.Holds.{claimOf}
 use Rattle.device.specs.Commands.{action, durationOf, untilOf, done, obeyed}
 use Rattle.device.specs.Table.{endOf, Expiry}

@@ -1,18 +1,17 @@
 -- The one pass over the zones is the record of the separate passes, and the table read from it is the table.
 use Prim.Native.Nat.{ℕ, _<_}
-use mathlib.Core.Bool.{Bool, true, false, cond, not, _&&_, _||_}
+use mathlib.Core.Bool.{Bool, true, false, _||_}
 use mathlib.Core.Path.{_≡_, refl, sym, ap, _∙_}
 use mathlib.Core.List.{List, [], _∷_, foldl}
 use borrow.Author.Tests.{eq-eqb, ne-eqb}
 use native.Mathlib.Omega.{arith}
-use lib.ListN.{length, getD, set, replicate, length-set}
+use lib.ListN.{length, getD, set, length-set}
 use lib.Seq.{getD-set-same, getD-set-other, set-out}
-use lib.IntN.{ℤ, pos}
 use Rattle.device.specs.Sizes.{helds, slots}
 use Rattle.device.specs.Zones.{upTo, any, freeZone, isJoined, isUp, anyJoined, anyUp}
 use Rattle.device.specs.Words.{zonesOf}
-use Rattle.device.specs.Holds.{noClaim, claimOf, better, winner, Situation, situationOf, withZone, inFailsafe, failsafeValue, valueAt, stateAt, shown, valuesAt}
-use Rattle.device.specs.Pass.{noneMet, gatheredWith, gathered, failsafeFrom, failsafeOf, valueFrom, limitedFrom, stateFrom, valuesFrom}
+use Rattle.device.specs.Holds.{noClaim, claimOf, better, winner, Situation, situationOf, withZone, inFailsafe, valueAt, stateAt, shown, valuesAt}
+use Rattle.device.specs.Pass.{noneMet, gatheredWith, gathered, failsafeFrom, valueFrom, limitedFrom, stateFrom, valuesFrom}
 use Rattle.device.specs.declared.Zone.{Zone}
 use Rattle.device.specs.declared.Settings.{Settings}
 use Rattle.device.specs.declared.Claim.{Claim}
@@ -78,7 +77,7 @@ module _ (s : Situation) (t : ℕ) where
   failsafe-row = refl
 
   value-row : (q : ℕ) → q < helds → valueFrom (s .settings) all (inFailsafe s t) q ≡ valueAt s t q
-  unfolding valueFrom valueAt failsafeOf failsafeValue gathered
+  unfolding valueFrom valueAt gathered
   value-row q h = rw (getD-upTo (λ k. winner t k (s .zones)) helds q noClaim h)
 
   values-row : valuesFrom (s .settings) all (inFailsafe s t) (s .override) ≡ valuesAt s t

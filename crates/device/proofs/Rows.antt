@@ -1,21 +1,20 @@
 -- The four rows of the table of links, and the control state: what `Table` promises holds in every situation, at every second.
 use Prim.Native.Nat.{ℕ, _+_, _<_, _≤_}
 use mathlib.Core.Bool.{Bool, true, false, cond, not, _&&_, _||_}
-use mathlib.Core.Logic.{_⊎_, inl, inr, _↔_}
+use mathlib.Core.Logic.{inl, inr}
 use mathlib.Core.Path.{_≡_, refl, sym, ap, _∙_}
 use mathlib.Core.List.{List, [], _∷_}
 use native.Mathlib.Decide.{decLt}
 use native.Mathlib.Omega.{arith}
 use borrow.Author.Tests.{lt-ltb, le-ltb, ltb-false}
 use lib.Dec.{ltb, eqb}
-use lib.ListN.{length, getD}
+use lib.ListN.{getD}
 use Rattle.messages.specs.Numbers.{AUTONOMOUS, CONTROLLED, LIMITED, FAILSAFE, OVERRIDE}
-use Rattle.messages.specs.declared.Amount.{Amount}
 use Rattle.messages.specs.declared.Amount.the-variants.{Absent, Is}
 use Rattle.device.specs.Zones.{freeZone, any, isJoined, isUp, anyJoined, anyUp, heldOf}
 use Rattle.device.specs.Holds.{isLimit, directionOf, supports, claimOf, goesBefore, winner, amountOf, Situation, inFailsafe, failsafeValue, valueAt, present, stateAt}
 use Rattle.device.specs.Refusals.{firstOf}
-use Rattle.device.specs.Table.{Unexpired, Some, Each, SmallestLimit, NoBetter, BestSetpoint, SomeUp, NoneUp, StateOrder, Table}
+use Rattle.device.specs.Table.{Unexpired, Some, SmallestLimit, NoBetter, BestSetpoint, SomeUp, NoneUp, StateOrder, Table}
 use Rattle.device.specs.declared.Zone.{Zone}
 use Rattle.device.specs.declared.Claim.{Claim}
 use Rattle.device.proofs.Before.{never, not-earlier}
@@ -62,7 +61,7 @@ module _ (s : Situation) (t : ℕ) where
     unfolding valueAt
     value-there v = go (supported q) refl
       where
-        go : (b : Bool) → supported q ≡ b → cond b (cond (anyUp (s .zones)) (amountOf best) (cond (inFailsafe s t) (failsafeValue s q) Absent)) Absent ≡ Is v → (best .there ≡ true) × (best .value ≡ v)
+        go : (b : Bool) → supported q ≡ b → cond b (cond (anyUp (s .zones)) (amountOf best) (cond (inFailsafe s t) (failsafeValue (s .settings) q) Absent)) Absent ≡ Is v → (best .there ≡ true) × (best .value ≡ v)
         go true e f = amount-there best v (rw up at f)
         go false e f = let z : _≡_ {A = ℕ} 0 1 = cc in absurd (omega arith)
 
@@ -120,7 +119,7 @@ module _ (s : Situation) (t : ℕ) where
     unfolding inFailsafe
     row-is = rw (down, joined)
 
-    in-row : t < s .since + s .settings .duration → (stateAt s t ≡ FAILSAFE) × ((q : ℕ) → supported q ≡ true → valueAt s t q ≡ failsafeValue s q)
+    in-row : t < s .since + s .settings .duration → (stateAt s t ≡ FAILSAFE) × ((q : ℕ) → supported q ≡ true → valueAt s t q ≡ failsafeValue (s .settings) q)
     unfolding stateAt valueAt
     in-row h =
         let r : inFailsafe s t ≡ true = row-is ∙ lt-ltb t (s .since + s .settings .duration) h in

@@ -1,7 +1,7 @@
 -- Signed numbers of a request: below 0, or a natural number.
-use Prim.Native.Nat.{ℕ, zero, suc}
+use Prim.Native.Nat.{ℕ}
 use native.Mathlib.Omega.{arith}
-use mathlib.Core.Bool.{Bool, true, false, not}
+use mathlib.Core.Bool.{true, false}
 use mathlib.Core.Path.{_≡_, refl, sym, _∙_}
 use lib.Dec.{T, leb·suc-zero}
 use lib.IntN.{ℤ, pos, negsuc, natAbs}

@@ -1,8 +1,8 @@
 -- What holds at a second t: document 01's table of links, and the control state.
-use Prim.Native.Nat.{ℕ, zero, suc, _+_, _/_, _%_}
+use Prim.Native.Nat.{ℕ, _+_, _%_}
 use mathlib.Core.Bool.{Bool, true, false, cond, not, _&&_, _||_}
-use mathlib.Core.List.{List, [], _∷_, foldl}
-use lib.Dec.{ltb, leb, eqb}
+use mathlib.Core.List.{List, _∷_, foldl}
+use lib.Dec.{ltb, eqb}
 use lib.ListN.{getD, set}
 use lib.IntN.{ℤ, pos, negsuc}
 use Rattle.messages.specs.Numbers.{AUTONOMOUS, CONTROLLED, LIMITED, FAILSAFE, OVERRIDE}
@@ -72,15 +72,15 @@ unfoldable pub inFailsafe : Situation → ℕ → Bool
 inFailsafe s t = not (anyUp (s .zones)) && (anyJoined (s .zones) && ltb t (s .since + s .settings .duration))
 
 -- the second row of a quantity: "the failsafe limit"; setpoints are absent
-unfoldable pub failsafeValue : Situation → ℕ → Amount
-failsafeValue s q = cond (isLimit q) (Is (getD (s .settings .failsafe) q 0)) Absent
+unfoldable pub failsafeValue : Settings → ℕ → Amount
+failsafeValue s q = cond (isLimit q) (Is (getD (s .failsafe) q 0)) Absent
 
 -- the four rows; "an unsupported direction is always absent"
 unfoldable pub valueAt : Situation → ℕ → ℕ → Amount
 valueAt s t q =
     cond (supports (s .settings .directions) (directionOf q))
     (cond (anyUp (s .zones)) (amountOf (winner t q (s .zones)))
-    (cond (inFailsafe s t) (failsafeValue s q) Absent))
+    (cond (inFailsafe s t) (failsafeValue (s .settings) q) Absent))
     Absent
 
 unfoldable pub present : Amount → Bool

@@ -1,16 +1,16 @@
 -- One pass over the zones, and the table read from what it gathers. The public contracts cite none of this: it parts the work of `holds`.
 use Prim.Native.Nat.{ℕ, _+_}
-use mathlib.Core.Bool.{Bool, true, false, cond, not, _&&_, _||_}
-use mathlib.Core.List.{List, [], _∷_}
+use mathlib.Core.Bool.{Bool, false, cond, not, _&&_, _||_}
+use mathlib.Core.List.{List, _∷_}
 use lib.Dec.{ltb, eqb}
 use lib.ListN.{getD, replicate}
 use lib.IntN.{ℤ, pos}
 use Rattle.messages.specs.Numbers.{AUTONOMOUS, CONTROLLED, LIMITED, FAILSAFE, OVERRIDE}
 use Rattle.messages.specs.declared.Amount.{Amount}
-use Rattle.messages.specs.declared.Amount.the-variants.{Absent, Is}
+use Rattle.messages.specs.declared.Amount.the-variants.{Absent}
 use Rattle.device.specs.Sizes.{helds}
 use Rattle.device.specs.Zones.{upTo, isJoined, isUp, anyJoined, anyUp}
-use Rattle.device.specs.Holds.{isLimit, directionOf, supports, noClaim, claimOf, better, winner, amountOf, present, shown}
+use Rattle.device.specs.Holds.{directionOf, supports, noClaim, claimOf, better, winner, amountOf, failsafeValue, present, shown}
 use Rattle.device.specs.declared.Zone.{Zone}
 use Rattle.device.specs.declared.Settings.{Settings}
 use Rattle.device.specs.declared.holds.Gathered.{Gathered}
@@ -30,17 +30,14 @@ gatheredWith t g x =
 unfoldable pub gathered : ℕ → List Zone → Gathered
 gathered t zs = record { joined = anyJoined zs; up = anyUp zs; claims = upTo (λ q. winner t q zs) helds }
 
--- the second row, the failsafe limit, and the four rows
+-- the second row, and the four rows
 unfoldable pub failsafeFrom : Gathered → ℕ → ℕ → ℕ → Bool
 failsafeFrom g since duration t = not (g .up) && (g .joined && ltb t (since + duration))
-
-unfoldable pub failsafeOf : Settings → ℕ → Amount
-failsafeOf s q = cond (isLimit q) (Is (getD (s .failsafe) q 0)) Absent
 
 unfoldable pub valueFrom : Settings → Gathered → Bool → ℕ → Amount
 valueFrom s g safe q =
     cond (supports (s .directions) (directionOf q))
-    (cond (g .up) (amountOf (getD (g .claims) q noClaim)) (cond safe (failsafeOf s q) Absent))
+    (cond (g .up) (amountOf (getD (g .claims) q noClaim)) (cond safe (failsafeValue s q) Absent))
     Absent
 
 -- a limit is present; the control state; the five values

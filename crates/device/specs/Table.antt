@@ -1,6 +1,6 @@
 -- What the table of links promises, in the tender's words: one statement for all quantities and directions.
 use Prim.Native.Nat.{ℕ, _+_, _<_, _≤_}
-use mathlib.Core.Bool.{Bool, true, false, cond, not, _&&_, _||_}
+use mathlib.Core.Bool.{true, false, cond, not, _||_}
 use mathlib.Core.Logic.{_⊎_, _↔_}
 use mathlib.Core.Path.{_≡_}
 use mathlib.Core.List.{List, [], _∷_}
@@ -10,12 +10,11 @@ use Rattle.messages.specs.Numbers.{CONTROLLED, LIMITED, FAILSAFE, OVERRIDE}
 use Rattle.messages.specs.declared.Amount.the-variants.{Absent, Is}
 use Rattle.device.specs.Sizes.{helds, most}
 use Rattle.device.specs.Zones.{freeZone, isJoined, anyJoined, anyUp, heldOf}
-use Rattle.device.specs.Holds.{isLimit, directionOf, supports, claimOf, goesBefore, winner, Situation, inFailsafe, failsafeValue, valueAt, present, stateAt}
+use Rattle.device.specs.Holds.{isLimit, directionOf, supports, noClaim, claimOf, goesBefore, winner, Situation, inFailsafe, failsafeValue, valueAt, present, stateAt}
 use Rattle.device.specs.Refusals.{firstOf}
 use Rattle.device.specs.Commands.{action, durationOf, obeyed}
 use Rattle.device.specs.declared.Zone.{Zone}
 use Rattle.device.specs.declared.Settings.{Settings}
-use Rattle.device.specs.declared.Claim.{Claim}
 use Rattle.device.specs.declared.Action.{Action}
 use Rattle.messages.specs.declared.Command.{Command}
 
@@ -57,7 +56,7 @@ pub record SomeUp (s : Situation) (t q : ℕ) : Type 0 where
 
 -- the second and third rows: the failsafe limit holds below since + duration, and from that second on nothing does
 pub record NoneUp (s : Situation) (t : ℕ) : Type 0 where
-  pub before : t < s .since + s .settings .duration → (stateAt s t ≡ FAILSAFE) × ((q : ℕ) → supports (s .settings .directions) (directionOf q) ≡ true → valueAt s t q ≡ failsafeValue s q)
+  pub before : t < s .since + s .settings .duration → (stateAt s t ≡ FAILSAFE) × ((q : ℕ) → supports (s .settings .directions) (directionOf q) ≡ true → valueAt s t q ≡ failsafeValue (s .settings) q)
   pub past : s .since + s .settings .duration ≤ t → (stateAt s t ≡ FAILSAFE → ⊥) × ((q : ℕ) → valueAt s t q ≡ Absent)
 
 -- "FAILSAFE in the second row; else OVERRIDE if set; else LIMITED if a limit is present; else CONTROLLED if a zone is up"; else AUTONOMOUS, which is 0
@@ -89,4 +88,4 @@ Expiry s c x =
     → claimOf t q (obeyed s c n x)
     ≡ cond (ltb t (endOf n (durationOf c)))
     (record { there = true; value = v; rank = x .rank; id = x .id })
-    (record { there = false; value = 0; rank = 0; id = 0 })
+    noClaim

@@ -25,11 +25,11 @@ ghost use lib.IntN.{pos};
 ghost use Rattle.device.specs.Sizes.{helds, slots};
 ghost use Rattle.device.specs.Zones.{upTo, freeZone};
 ghost use Rattle.device.specs.Words.{zonesOf};
-ghost use Rattle.device.specs.Holds.{noClaim, claimOf, better, amountOf, present, shown, situationOf, withZone, valuesAt};
-ghost use Rattle.device.specs.Pass.{noneMet, gatheredWith, gathered, failsafeFrom, failsafeOf, valueFrom, limitedFrom, stateFrom, valuesFrom};
+ghost use Rattle.device.specs.Holds.{noClaim, claimOf, better, amountOf, failsafeValue, present, shown, situationOf, withZone, valuesAt};
+ghost use Rattle.device.specs.Pass.{noneMet, gatheredWith, gathered, failsafeFrom, valueFrom, limitedFrom, stateFrom, valuesFrom};
 
 // What a pass over the zones gathers: is one joined, is one up, and the winning claim of each quantity.
-pub struct Gathered {
+struct Gathered {
     pub joined: bool,
     pub up: bool,
     pub claims: [Claim; HELDS],
@@ -134,7 +134,7 @@ fn amount_of(c: Claim) -> Amount
 }
 
 fn failsafe_value(s: Settings, q: usize) -> Amount
-    ensures { λ r. ⌜ r ≡ failsafeOf s q ⌝ }
+    ensures { λ r. ⌜ r ≡ failsafeValue s q ⌝ }
 {
     if q < 2 {
         return Amount::Is(s.failsafe[q]);

@@ -32,7 +32,7 @@ numberFrom ws z t (Reading.Unserved i) room = 4
 numberFrom ws z t (Reading.Is r) room = writingNumber (commandNumber ws z t (r .command)) (responseFrame ws z t (Reading.Is r)) room
 
 -- "where that frame has no room, the number stands and nothing is written"
-unfoldable pub answerFrom : List ℕ → ℕ → ℕ → Reading → ℕ → Framed
+abbrev pub answerFrom : List ℕ → ℕ → ℕ → Reading → ℕ → Framed
 answerFrom ws z t reading room =
     record {
       number = numberFrom ws z t reading room;
@@ -45,22 +45,22 @@ obeyedBy ws z t (Reading.Refused n) = ws
 obeyedBy ws z t (Reading.Unserved i) = ws
 obeyedBy ws z t (Reading.Is r) = commandAfter ws z t (r .command)
 
-unfoldable pub afterFrom : List ℕ → ℕ → ℕ → Reading → ℕ → List ℕ
+abbrev pub afterFrom : List ℕ → ℕ → ℕ → Reading → ℕ → List ℕ
 afterFrom ws z t reading room = cond (eqb (numberFrom ws z t reading room) 0) (obeyedBy ws z t reading) ws
 
 -- the output: "the response frame from the front of the output buffer", past it as it was
-unfoldable pub outFrom : List ℕ → ℕ → ℕ → Reading → List ℕ → List ℕ
+abbrev pub outFrom : List ℕ → ℕ → ℕ → Reading → List ℕ → List ℕ
 outFrom ws z t reading out = putWhole out 0 (responseFrame ws z t reading)
 
 -- THE CALL: zone z, second t, the frame's bytes, the output
-abbrev pub frameNumber : List ℕ → ℕ → ℕ → List ℕ → ℕ → ℕ
+unfoldable pub frameNumber : List ℕ → ℕ → ℕ → List ℕ → ℕ → ℕ
 frameNumber ws z t bytes room = numberFrom ws z t (readRequest bytes) room
 
-abbrev pub frameAnswer : List ℕ → ℕ → ℕ → List ℕ → ℕ → Framed
+unfoldable pub frameAnswer : List ℕ → ℕ → ℕ → List ℕ → ℕ → Framed
 frameAnswer ws z t bytes room = answerFrom ws z t (readRequest bytes) room
 
-abbrev pub frameAfter : List ℕ → ℕ → ℕ → List ℕ → ℕ → List ℕ
+unfoldable pub frameAfter : List ℕ → ℕ → ℕ → List ℕ → ℕ → List ℕ
 frameAfter ws z t bytes room = afterFrom ws z t (readRequest bytes) room
 
-abbrev pub frameOut : List ℕ → ℕ → ℕ → List ℕ → List ℕ → List ℕ
+unfoldable pub frameOut : List ℕ → ℕ → ℕ → List ℕ → List ℕ → List ℕ
 frameOut ws z t bytes out = outFrom ws z t (readRequest bytes) out
