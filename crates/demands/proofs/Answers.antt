@@ -67,7 +67,7 @@ first-passes p (x ∷ l) e z = let q = both (p (x .1)) (each p l) e in go (x .0)
 -- A FRAME
 module _ (ws : List ℕ) (z t room : ℕ) where
   request-first : (r : Request) → firstOf (requestTests ws z t room r) ≡ numberFrom ws z t (Reading.Is r) room
-  unfolding requestTests numberFrom writingNumber commandNumber firstOf Rattle.messages.specs.Refusals.firstOf each
+  unfolding requestTests numberFrom writingNumber commandNumber firstOf each
   request-first r = first-append (commandTests (clockOf ws) (joined (zonesOf ws) z) (zoneOf (zonesOf ws) z .up) (settingsOf ws) (overrideOf ws) t (r .command))
       ((not (leb (length (responseFrame ws z t (Reading.Is r))) room), 15) ∷ []) refl
 

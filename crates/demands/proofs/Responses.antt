@@ -18,6 +18,7 @@ use Rattle.frames.specs.declared.requests.Reading.{Reading}
 use Rattle.device.specs.Zones.{joined, zoneOf}
 use Rattle.device.specs.Words.{clockOf, overrideOf, settingsOf, zonesOf}
 use Rattle.device.specs.Commands.{commandTests, commandNumber}
+use Rattle.messages.specs.Refusals.{firstOf}
 use Rattle.kernel.specs.Frame.{responseTo, responseFrame, numberFrom, frameNumber, frameAnswer, frameOut}
 use Rattle.demands.specs.Answers.{Responds}
 use Rattle.demands.proofs.Lists.{never}
@@ -51,7 +52,7 @@ module _ (ws : List ℕ) (z t : ℕ) (out : List ℕ) where
         none = λ e. unfold numberFrom isStatus in never (sym e);
         some = λ e. unfold numberFrom responseFrame in (statusAlone i 4, refl, refl, refl);
       }
-  reading-responds (Reading.Is r) p = unfold numberFrom writingNumber Rattle.messages.specs.Refusals.firstOf in go (eqb n 0) refl (leb (length bytes) (length out)) refl
+  reading-responds (Reading.Is r) p = unfold numberFrom writingNumber firstOf in go (eqb n 0) refl (leb (length bytes) (length out)) refl
     where
       n : ℕ
       n = commandNumber ws z t (r .command)

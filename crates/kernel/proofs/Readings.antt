@@ -55,8 +55,7 @@ envelope-kept ps e h =
     let w = m .2 in
     let q : i .0 ≡ e .id = cc in
     let q′ : p .0 ≡ e .endpoint = cc in
-    let q″ : f .0 ≡ e .feature = cc in
-    (
+    let q″ : f .0 ≡ e .feature = cc in (
       rw (← q) (number-kept most32 (i .0) (valueOf ps 1) (i .1)),
       rw (← q′) (number-kept 255 (p .0) (valueOf ps 2) (p .1)),
       rw (← q″) (number-kept 65535 (f .0) (valueOf ps 3) (f .1)),
