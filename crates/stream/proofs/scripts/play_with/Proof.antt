@@ -1,6 +1,5 @@
 use mathlib.Core.Path.{sym, _≡_, refl}
 use lib.Seq.{length-take-le}
-
 use Prim.Native.Nat.{_≤_, _+_, _-_}
 use native.Mathlib.Omega.{arith}
 use borrow.Author.Needs.{needs}
