@@ -1,5 +1,5 @@
 use Prim.Native.Nat.{_+_, _-_}
-use mathlib.Core.Path.{_≡_, _∙_}
+use mathlib.Core.Path.{_≡_}
 use native.Mathlib.Omega.{arith}
 use Rattle.script.specs.Runs.{recordLeaves, bodyOf}
 use borrow.Author.Needs.{needs}
@@ -14,4 +14,4 @@ run-record-spec =
     (λ c. search needs) (λ c κs. search needs) (λ c. search needs) (λ c κs. search needs)
     (λ c κs. search needs) (λ c. search needs) (λ c. search needs) (λ c. search needs) (λ c κs. search needs)
     (λ c. search needs) (λ c. search needs)
-    (λ c. let n : (c .before .before .before .before .before .before .before .before .before .before .before .before .before .before .args .r .body + c .before .before .before .before .before .before .before .before .before .before .before .before .before .before .args .r .length) - c .before .before .before .before .before .before .before .before .before .before .before .before .before .before .args .r .body ≡ c .before .before .before .before .before .before .before .before .before .before .before .before .before .before .args .r .length = omega arith in c .before .before .before .run .ensures ∙ rw (n, c .before .before .before .before .before .before .before .before .call-of .ensures, c .before .before .before .before .before .before .before .before .before .before .byte .ensures, c .before .before .before .before .before .before .before .before .before .byte2 .ensures)))
+    (λ c. let n : (c .before .before .before .before .before .before .before .before .before .before .before .before .before .before .args .r .body + c .before .before .before .before .before .before .before .before .before .before .before .before .before .before .args .r .length) - c .before .before .before .before .before .before .before .before .before .before .before .before .before .before .args .r .body ≡ c .before .before .before .before .before .before .before .before .before .before .before .before .before .before .args .r .length = omega arith in rw (n, c .before .before .before .before .before .before .before .before .call-of .ensures, c .before .before .before .before .before .before .before .before .before .before .byte .ensures, c .before .before .before .before .before .before .before .before .before .byte2 .ensures) at (c .before .before .before .run .ensures)))
