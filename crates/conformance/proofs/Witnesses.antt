@@ -1,0 +1,13 @@
+-- The devices of specs/Examples, computed.
+use mathlib.Core.Path.{refl}
+use Rattle.conformance.specs.Lists.{member, keep}
+use Rattle.conformance.specs.Features.{bit}
+use Rattle.conformance.specs.Endpoints.{required, invalid}
+use Rattle.conformance.specs.Attributes.{conditions, rows, conditionIn, mandatory}
+use Rattle.conformance.specs.Rules.{lacksNeed, clashes, lacksSupply, lacksRequired, hasInvalid, lacksAttribute, bitRules, broken, candidates, breaches}
+use Rattle.conformance.specs.Report.{inRange, flat}
+use Rattle.conformance.specs.Examples.{examples, Witnessed}
+
+pub witnessed : Witnessed
+unfolding Witnessed examples inRange flat breaches keep candidates broken bitRules lacksNeed clashes lacksSupply lacksRequired hasInvalid lacksAttribute mandatory conditionIn conditions rows required invalid member bit
+witnessed = (refl, refl)

@@ -1,0 +1,12 @@
+use mathlib.Core.Path.{sym}
+use mathlib.Core.Bool.{true}
+use lib.Seq.{set-out}
+use borrow.Author.Needs.{needs}
+use Rattle.conformance.proofs.attributes.mark.Statement.{statement}
+use Rattle.conformance.proofs.attributes.mark.Tie as tie
+
+pub mark-spec : {M : Type 1} → statement M
+mark-spec =
+    tie.close
+    (tie.spec
+    (λ c. search needs) (λ c. search needs) (λ c. search needs) (λ c. sym (set-out _ _ true (search needs))))

@@ -1,0 +1,27 @@
+use borrow.Author.Needs.{needs}
+use Prim.Native.Nat.{_≤_, _-_}
+use mathlib.Core.Path.{_≡_, refl}
+use mathlib.Core.List.{foldl}
+use native.Mathlib.Omega.{arith}
+use lib.ListN.{length, drop}
+use Rattle.conformance.specs.Lists.{marked}
+use Rattle.conformance.proofs.Walks.{fold-turn, fold-end}
+use Rattle.conformance.proofs.attributes.mark_listed.Statement.{statement}
+use Rattle.conformance.proofs.attributes.mark_listed.Tie as tie
+
+abbrev Inv-loop : tie.InvT-loop
+Inv-loop attributes flags₀ k₀ flags k = (k ≤ length attributes) × (length flags ≡ length flags₀) × (foldl marked flags (drop k attributes) ≡ foldl marked flags₀ attributes)
+
+abbrev μ-loop : tie.MeasureT-loop
+μ-loop attributes flags₀ k₀ flags k = length attributes - k
+
+pub mark-listed-spec : {M : Type 1} → statement M
+mark-listed-spec =
+    tie.close
+    (tie.spec
+    Inv-loop μ-loop (λ c. (omega arith, refl, refl)) (λ c. omega arith) (λ c. omega arith)
+    (λ c. omega (arith, c .shared-slice-known2 .given (c .before .before .before .loop .k)))
+    (λ c κs. search needs) (λ c. omega arith) (λ c. omega arith)
+    (λ c. (omega arith, search needs, fold-turn marked _ 0 (c .before .before .before .before .before .before .loop .k) _ _ _ (c .before .before .before .before .before .loop-test .taken) (c .before .before .before .before .before .before .loop .inv .2) (c .before .before .mark .ensures)))
+    (λ c. c .before .loop .inv .1)
+    (λ c. fold-end marked _ (c .before .loop .k) _ _ (c .loop-test .left) (c .before .loop .inv .2)))

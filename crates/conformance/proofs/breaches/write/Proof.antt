@@ -1,0 +1,28 @@
+use mathlib.Core.Path.{_∙_}
+use Prim.Native.Nat.{_*_, _-_, _≤_}
+use mathlib.Core.Logic.{⊎-elim}
+use native.Mathlib.Omega.{arith}
+use Rattle.conformance.specs.Lists.{flagged}
+use Rattle.conformance.proofs.Writes.{Written, start, room-for, stored, passed, end}
+use Rattle.conformance.proofs.breaches.write.Statement.{statement}
+use Rattle.conformance.proofs.breaches.write.Tie as tie
+
+abbrev Inv-loop : tie.InvT-loop
+Inv-loop i holds listed pairs₀ at₀ k₀ pairs at k = (k ≤ 88) × (at ≤ 2 * k) × Written i (flagged listed) pairs₀ pairs at k
+
+abbrev μ-loop : tie.MeasureT-loop
+μ-loop i holds listed pairs₀ at₀ k₀ pairs at k = 88 - k
+
+pub write-spec : {M : Type 1} → statement M
+write-spec =
+    tie.close
+    (tie.spec
+    Inv-loop μ-loop
+    (λ c. (omega arith, omega arith, start _ _ _ (c .before .before .before .pre .1)))
+    (λ c κs. (c .before .before .before .before .before .pre .0 .0, omega arith, c .before .before .before .before .before .pre .0 .1))
+    (λ c κs. omega arith)
+    (λ c κs. room-for (c .before .before .before .before .before .loop .inv .2) (omega arith) (c .before .before .before .is-broken .ensures) (c .before .before .if1 .taken))
+    (λ c. omega arith) (λ c. omega arith) (λ c. omega arith)
+    (λ c. ⊎-elim (λ w. (omega arith, omega arith, stored (c .before .before .before .loop .inv .2) (omega arith) (c .before .is-broken .ensures) (w .0 .taken) (w .1 .ensures) (w .6 ∙ w .3 .ensures) (w .7)))
+    (λ w. (omega arith, omega arith, passed (c .before .before .before .loop .inv .2) (omega arith) (c .before .is-broken .ensures) (w .0 .left) (w .1) (w .2))) (c .if1 .came))
+    (λ c. c .before .loop .inv .2 .long) (λ c. end (c .before .loop .inv .2) (omega arith)))

@@ -1,0 +1,11 @@
+use Rattle.conformance.specs.Rules.{clashes}
+use borrow.Author.Needs.{needs}
+use Rattle.conformance.proofs.rules.clashes.Statement.{statement}
+use Rattle.conformance.proofs.rules.clashes.Tie as tie
+
+pub clashes-spec : {M : Type 1} → statement M
+unfolding clashes
+clashes-spec =
+    tie.close
+    (tie.spec
+    (λ c κs. search needs) (λ c κs. search needs) (λ c. rw (c .before .has .ensures, c .has2 .ensures)))

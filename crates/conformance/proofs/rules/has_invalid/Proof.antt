@@ -1,0 +1,11 @@
+use Rattle.conformance.specs.Rules.{hasInvalid}
+use borrow.Author.Needs.{needs}
+use Rattle.conformance.proofs.rules.has_invalid.Statement.{statement}
+use Rattle.conformance.proofs.rules.has_invalid.Tie as tie
+
+pub has-invalid-spec : {M : Type 1} → statement M
+unfolding hasInvalid
+has-invalid-spec =
+    tie.close
+    (tie.spec
+    (λ c κs. search needs) (λ c κs. search needs) (λ c. rw (c .before .forbids-bit .ensures, c .has .ensures)))

@@ -1,0 +1,23 @@
+use Prim.Native.Nat.{_<_}
+use mathlib.Core.Bool.{Bool, true, false, cond}
+use native.Mathlib.Omega.{arith}
+use lib.Dec.{eqb}
+use Rattle.conformance.specs.Features.{CORE, EMOB, V2X}
+use Rattle.conformance.specs.Rules.{lacksNeed}
+use borrow.Author.Needs.{needs}
+use Rattle.conformance.proofs.rules.lacks_need.Statement.{statement}
+use Rattle.conformance.proofs.rules.lacks_need.Tie as tie
+
+-- src/rules.rt:28:27
+small : (t : Bool) → cond t EMOB CORE < 64
+small true = omega arith
+small false = omega arith
+
+pub lacks-need-spec : {M : Type 1} → statement M
+unfolding lacksNeed
+lacks-need-spec =
+    tie.close
+    (tie.spec
+    (λ c κs. search needs) (λ c κs. search needs)
+    (λ c κs. rw (c .need .ensures) (small (eqb (c .before .before .args .b) V2X)))
+    (λ c. rw (c .before .before .has .ensures, c .has2 .ensures, c .before .need .ensures)))

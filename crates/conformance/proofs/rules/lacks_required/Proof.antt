@@ -1,0 +1,12 @@
+use Rattle.conformance.specs.Rules.{lacksRequired}
+use borrow.Author.Needs.{needs}
+use Rattle.conformance.proofs.rules.lacks_required.Statement.{statement}
+use Rattle.conformance.proofs.rules.lacks_required.Tie as tie
+
+pub lacks-required-spec : {M : Type 1} → statement M
+unfolding lacksRequired
+lacks-required-spec =
+    tie.close
+    (tie.spec
+    (λ c κs. search needs) (λ c κs. search needs)
+    (λ c. rw (c .before .requires-bit .ensures, c .has .ensures)))

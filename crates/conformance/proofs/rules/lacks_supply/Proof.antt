@@ -1,0 +1,12 @@
+use Rattle.conformance.specs.Rules.{lacksSupply}
+use borrow.Author.Needs.{needs}
+use Rattle.conformance.proofs.rules.lacks_supply.Statement.{statement}
+use Rattle.conformance.proofs.rules.lacks_supply.Tie as tie
+
+pub lacks-supply-spec : {M : Type 1} → statement M
+unfolding lacksSupply
+lacks-supply-spec =
+    tie.close
+    (tie.spec
+    (λ c κs. search needs) (λ c κs. search needs)
+    (λ c. rw (c .before .before .before .has .ensures, c .before .has2 .ensures)))
