@@ -22,7 +22,7 @@ pub enum Head {
 }
 
 // The additional information of the shortest head of an argument.
-pub(crate) fn info_of(arg: u64) -> u64
+fn info_of(arg: u64) -> u64
     ensures { λ r. ⌜ r ≡ infoOf arg ⌝ }
 {
     if arg < 24 {
@@ -41,7 +41,7 @@ pub(crate) fn info_of(arg: u64) -> u64
 }
 
 // How many bytes of argument stand behind a first byte with this additional information.
-pub(crate) fn width_of(info: u64) -> usize
+fn width_of(info: u64) -> usize
     ensures { λ r. ⌜ (r ≡ widthOf info) × (r ≤ 8) ⌝ }
 {
     if info == 24 {
