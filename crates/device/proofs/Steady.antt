@@ -1,8 +1,7 @@
 -- Between two expiries nothing moves: the seconds at which what holds can change, and that it changes at no other.
 use Prim.Native.Nat.{ℕ, zero, suc, _+_, _*_, _<_, _≤_}
-use mathlib.Core.Bool.{Bool, true, false, cond, not, _&&_, _||_}
-use mathlib.Core.Path.{_≡_, refl, sym, ap, ap₂, _∙_}
-use mathlib.Core.Logic.{⊎-elim}
+use mathlib.Core.Bool.{Bool, true, false, cond, not, _&&_}
+use mathlib.Core.Path.{_≡_, refl, ap}
 use mathlib.Core.List.{List, [], _∷_, _++_, foldl, List·Memᴰ, List·Memᴰ·head, Memᴰ·append-left, Memᴰ·append-right, Memᴰ·cast}
 use native.Mathlib.Decide.{ℕ-discrete}
 use native.Mathlib.Omega.{arith}
@@ -13,7 +12,7 @@ use borrow.Author.Tests.{ltb-true, ltb-false}
 use Rattle.device.specs.Sizes.{helds, slots}
 use Rattle.device.specs.Zones.{upTo, heldOf, isJoined, anyJoined, anyUp}
 use Rattle.device.specs.Words.{zonesOf, sinceOf, settingsOf}
-use Rattle.device.specs.Holds.{Situation, situationOf, noClaim, claimOf, better, winner, amountOf, inFailsafe, failsafeValue, valueAt, present, stateAt, shown, valuesAt}
+use Rattle.device.specs.Holds.{Situation, situationOf, noClaim, claimOf, better, winner, amountOf, inFailsafe, failsafeValue, valueAt, stateAt, shown, valuesAt}
 use Rattle.messages.specs.declared.Amount.the-variants.{Absent}
 use Rattle.device.specs.declared.Zone.{Zone}
 use Rattle.device.specs.declared.Claim.{Claim}
@@ -95,8 +94,8 @@ module _ (s : Situation) (t : ℕ) (idle : Idle (suc t) (dues s)) where
   value-steady q k = rw (failsafe-steady, go (anyUp (s .zones)) idle)
     where
       go : (u : Bool) → Idle (suc t) (cond u (heldDues (s .zones)) (cond (anyJoined (s .zones)) ((s .since + s .settings .duration) ∷ []) []))
-          → cond u (amountOf (winner (suc t) q (s .zones))) (cond (inFailsafe s t) (failsafeValue s q) Absent)
-          ≡ cond u (amountOf (winner t q (s .zones))) (cond (inFailsafe s t) (failsafeValue s q) Absent)
+          → cond u (amountOf (winner (suc t) q (s .zones))) (cond (inFailsafe s t) (failsafeValue (s .settings) q) Absent)
+          ≡ cond u (amountOf (winner t q (s .zones))) (cond (inFailsafe s t) (failsafeValue (s .settings) q) Absent)
       go true h = ap amountOf (winner-steady t q k (s .zones) h)
       go false h = refl
 

@@ -1,13 +1,11 @@
 -- How a plan ends: refused with all as it was, or accepted with its rows at the front of the slice.
 use Prim.Native.Nat.{ℕ, zero, suc, _+_, _*_, _-_, _<_, _≤_}
-use mathlib.Core.Bool.{Bool, true, false, cond}
-use mathlib.Core.Path.{_≡_, refl, sym, ap, _∙_}
+use mathlib.Core.Bool.{true, false}
+use mathlib.Core.Path.{_≡_, refl, ap, _∙_}
 use mathlib.Core.Logic.{ite}
-use mathlib.Core.List.{List, [], _∷_, _++_, List-discrete}
-use native.Mathlib.Nat.{zero-add}
+use mathlib.Core.List.{List, _∷_, _++_, List-discrete}
 use native.Mathlib.Omega.{arith}
-use lib.Dec.{ltb, eqb}
-use lib.IntN.{ℤ, pos, ℤ-discrete}
+use lib.IntN.{ℤ, ℤ-discrete}
 use lib.ListN.{length, take, drop, length-append}
 use lib.Seq.{sets, sets-eq, take-append-seam}
 use borrow.Author.Tests.{lt-ltb, le-ltb, ne-eqb}

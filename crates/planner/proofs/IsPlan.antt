@@ -1,11 +1,13 @@
 -- The plan is in order, sound and whole, and no other list is.
 use Prim.Native.Nat.{ℕ, zero, suc, _+_, _-_, _<_, _≤_}
 use mathlib.Core.Path.{_≡_, refl, sym, ap, _∙_, subst}
-use mathlib.Core.Logic.{_≢_, _⊎_, inl, inr, ⊎-elim, ite}
+use mathlib.Core.Logic.{_⊎_, inl, inr, ⊎-elim, ite}
 use mathlib.Core.List.{List, [], _∷_, List·Memᴰ, List·Memᴰ·head, List·Memᴰ·tail, List·Memᴰ·cases-cons, List·Memᴰ·not-nil, List-discrete}
 use native.Mathlib.Decide.{ℕ-discrete}
 use native.Mathlib.Omega.{arith}
 use lib.IntN.{ℤ, ℤ-discrete}
+use Rattle.device.specs.Holds.{Situation, valuesAt}
+use Rattle.planner.specs.Plan.{planOf}
 use Rattle.planner.specs.Rows.{last, rowsOf, plan, Changes, Ascending, IsPlan}
 
 abbrev Row : Type 0
@@ -113,3 +115,11 @@ module _ (f : ℕ → List ℤ) where
       into i j a b r m =
           let s = a .sound r m in
           subst (λ (w : List ℤ). List·Memᴰ (r .0, w) j) (sym (s .2)) (b .whole (r .0) (past now i (a .ascending) r m) (s .0) (s .1))
+
+-- the plan of a device is the one list that is a plan of what holds at each second
+pub planOf-is : (s : Situation) (now : ℕ) → now ≤ last → IsPlan (valuesAt s) now (planOf s now)
+unfolding planOf
+planOf-is s now h = plan-is (valuesAt s) now h
+
+pub planOf-only : (s : Situation) (now : ℕ) → now ≤ last → (rows : List Row) → IsPlan (valuesAt s) now rows → rows ≡ planOf s now
+planOf-only s now h rows p = plan-unique (valuesAt s) now rows (planOf s now) p (planOf-is s now h)

@@ -1,5 +1,7 @@
 pub mod IsPlan
 pub mod Alike
+pub mod Due
+pub mod Quiet
 pub mod Walk
 pub mod Nearest
 pub mod Written

@@ -1,148 +1,22 @@
 -- The walk from due to due finds the plan of values that are steady between them.
-use Prim.Native.Nat.{ℕ, zero, suc, _+_, _*_, _-_, _<_, _≤_}
-use mathlib.Core.Bool.{Bool, true, false, cond, _&&_}
-use mathlib.Core.Path.{_≡_, refl, sym, ap, _∙_, subst}
-use mathlib.Core.Logic.{_≢_, _⊎_, inl, inr, ⊎-elim, ite, if-pos, if-neg}
-use mathlib.Core.List.{List, [], _∷_, foldl, List·Memᴰ, List·Memᴰ·head, List·Memᴰ·tail, List·Memᴰ·cases-cons, List·Memᴰ·not-nil, List-discrete}
-use native.Mathlib.Decide.{decLt}
-use native.Mathlib.Nat.{suc-add, zero-add, add-suc, add-zero}
+use Prim.Native.Nat.{ℕ, zero, suc, _*_, _≤_}
+use mathlib.Core.Bool.{Bool, true, false, cond}
+use mathlib.Core.Path.{_≡_, refl, sym, ap, _∙_}
+use mathlib.Core.Logic.{⊎-elim}
+use mathlib.Core.List.{List, [], _∷_}
 use native.Mathlib.Omega.{arith}
-use lib.Dec.{ltb, eqb}
-use lib.IntN.{ℤ, pos, negsuc, ℤ-discrete}
+use lib.Dec.{ltb}
+use lib.IntN.{ℤ}
 use lib.ListN.{length}
-use borrow.Author.Tests.{ltb-true, ltb-false, eqb-true, eq-eqb, le-ltb}
+use borrow.Author.Tests.{ltb-true, ltb-false, le-ltb}
 use Rattle.device.specs.Sizes.{end, slots, helds}
 use Rattle.device.specs.Holds.{Situation, situationOf, valuesAt}
 use Rattle.device.proofs.Steady.{dues, Idle, values-steady, dues-few}
-use Rattle.planner.specs.Rows.{last, rowsOf, plan}
+use Rattle.planner.specs.Rows.{plan}
 use Rattle.planner.specs.Plan.{planOf}
-use Rattle.planner.specs.Walk.{nearer, nearest, alike, step, walk}
-use Rattle.planner.proofs.Alike.{alike-same, by-test}
-
--- THE NEXT DUE SECOND
--- x is r, or the least of the list past cur and before r
-record Least (cur r : ℕ) (ds : List ℕ) (x : ℕ) : Type 0 where
-  within : x ≤ r
-  least : (e : ℕ) → List·Memᴰ e ds → cur < e → x ≤ e
-  found : (x ≡ r) ⊎ ((cur < x) × List·Memᴰ x ds)
-
--- one number more in front, where v is the nearer of r and it
-least-more : (cur r d v x : ℕ) (ds : List ℕ) → v ≤ r → (cur < d → v ≤ d) → (v ≡ r) ⊎ ((cur < d) × (v ≡ d)) → Least cur v ds x → Least cur r (d ∷ ds) x
-least-more cur r d v x ds a b c l =
-    record {
-      within = omega (arith, l .within);
-      least = λ e m h. ⊎-elim (λ q. omega (arith, l .within, b (omega arith))) (λ k. l .least e k h) (List·Memᴰ·cases-cons m);
-      found = ⊎-elim (λ q. ⊎-elim (λ p. inl (q ∙ p)) (λ p. inr (omega arith, List·Memᴰ·head (q ∙ p .1))) c) (λ k. inr (k .0, List·Memᴰ·tail (k .1))) (l .found);
-    }
-
-fold-least : (cur r : ℕ) (ds : List ℕ) → Least cur r ds (foldl (nearer cur) r ds)
-unfolding nearer
-fold-least cur r [] = record { within = omega arith; least = λ e m. absurd (List·Memᴰ·not-nil m); found = inl refl }
-fold-least cur r (d ∷ ds) = go (ltb cur d) refl (ltb d r) refl (λ v. fold-least cur v ds)
-  where
-    go : (b : Bool) → ltb cur d ≡ b → (c : Bool) → ltb d r ≡ c → ((v : ℕ) → Least cur v ds (foldl (nearer cur) v ds))
-        → Least cur r (d ∷ ds) (foldl (nearer cur) (cond (b && c) d r) ds)
-    go true p true q rest = least-more cur r d d _ ds (omega (arith, ltb-true)) (λ h. omega arith) (inr (omega (arith, ltb-true), refl)) (rest d)
-    go true p false q rest = least-more cur r d r _ ds (omega arith) (λ h. omega (arith, ltb-false)) (inl refl) (rest r)
-    go false p c q rest = least-more cur r d r _ ds (omega arith) (λ h. absurd (omega (arith, ltb-false))) (inl refl) (rest r)
-
-nearest-is : (cur : ℕ) (ds : List ℕ) → Least cur end ds (nearest cur ds)
-unfolding nearest
-nearest-is cur ds = fold-least cur end ds
-
-pub nearest-later : (cur : ℕ) (ds : List ℕ) → cur < end → cur < nearest cur ds
-nearest-later cur ds h = ⊎-elim (λ e. omega arith) (λ k. k .0) (nearest-is cur ds .found)
-
--- THE PLAN FROM DUE TO DUE
-module _ (f : ℕ → List ℤ) where
-  rows-step : (now n : ℕ) → rowsOf f now (suc n) ≡ cond (alike (f (suc now)) (f now)) (rowsOf f (suc now) n) ((suc now, f (suc now)) ∷ rowsOf f (suc now) n)
-  unfolding rowsOf
-  rows-step now n = by-test (f (suc now)) (f now) _ _
-
-  -- nothing changes after a, up to b
-  abbrev Quiet : ℕ → ℕ → Type 0
-  Quiet a b = (t : ℕ) → a ≤ t → t < b → f (suc t) ≡ f t
-
-  quiet-values : (k a : ℕ) → Quiet a (a + k) → f (a + k) ≡ f a
-  quiet-values zero a q = ap f (add-zero a)
-  quiet-values (suc k) a q =
-      let s : a + suc k ≡ suc (a + k) = add-suc a k in
-      ap f s ∙ q (a + k) (omega arith) (omega arith) ∙ quiet-values k a (λ t h g. q t h (omega arith))
-
-  rows-quiet : (k a n : ℕ) → Quiet a (a + k) → rowsOf f a (k + n) ≡ rowsOf f (a + k) n
-  rows-quiet zero a n q = rw (zero-add, add-zero)
-  rows-quiet (suc k) a n q =
-      let e : f (suc a) ≡ f a = q a (omega arith) (omega arith) in
-      rw (suc-add k n, rows-step a (k + n), e, alike-same (f a), rows-quiet k (suc a) n (λ t h g. q t (omega arith) (omega arith)))
-      (ap (λ (x : ℕ). rowsOf f x n) (omega arith))
-
-  -- quiet seconds are passed over
-  plan-quiet : (a b : ℕ) → a ≤ b → b ≤ last → Quiet a b → (plan f a ≡ plan f b) × (f b ≡ f a)
-  unfolding plan
-  plan-quiet a b h g q =
-      let e : a + (b - a) ≡ b = omega arith in
-      let d : last - a ≡ (b - a) + (last - b) = omega arith in
-      let r : Quiet a (a + (b - a)) = λ t h₁ h₂. q t h₁ (omega arith) in
-      (rw d (rw e at (rows-quiet (b - a) a (last - b) r)), rw e at (quiet-values (b - a) a r))
-
-  -- nothing changes any more
-  plan-late : (a : ℕ) → last ≤ a → plan f a ≡ []
-  unfolding plan rowsOf
-  plan-late a h = let z : last - a ≡ 0 = omega arith in ap (λ (n : ℕ). rowsOf f a n) z
-
-  plan-over : (a : ℕ) → Quiet a last → plan f a ≡ []
-  plan-over a q =
-      elim (decLt last a) [
-        | yes h ↦ plan-late a (omega arith)
-        | no h ↦ plan-quiet a last (omega arith) (omega arith) q .0 ∙ plan-late last (omega arith)
-      ]
-
-  -- n is the next second at which anything can change
-  plan-next : (cur n : ℕ) → cur < n → n ≤ last → Quiet cur (n - 1) → plan f cur ≡ cond (alike (f n) (f cur)) (plan f n) ((n, f n) ∷ plan f n)
-  unfolding plan
-  plan-next cur zero h g q = absurd (omega arith)
-  plan-next cur (suc m) h g q =
-      let p = plan-quiet cur m (omega arith) (omega arith) (λ t a b. q t a (omega arith)) in
-      let e : last - m ≡ suc (last - suc m) = omega arith in
-      p .0 ∙ rw (e, rows-step m (last - suc m), p .1)
-
--- how many of the list lie past cur
-abbrev above : ℕ → List ℕ → ℕ
-above cur [] = 0
-above cur (d ∷ ds) = cond (ltb cur d) (suc (above cur ds)) (above cur ds)
-
-above-all : (cur : ℕ) (ds : List ℕ) → above cur ds ≤ length ds
-above-all cur [] = omega arith
-above-all cur (d ∷ ds) = go (ltb cur d) (above-all cur ds)
-  where
-    go : (b : Bool) → above cur ds ≤ length ds → cond b (suc (above cur ds)) (above cur ds) ≤ suc (length ds)
-    go true h = omega arith
-    go false h = omega arith
-
--- fewer lie past n, and fewer still where n itself is one
-module _ (cur n : ℕ) (later : cur < n) where
-  above-fewer : (ds : List ℕ) → above n ds ≤ above cur ds
-  above-fewer [] = omega arith
-  above-fewer (d ∷ ds) = go (ltb n d) refl (ltb cur d) refl (above-fewer ds)
-    where
-      go : (b : Bool) → ltb n d ≡ b → (c : Bool) → ltb cur d ≡ c → above n ds ≤ above cur ds → cond b (suc (above n ds)) (above n ds) ≤ cond c (suc (above cur ds)) (above cur ds)
-      go true p true q h = omega arith
-      go true p false q h = absurd (omega (arith, ltb-true, ltb-false))
-      go false p true q h = omega arith
-      go false p false q h = h
-
-  above-less : (ds : List ℕ) → List·Memᴰ n ds → above n ds < above cur ds
-  above-less [] m = absurd (List·Memᴰ·not-nil m)
-  above-less (d ∷ ds) m = go (ltb n d) refl (ltb cur d) refl (above-fewer ds) (⊎-elim inl (λ k. inr (above-less ds k)) (List·Memᴰ·cases-cons m))
-    where
-      go : (b : Bool) → ltb n d ≡ b → (c : Bool) → ltb cur d ≡ c → above n ds ≤ above cur ds → (n ≡ d) ⊎ (above n ds < above cur ds)
-          → cond b (suc (above n ds)) (above n ds) < cond c (suc (above cur ds)) (above cur ds)
-      go true p c q h (inl e) = absurd (omega (arith, ltb-true))
-      go true p true q h (inr k) = omega arith
-      go true p false q h (inr k) = absurd (omega (arith, ltb-true, ltb-false))
-      go false p true q h e = omega arith
-      go false p false q h (inl e) = absurd (omega (arith, ltb-false))
-      go false p false q h (inr k) = k
+use Rattle.planner.specs.Walk.{nearest, alike, step, walk}
+use Rattle.planner.proofs.Due.{Least, nearest-is, above, above-all, above-less}
+use Rattle.planner.proofs.Quiet.{plan-over, plan-next}
 
 module _ (f : ℕ → List ℤ) (ds : List ℕ) (steady : (t : ℕ) → Idle (suc t) ds → f (suc t) ≡ f t) where
   -- the plan after cur is what the next due second adds to the plan after that
@@ -192,7 +66,6 @@ walk-few f ds (suc fuel) cur =
     go true false l h = omega arith
     go false c l h = omega arith
 
--- THE PLAN OF A DEVICE
 -- found from due to due, so that it computes
 pub planOf-walk : (s : Situation) (now : ℕ) → planOf s now ≡ walk (valuesAt s) (dues s) (length (dues s)) now
 unfolding planOf

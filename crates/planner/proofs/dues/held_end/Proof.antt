@@ -3,8 +3,8 @@ use mathlib.Core.Path.{_≡_, refl}
 use mathlib.Core.List.{foldl}
 use native.Mathlib.Omega.{arith}
 use borrow.Author.Needs.{needs}
-use lib.ListN.{length, drop}
-use Rattle.device.specs.Sizes.{end}
+use lib.ListN.{drop}
+use Rattle.device.specs.Sizes.{end, slots}
 use Rattle.device.specs.Zones.{freeZone}
 use Rattle.device.specs.Words.{zonesOf}
 use Rattle.device.proofs.Folds.{fold-turn}
@@ -14,10 +14,10 @@ use Rattle.planner.proofs.dues.held_end.Statement.{statement}
 use Rattle.planner.proofs.dues.held_end.Tie as tie
 
 abbrev Inv-loop : tie.InvT-loop
-Inv-loop d cur x₀ i₀ x i = (i ≤ 8) × (foldl (passed cur) x (drop i (zonesOf d)) ≡ foldl (passed cur) end (zonesOf d))
+Inv-loop d cur x₀ i₀ x i = (i ≤ slots) × (foldl (passed cur) x (drop i (zonesOf d)) ≡ foldl (passed cur) end (zonesOf d))
 
 abbrev μ-loop : tie.MeasureT-loop
-μ-loop d cur x₀ i₀ x i = 8 - i
+μ-loop d cur x₀ i₀ x i = slots - i
 
 pub held-end-spec : {M : Type 1} → statement M
 held-end-spec =

@@ -4,6 +4,7 @@ use mathlib.Core.List.{foldl}
 use native.Mathlib.Omega.{arith}
 use borrow.Author.Needs.{needs}
 use lib.ListN.{getD, drop}
+use Rattle.device.specs.Sizes.{helds}
 use Rattle.device.specs.Zones.{freeZone}
 use Rattle.device.specs.Words.{zonesOf}
 use Rattle.device.proofs.Tests.{via}
@@ -14,10 +15,10 @@ use Rattle.planner.proofs.dues.zone_end.Tie as tie
 
 abbrev Inv-loop : tie.InvT-loop
 Inv-loop d slot cur r x₀ q₀ x q =
-    (q ≤ 4) × (foldl (nearer cur) x (drop q (ends (getD (zonesOf d) slot freeZone))) ≡ foldl (nearer cur) r (ends (getD (zonesOf d) slot freeZone)))
+    (q ≤ helds) × (foldl (nearer cur) x (drop q (ends (getD (zonesOf d) slot freeZone))) ≡ foldl (nearer cur) r (ends (getD (zonesOf d) slot freeZone)))
 
 abbrev μ-loop : tie.MeasureT-loop
-μ-loop d slot cur r x₀ q₀ x q = 4 - q
+μ-loop d slot cur r x₀ q₀ x q = helds - q
 
 pub zone-end-spec : {M : Type 1} → statement M
 zone-end-spec =

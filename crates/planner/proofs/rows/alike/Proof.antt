@@ -1,4 +1,4 @@
-use Prim.Native.Nat.{_≤_, _-_}
+use Prim.Native.Nat.{_+_, _≤_, _-_}
 use mathlib.Core.Path.{_≡_, refl, sym, _∙_}
 use native.Mathlib.Omega.{arith}
 use borrow.Author.Needs.{needs}
@@ -6,49 +6,31 @@ use lib.IntN.{pos}
 use mir.Val.{SFits}
 use mir.ValLaws.{toZ-ofZ}
 use mir.Syntax.{w64}
-use lib.ListN.{length, getD, drop}
+use lib.ListN.{getD, drop}
+use Rattle.device.specs.Sizes.{helds}
 use Rattle.planner.specs.Walk.{alike}
 use Rattle.planner.proofs.Alike.{alike-turn, alike-stop, alike-end}
 use Rattle.planner.proofs.rows.alike.Statement.{statement}
 use Rattle.planner.proofs.rows.alike.Tie as tie
-use Rattle.planner.proofs.rows.alike.Reads as reads
-use Rattle.planner.proofs.rows.alike.Lts as lts
 
 abbrev Inv-loop : tie.InvT-loop
-Inv-loop a b i₀ i = (i ≤ 5) × (alike (drop i a) (drop i b) ≡ alike a b)
+Inv-loop a b i₀ i = (i ≤ 1 + helds) × (alike (drop i a) (drop i b) ≡ alike a b)
 
 abbrev μ-loop : tie.MeasureT-loop
-μ-loop a b i₀ i = 5 - i
-
-returns : tie.Need-returns Inv-loop μ-loop
-returns c =
-    let f : SFits w64 (getD (c .before .before .before .before .before .before .args .t1) (c .before .before .before .before .before .loop .i) (pos 0)) = search needs in
-    let g : SFits w64 (getD (c .before .before .before .before .before .before .args .t2) (c .before .before .before .before .before .loop .i) (pos 0)) = search needs in
-    alike-stop (c .before .before .before .before .before .before .args .t1) (c .before .before .before .before .before .before .args .t2) (c .before .before .before .before .before .loop .i) (c .before .before .before .before .before .loop .inv .1) (search needs) (search needs) (sym (c .if1 .left) ∙ simp (toZ-ofZ w64 _ f, toZ-ofZ w64 _ g) at (c .before .same-number .ensures))
-
-loop-again : tie.Need-loop-again Inv-loop μ-loop
-loop-again c =
-    let f : SFits w64 (getD (c .before .before .before .before .before .before .args .t1) (c .before .before .before .before .before .loop .i) (pos 0)) = search needs in
-    let g : SFits w64 (getD (c .before .before .before .before .before .before .args .t2) (c .before .before .before .before .before .loop .i) (pos 0)) = search needs in
-    (omega arith, alike-turn (c .before .before .before .before .before .before .args .t1) (c .before .before .before .before .before .before .args .t2) (c .before .before .before .before .before .loop .i) (c .before .before .before .before .before .loop .inv .1) (search needs) (search needs) (sym (c .if1 .taken) ∙ simp (toZ-ofZ w64 _ f, toZ-ofZ w64 _ g) at (c .before .same-number .ensures)))
-
-returns-2 : tie.Need-returns-2 Inv-loop μ-loop
-returns-2 c = alike-end (c .before .before .args .t1) (c .before .before .args .t2) (c .before .loop .i) (c .before .loop .inv .1) (omega arith) (omega arith)
+μ-loop a b i₀ i = 1 + helds - i
 
 pub alike-spec : {M : Type 1} → statement M
 alike-spec =
     tie.close
     (tie.spec
-    Inv-loop
-    μ-loop
-    (λ c. (omega arith, refl))
-    (λ c. search needs)
-    (λ c. search needs)
-    (λ c. search needs)
-    (λ c. search needs)
-    (λ c κs. search needs)
-    (λ c. search needs)
-    (λ c. omega arith)
-    loop-again
-    returns
-    returns-2)
+    Inv-loop μ-loop (λ c. (omega arith, refl)) (λ c. search needs) (λ c. search needs) (λ c. search needs)
+    (λ c. search needs) (λ c κs. search needs) (λ c. search needs) (λ c. omega arith)
+    (λ c.
+    let f : SFits w64 (getD (c .before .before .before .before .before .before .args .t1) (c .before .before .before .before .before .loop .i) (pos 0)) = search needs in
+    let g : SFits w64 (getD (c .before .before .before .before .before .before .args .t2) (c .before .before .before .before .before .loop .i) (pos 0)) = search needs in
+    (omega arith, alike-turn (c .before .before .before .before .before .before .args .t1) (c .before .before .before .before .before .before .args .t2) (c .before .before .before .before .before .loop .i) (c .before .before .before .before .before .loop .inv .1) (search needs) (search needs) (sym (c .if1 .taken) ∙ simp (toZ-ofZ w64 _ f, toZ-ofZ w64 _ g) at (c .before .same-number .ensures))))
+    (λ c.
+    let f : SFits w64 (getD (c .before .before .before .before .before .before .args .t1) (c .before .before .before .before .before .loop .i) (pos 0)) = search needs in
+    let g : SFits w64 (getD (c .before .before .before .before .before .before .args .t2) (c .before .before .before .before .before .loop .i) (pos 0)) = search needs in
+    alike-stop (c .before .before .before .before .before .before .args .t1) (c .before .before .before .before .before .before .args .t2) (c .before .before .before .before .before .loop .i) (c .before .before .before .before .before .loop .inv .1) (search needs) (search needs) (sym (c .if1 .left) ∙ simp (toZ-ofZ w64 _ f, toZ-ofZ w64 _ g) at (c .before .same-number .ensures)))
+    (λ c. alike-end (c .before .before .args .t1) (c .before .before .args .t2) (c .before .loop .i) (c .before .loop .inv .1) (omega arith) (omega arith)))
