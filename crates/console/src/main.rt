@@ -59,7 +59,14 @@ fn settle(out: &[u8], at: usize) -> usize {
 }
 
 // Answers the line that is kept.
-fn answer_kept(d: &mut State, kept: &[u8], n: usize, bytes: &mut [u8], out: &mut [u8], at: usize) -> usize {
+fn answer_kept(
+    d: &mut State,
+    kept: &[u8],
+    n: usize,
+    bytes: &mut [u8],
+    out: &mut [u8],
+    at: usize,
+) -> usize {
     if n <= kept.len() {
         let p = settle(out, at);
         return lines::answer(d, &kept[..n], bytes, out, p);
@@ -68,7 +75,14 @@ fn answer_kept(d: &mut State, kept: &[u8], n: usize, bytes: &mut [u8], out: &mut
 }
 
 // Answers a line, whose beginning may be kept.
-fn line(d: &mut State, s: &[u8], kept: &mut [u8], bytes: &mut [u8], out: &mut [u8], place: Place) -> usize {
+fn line(
+    d: &mut State,
+    s: &[u8],
+    kept: &mut [u8],
+    bytes: &mut [u8],
+    out: &mut [u8],
+    place: Place,
+) -> usize {
     let have = place.kept;
     if have == 0 {
         let p = settle(out, place.at);
@@ -79,7 +93,16 @@ fn line(d: &mut State, s: &[u8], kept: &mut [u8], bytes: &mut [u8], out: &mut [u
 }
 
 // Answers the line from `from` to `to`.
-fn part(d: &mut State, s: &[u8], from: usize, to: usize, kept: &mut [u8], bytes: &mut [u8], out: &mut [u8], place: Place) -> usize {
+fn part(
+    d: &mut State,
+    s: &[u8],
+    from: usize,
+    to: usize,
+    kept: &mut [u8],
+    bytes: &mut [u8],
+    out: &mut [u8],
+    place: Place,
+) -> usize {
     if to <= s.len() {
         if from <= to {
             return line(d, &s[from..to], kept, bytes, out, place);
@@ -97,7 +120,14 @@ fn keep_rest(s: &[u8], from: usize, kept: &mut [u8], have: usize) -> usize {
 }
 
 // Answers the lines of a piece of the input, and keeps what is left.
-fn piece(d: &mut State, s: &[u8], kept: &mut [u8], bytes: &mut [u8], out: &mut [u8], start: Place) -> Place {
+fn piece(
+    d: &mut State,
+    s: &[u8],
+    kept: &mut [u8],
+    bytes: &mut [u8],
+    out: &mut [u8],
+    start: Place,
+) -> Place {
     let mut have = start.kept;
     let mut at = start.at;
     let mut from = 0;
@@ -115,7 +145,14 @@ fn piece(d: &mut State, s: &[u8], kept: &mut [u8], bytes: &mut [u8], out: &mut [
 }
 
 // Reads a piece, answers its lines, and writes the answers, so that one who types sees them.
-fn turn(d: &mut State, kept: &mut [u8], bytes: &mut [u8], out: &mut [u8], have: usize, more: &mut bool) -> usize {
+fn turn(
+    d: &mut State,
+    kept: &mut [u8],
+    bytes: &mut [u8],
+    out: &mut [u8],
+    have: usize,
+    more: &mut bool,
+) -> usize {
     let mut input = io::large_buffer();
     let got = libc::read(STDIN_FILENO, &mut input);
     if got <= 0 {
@@ -123,7 +160,14 @@ fn turn(d: &mut State, kept: &mut [u8], bytes: &mut [u8], out: &mut [u8], have: 
         return have;
     }
     let n = io::count(got, &input);
-    let place = piece(d, &input[..n], kept, bytes, out, Place { kept: have, at: 0 });
+    let place = piece(
+        d,
+        &input[..n],
+        kept,
+        bytes,
+        out,
+        Place { kept: have, at: 0 },
+    );
     flush(out, place.at);
     place.kept
 }

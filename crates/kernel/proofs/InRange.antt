@@ -128,7 +128,9 @@ unfolding responseNumber responseFits responseTo commandAnswer firstOf
 response-writable ws z t r e =
     let s = sound-request r e in
     rw (
-      served-then (r .command) (s .1), s .0, number-fits ws z t (r .command),
+      served-then (r .command) (s .1),
+      s .0,
+      number-fits ws z t (r .command),
       outcome-fits (situationOf (commandAfter ws z t (r .command))) t (commandNumber ws z t (r .command)) (isCapped (settingsOf ws) (r .command)) (r .command) (s .1),
     )
 

@@ -88,7 +88,14 @@ fn ask(d: &mut State, t: u64, out: &mut [u8], at: usize) -> usize {
     put_end(out, q)
 }
 
-fn plan_into(d: &mut State, t: u64, room: usize, rows: &mut [i64], out: &mut [u8], at: usize) -> usize
+fn plan_into(
+    d: &mut State,
+    t: u64,
+    room: usize,
+    rows: &mut [i64],
+    out: &mut [u8],
+    at: usize,
+) -> usize
     requires { ⌜ room ≤ length (now rows) ⌝ }
 {
     let r = planner::plan(d, t, &mut rows[..room]);
@@ -102,7 +109,15 @@ fn plan(d: &mut State, t: u64, room: u64, out: &mut [u8], at: usize) -> usize {
     plan_into(d, t, smaller(room, ROWS), &mut rows, out, at)
 }
 
-fn frame_into(d: &mut State, f: [u64; FIELDS], bytes: &[u8], room: usize, response: &mut [u8], out: &mut [u8], at: usize) -> usize
+fn frame_into(
+    d: &mut State,
+    f: [u64; FIELDS],
+    bytes: &[u8],
+    room: usize,
+    response: &mut [u8],
+    out: &mut [u8],
+    at: usize,
+) -> usize
     requires { ⌜ room ≤ length (now response) ⌝ }
 {
     let r = kernel::frame(d, f[0], f[1], bytes, &mut response[..room]);
@@ -151,7 +166,14 @@ fn inputs_of(f: [u64; FIELDS]) -> conformance::Inputs {
     }
 }
 
-fn report(inputs: conformance::Inputs, attributes: &[u16], room: usize, pairs: &mut [u64], out: &mut [u8], at: usize) -> usize
+fn report(
+    inputs: conformance::Inputs,
+    attributes: &[u16],
+    room: usize,
+    pairs: &mut [u64],
+    out: &mut [u8],
+    at: usize,
+) -> usize
     requires { ⌜ room ≤ length (now pairs) ⌝ }
 {
     let r = conformance::report(inputs, attributes, &mut pairs[..room]);
@@ -163,7 +185,14 @@ fn report(inputs: conformance::Inputs, attributes: &[u16], room: usize, pairs: &
 fn conf_of(f: [u64; FIELDS], attributes: &[u16], n: usize, out: &mut [u8], at: usize) -> usize {
     let mut pairs = [0u64; PAIRS];
     if n <= attributes.len() {
-        return report(inputs_of(f), &attributes[..n], smaller(f[8], PAIRS), &mut pairs, out, at);
+        return report(
+            inputs_of(f),
+            &attributes[..n],
+            smaller(f[8], PAIRS),
+            &mut pairs,
+            out,
+            at,
+        );
     }
     put_bad(out, at)
 }
@@ -178,7 +207,14 @@ fn conf(f: [u64; FIELDS], word: &[u8], out: &mut [u8], at: usize) -> usize {
 }
 
 // The commands that have bytes.
-fn run_bytes(d: &mut State, c: Command, f: [u64; FIELDS], bytes: &[u8], out: &mut [u8], at: usize) -> usize {
+fn run_bytes(
+    d: &mut State,
+    c: Command,
+    f: [u64; FIELDS],
+    bytes: &[u8],
+    out: &mut [u8],
+    at: usize,
+) -> usize {
     match c {
         Command::Frame => frame(d, f, bytes, out, at),
         Command::Request => request(bytes, out, at),
@@ -187,7 +223,15 @@ fn run_bytes(d: &mut State, c: Command, f: [u64; FIELDS], bytes: &[u8], out: &mu
 }
 
 // Reads the bytes of the last word, and runs the command.
-fn with_bytes(d: &mut State, c: Command, f: [u64; FIELDS], word: &[u8], bytes: &mut [u8], out: &mut [u8], at: usize) -> usize {
+fn with_bytes(
+    d: &mut State,
+    c: Command,
+    f: [u64; FIELDS],
+    word: &[u8],
+    bytes: &mut [u8],
+    out: &mut [u8],
+    at: usize,
+) -> usize {
     let read = read_hex(word, bytes);
     let n = read.count;
     if read.good {
@@ -199,18 +243,42 @@ fn with_bytes(d: &mut State, c: Command, f: [u64; FIELDS], word: &[u8], bytes: &
 }
 
 // Runs a command whose numbers are good; `word` is its last word.
-fn run(d: &mut State, c: Command, f: [u64; FIELDS], word: &[u8], bytes: &mut [u8], out: &mut [u8], at: usize) -> usize {
+fn run(
+    d: &mut State,
+    c: Command,
+    f: [u64; FIELDS],
+    word: &[u8],
+    bytes: &mut [u8],
+    out: &mut [u8],
+    at: usize,
+) -> usize {
     match c {
         Command::Ask => ask(d, f[0], out, at),
         Command::Plan => plan(d, f[0], f[1], out, at),
-        Command::Frame | Command::Request | Command::Response => with_bytes(d, c, f, word, bytes, out, at),
+        Command::Frame | Command::Request | Command::Response => with_bytes(
+            d,
+            c,
+            f,
+            word,
+            bytes,
+            out,
+            at,
+        ),
         Command::Conf => conf(f, word, out, at),
         _ => put_number(out, at, call(d, c, f)),
     }
 }
 
 // Runs a line of so many words.
-fn line(d: &mut State, s: &[u8], ends: &[usize], count: usize, bytes: &mut [u8], out: &mut [u8], at: usize) -> usize {
+fn line(
+    d: &mut State,
+    s: &[u8],
+    ends: &[usize],
+    count: usize,
+    bytes: &mut [u8],
+    out: &mut [u8],
+    at: usize,
+) -> usize {
     let c = command_of(s, ends);
     let mut f = [0u64; FIELDS];
     if count != words_of(c) {
@@ -222,7 +290,17 @@ fn line(d: &mut State, s: &[u8], ends: &[usize], count: usize, bytes: &mut [u8],
     last_word(d, c, f, s, ends, count, bytes, out, at)
 }
 
-fn last_word(d: &mut State, c: Command, f: [u64; FIELDS], s: &[u8], ends: &[usize], count: usize, bytes: &mut [u8], out: &mut [u8], at: usize) -> usize {
+fn last_word(
+    d: &mut State,
+    c: Command,
+    f: [u64; FIELDS],
+    s: &[u8],
+    ends: &[usize],
+    count: usize,
+    bytes: &mut [u8],
+    out: &mut [u8],
+    at: usize,
+) -> usize {
     if count == 0 {
         return put_bad(out, at);
     }

@@ -83,8 +83,7 @@ fn is_pairs(word: &[u8], room: usize) -> bool
 
 // The bytes that a word says, from the front of `out`. A bad word changes nothing.
 pub fn read_hex(word: &[u8], out: &mut [u8]) -> Read
-    ensures { λ r. ⌜ r ≡ hexRead (now (word .entry)) (length (now (out .entry))) ⌝ }
-    ensures { λ _. ⌜ now (out .exit) ≡ hexAfter (now (word .entry)) (now (out .entry)) ⌝ }
+    ensures { λ r. ⌜ (r ≡ hexRead (now (word .entry)) (length (now (out .entry)))) × (now (out .exit) ≡ hexAfter (now (word .entry)) (now (out .entry))) ⌝ }
 {
     if is_none(word) {
         return Read {

@@ -3,7 +3,6 @@ use crate::bytes::is_none;
 use crate::numbers::Number;
 use crate::numbers::no_number;
 use crate::numbers::read_number;
-use crate::words::Span;
 use crate::words::span;
 
 pub const FIELDS: usize = 10;

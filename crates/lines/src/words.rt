@@ -3,7 +3,7 @@ ghost use Prim.Native.Nat.{_≤_};
 ghost use lib.ListN.{length};
 
 // The start and the end of a word.
-pub struct Span {
+pub struct Bounds {
     pub from: usize,
     pub to: usize,
 }
@@ -59,8 +59,8 @@ fn start_of(ends: &[usize], k: usize) -> usize {
     end
 }
 
-pub fn span(ends: &[usize], k: usize) -> Span {
-    Span {
+pub fn span(ends: &[usize], k: usize) -> Bounds {
+    Bounds {
         from: start_of(ends, k),
         to: end_of(ends, k),
     }
