@@ -23,7 +23,7 @@ isStatus n = eqb n 0 || eqb n 4 || eqb n 5 || (leb 9 n && leb n 14)
 
 -- "The result stands at status 0, and for SetLimit also at 11 to 14"
 unfoldable pub stands : ℕ → ℕ → Bool
-stands command status = eqb status 0 || (eqb command 1 && leb 11 status && leb status 14)
+stands command status = eqb status 0 || (eqb command 1 && (leb 11 status && leb status 14))
 
 -- READING
 abbrev pub onlyStatus : ℕ → Option ℕ
@@ -132,7 +132,7 @@ amountUpTo most (Amount.Is v) = leb v most
 
 unfoldable pub limitInRange : LimitResult → Bool
 limitInRange l =
-    leb (l .state) 4 && amountUpTo mostValue (l .consumption) && amountUpTo mostValue (l .production) && amountUpTo 4 (l .reason)
+    leb (l .state) 4 && (amountUpTo mostValue (l .consumption) && (amountUpTo mostValue (l .production) && amountUpTo 4 (l .reason)))
 
 unfoldable pub setpointInRange : SetpointResult → Bool
 setpointInRange l = amountUpTo mostValue (l .consumption) && amountUpTo mostValue (l .production)
@@ -156,7 +156,7 @@ fits command status o = cond (stands command status) (goesWith command o) (isNot
 
 -- 3 unless: the id in range, a status, and a result that goes with the command and the status
 unfoldable pub responseFits : ℕ → Response → Bool
-responseFits command r = leb (r .id) most32 && isStatus (r .status) && fits command (r .status) (r .outcome)
+responseFits command r = leb (r .id) most32 && (isStatus (r .status) && fits command (r .status) (r .outcome))
 
 -- 4, 3; 15 is in Writing
 unfoldable pub responseNumber : ℕ → Response → ℕ
@@ -167,7 +167,7 @@ abbrev pub statusAlone : ℕ → ℕ → Response
 statusAlone i status = record { id = i; status = status; outcome = Outcome.Nothing }
 
 unfoldable pub statusFits : ℕ → ℕ → Bool
-statusFits i status = leb i most32 && isStatus status && ltb 0 status
+statusFits i status = leb i most32 && (isStatus status && ltb 0 status)
 
 unfoldable pub statusNumber : ℕ → ℕ → ℕ
 statusNumber i status = firstOf ((not (statusFits i status), 3) ∷ [])

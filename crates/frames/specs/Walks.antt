@@ -86,9 +86,12 @@ unfoldable pub openedBy : ℕ → ℕ → Walk → Inner
 openedBy major n w =
     cond (eqb major 5 && ltb 0 (w .depth)) (record { ok = true; next = record { at = w .at; left = n; depth = w .depth - 1 } }) (record { ok = false; next = noWalk })
 
--- a walk starts inside the map that o is
+-- o is what F makes of a map, and a walk starts inside that map
+abbrev pub Enters : {X : Type 0} → List ℕ → Option X → Bool → (Pairs → X) → Walk → Type 0
+Enters s o ok F next = (ok ≡ false → o ≡ none) × (ok ≡ true → (m : Pairs) × (o ≡ some (F m)) × On s next m 0)
+
 abbrev pub Opens : List ℕ → Option Pairs → Inner → Type 0
-Opens s o r = (r .ok ≡ false → o ≡ none) × (r .ok ≡ true → (m : Pairs) × (o ≡ some m) × On s (r .next) m 0)
+Opens s o r = Enters s o (r .ok) (λ m. m) (r .next)
 
 unfoldable pub InnerReads : List ℕ → Walk → ℕ → Inner → Type 0
 InnerReads s w key r = (ps : Pairs) (lo : ℕ) → On s w ps lo → lo ≤ key → Opens s (needed mapIn (valueOf ps key)) r
@@ -101,8 +104,7 @@ abbrev pub envelopeFrom : Envelope → Pairs → EnvelopeIn
 envelopeFrom e m = record { id = e .id; endpoint = e .endpoint; feature = e .feature; command = e .command; parameters = m }
 
 unfoldable pub EnvelopeReads : List ℕ → Walk → Envelope → Type 0
-EnvelopeReads s w r =
-    (ps : Pairs) → On s w ps 0 → (r .ok ≡ false → envelopeIn ps ≡ none) × (r .ok ≡ true → (m : Pairs) × (envelopeIn ps ≡ some (envelopeFrom r m)) × On s (r .parameters) m 0)
+EnvelopeReads s w r = (ps : Pairs) → On s w ps 0 → Enters s (envelopeIn ps) (r .ok) (envelopeFrom r) (r .parameters)
 
 unfoldable pub ValuesRead : List ℕ → Walk → Bool → Values → Type 0
 ValuesRead s w null r = (ps : Pairs) → On s w ps 0 → Says (limitsIn null ps) (r .ok) (r .values) (Unit {0})

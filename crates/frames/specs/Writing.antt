@@ -18,10 +18,14 @@ itemFrame i = frameOf (encode i)
 unfoldable pub writingNumber : ℕ → List ℕ → ℕ → ℕ
 writingNumber n frame room = cond (eqb n 0) (firstOf ((not (leb (length frame) room), 15) ∷ [])) n
 
+-- refused: nothing is written
+abbrev pub refusedWith : ℕ → Written
+refusedWith n = record { number = n; length = 0 }
+
 -- the number, and the frame's length where it was written
 unfoldable pub writtenOf : ℕ → List ℕ → ℕ → Written
 writtenOf n frame room =
-    cond (eqb (writingNumber n frame room) 0) (record { number = 0; length = length frame }) (record { number = writingNumber n frame room; length = 0 })
+    cond (eqb (writingNumber n frame room) 0) (record { number = 0; length = length frame }) (refusedWith (writingNumber n frame room))
 
 -- the frame at the front; nothing is written at a refusal, and bytes past the frame stay
 unfoldable pub leftBy : ℕ → List ℕ → List ℕ → List ℕ

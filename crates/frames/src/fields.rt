@@ -1,4 +1,7 @@
 // The fields of a map: one look-up, and one reader each for unsigned and signed numbers, truths and maps.
+use crate::tests::all3;
+use crate::tests::both;
+use crate::tests::either;
 use cbor::Head;
 use cbor::Int;
 use messages::Field;
@@ -136,7 +139,7 @@ pub fn read_uint(s: &[u8], w: Walk, key: u64, must: bool, most: u64) -> Uint
 fn is_uint(major: u64, arg: u64, most: u64) -> bool
     ensures { λ r. ⌜ r ≡ (eqb major 0 && leb arg most) ⌝ }
 {
-    major == 0 && arg <= most
+    both(major == 0, arg <= most)
 }
 
 // A signed number, or null where that is allowed; it may be absent.
@@ -183,9 +186,9 @@ fn refused_value() -> Signed
 
 // Whether a head is null's, and null is allowed.
 fn is_null(major: u64, arg: u64, null: bool) -> bool
-    ensures { λ r. ⌜ r ≡ (null && eqb major 7 && eqb arg 22) ⌝ }
+    ensures { λ r. ⌜ r ≡ (eqb major 7 && (eqb arg 22 && null)) ⌝ }
 {
-    null && major == 7 && arg == 22
+    all3(major == 7, arg == 22, null)
 }
 
 // False or true, which must be there.
@@ -212,7 +215,7 @@ pub fn read_truth(s: &[u8], w: Walk, key: u64) -> Truth
 fn is_truth(major: u64, arg: u64) -> bool
     ensures { λ r. ⌜ r ≡ (eqb major 7 && (eqb arg 20 || eqb arg 21)) ⌝ }
 {
-    major == 7 && (arg == 20 || arg == 21)
+    both(major == 7, either(arg == 20, arg == 21))
 }
 
 // A map, which must be there.
@@ -227,18 +230,17 @@ pub fn read_map(s: &[u8], w: Walk, key: u64) -> Inner
 fn opened(major: u64, n: u64, w: Walk) -> Inner
     ensures { λ r. ⌜ r ≡ openedBy major n w ⌝ }
 {
+    let at = w.at;
     let depth = w.depth;
-    if major == 5 {
-        if depth > 0 {
-            return Inner {
-                ok: true,
-                next: Walk {
-                    at: w.at,
-                    left: n,
-                    depth: depth - 1,
-                },
-            };
-        }
+    if both(major == 5, 0 < depth) {
+        return Inner {
+            ok: true,
+            next: Walk {
+                at,
+                left: n,
+                depth: depth - 1,
+            },
+        };
     }
     Inner {
         ok: false,

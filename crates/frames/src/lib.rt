@@ -4,6 +4,7 @@ mod prefix; // prefix.rt: the length prefix, tested and written
 mod puts; // puts.rt: the fields of a map, written
 mod requests; // requests.rt: requests, read
 mod responses; // responses.rt: responses, read
+mod tests; // tests.rt: tests joined
 mod write_requests; // write_requests.rt: requests, written
 mod write_responses; // write_responses.rt: responses, written
 

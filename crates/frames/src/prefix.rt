@@ -4,7 +4,7 @@ ghost use Prim.Native.Nat.{_+_, _≤_, _<_, _^_};
 ghost use lib.ListN.{length, take};
 ghost use lib.Seq.{paste};
 ghost use Rattle.frames.specs.Prefix.{framed, frameOf};
-ghost use Rattle.frames.specs.Writing.{writtenOf, leftBy};
+ghost use Rattle.frames.specs.Writing.{refusedWith, writtenOf, leftBy};
 
 // How many bytes a payload has at most.
 pub const MOST: usize = 2048;
@@ -31,7 +31,7 @@ pub fn is_framed(frame: &[u8]) -> bool
 
 // Refuses with n, and writes nothing.
 pub fn refused(n: u64) -> Written
-    ensures { λ r. ⌜ (r .number ≡ n) × (r .length ≡ 0) ⌝ }
+    ensures { λ r. ⌜ r ≡ refusedWith n ⌝ }
 {
     Written {
         number: n,

@@ -5,6 +5,9 @@ use crate::fields::read_root;
 use crate::fields::read_signed;
 use crate::fields::read_uint;
 use crate::prefix::is_framed;
+use crate::tests::all4;
+use crate::tests::all5;
+use crate::tests::both;
 use messages::Aim;
 use messages::Command;
 use messages::Field;
@@ -13,7 +16,7 @@ use messages::Request;
 use messages::Setpoints;
 use messages::Target;
 ghost use mathlib.Core.Path.{_≡_};
-ghost use mathlib.Core.Bool.{cond, _&&_};
+ghost use mathlib.Core.Bool.{cond};
 ghost use Rattle.messages.specs.declared.Aim.{Aim};
 ghost use Rattle.frames.specs.Requests.{readRequest, servedCommand, servedAt, targetOf, setpointsOf};
 ghost use Rattle.frames.specs.Walks.{EnvelopeReads, ValuesRead, CommandReads, ClearReads, MessageReads};
@@ -50,42 +53,18 @@ pub enum Parameters {
 // The largest number of 32 bits.
 pub const MOST32: u64 = 4294967295;
 
-pub fn all2(a: bool, b: bool) -> bool
-    ensures { λ r. ⌜ r ≡ (a && b) ⌝ }
-{
-    a && b
-}
-
-pub fn all3(a: bool, b: bool, c: bool) -> bool
-    ensures { λ r. ⌜ r ≡ (a && b && c) ⌝ }
-{
-    a && b && c
-}
-
-pub fn all4(a: bool, b: bool, c: bool, d: bool) -> bool
-    ensures { λ r. ⌜ r ≡ (a && b && c && d) ⌝ }
-{
-    a && b && c && d
-}
-
-pub fn all5(a: bool, b: bool, c: bool, d: bool, e: bool) -> bool
-    ensures { λ r. ⌜ r ≡ (a && b && c && d && e) ⌝ }
-{
-    a && b && c && d && e
-}
-
 // Whether a command's number is served.
 pub fn is_command(c: u64) -> bool
     ensures { λ r. ⌜ r ≡ servedCommand c ⌝ }
 {
-    1 <= c && c <= 4
+    both(1 <= c, c <= 4)
 }
 
 // Whether it is the served endpoint and feature.
 pub fn is_served(endpoint: u64, feature: u64) -> bool
     ensures { λ r. ⌜ r ≡ servedAt endpoint feature ⌝ }
 {
-    endpoint == messages::ENDPOINT && feature == messages::FEATURE
+    both(endpoint == messages::ENDPOINT, feature == messages::FEATURE)
 }
 
 fn read_envelope(s: &[u8], w: Walk) -> Envelope
@@ -121,7 +100,7 @@ fn read_values(s: &[u8], w: Walk, null: bool) -> Values
     let values = Limits {
         consumption: c,
         production: p,
-        duration: duration.value,
+        duration: or_zero(duration.there, duration.value),
         cause: cause.value,
     };
     Values { ok, values }
@@ -148,6 +127,13 @@ fn setpoints_of(l: Limits) -> Setpoints
         duration: l.duration,
         cause: l.cause,
     }
+}
+
+// An omitted duration is 0.
+fn or_zero(there: bool, duration: u64) -> u64
+    ensures { λ r. ⌜ r ≡ cond there duration 0 ⌝ }
+{
+    if there { duration } else { 0 }
 }
 
 fn aim_of(there: bool, direction: u64) -> Aim
@@ -205,7 +191,7 @@ fn read_message(s: &[u8], w: Walk) -> Reading
     let e = read_envelope(s, w);
     if e.ok {
         let parameters = e.parameters;
-        if all2(is_served(e.endpoint, e.feature), is_command(e.command)) {
+        if both(is_served(e.endpoint, e.feature), is_command(e.command)) {
             return match read_command(s, parameters, e.command) {
                 Parameters::Are(command) => Reading::Is(Request {
                     id: e.id,

@@ -7,11 +7,11 @@ use crate::fields::read_truth;
 use crate::fields::read_uint;
 use crate::prefix::is_framed;
 use crate::requests::MOST32;
-use crate::requests::all2;
-use crate::requests::all3;
-use crate::requests::all4;
-use crate::requests::all5;
 use crate::requests::is_command;
+use crate::tests::all3;
+use crate::tests::all5;
+use crate::tests::both;
+use crate::tests::either;
 use messages::Amount;
 use messages::LimitResult;
 use messages::Outcome;
@@ -54,14 +54,17 @@ pub const MOST_VALUE: u64 = 9223372036854775807;
 pub fn is_status(n: u64) -> bool
     ensures { λ r. ⌜ r ≡ isStatus n ⌝ }
 {
-    n == 0 || n == 4 || n == 5 || (9 <= n && n <= 14)
+    either(
+        either(either(n == 0, n == 4), n == 5),
+        both(9 <= n, n <= 14),
+    )
 }
 
 // Whether a result stands at a status.
 pub fn has_result(command: u64, status: u64) -> bool
     ensures { λ r. ⌜ r ≡ stands command status ⌝ }
 {
-    status == 0 || (command == 1 && 11 <= status && status <= 14)
+    either(status == 0, all3(command == 1, 11 <= status, status <= 14))
 }
 
 fn amount_of(there: bool, value: u64) -> Amount
@@ -105,7 +108,10 @@ fn read_targets(s: &[u8], w: Walk) -> Targets
     let success = read_truth(s, w, 1);
     let consumption = read_uint(s, success.next, 2, false, MOST_VALUE);
     let production = read_uint(s, consumption.next, 3, false, MOST_VALUE);
-    let ok = all4(success.ok, success.value, consumption.ok, production.ok);
+    let ok = both(
+        both(success.ok, success.value),
+        both(consumption.ok, production.ok),
+    );
     let result = SetpointResult {
         consumption: amount_of(consumption.there, consumption.value),
         production: amount_of(production.there, production.value),
@@ -134,7 +140,7 @@ fn read_outcome(s: &[u8], w: Walk, command: u64) -> Result
         return Result::Wrong;
     }
     let success = read_truth(s, w, 1);
-    if all2(success.ok, success.value) {
+    if both(success.ok, success.value) {
         return Result::Is(Outcome::Success);
     }
     Result::Wrong

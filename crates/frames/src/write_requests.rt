@@ -10,6 +10,8 @@ use crate::puts::put_uint;
 use crate::puts::put_value;
 use crate::requests::MOST32;
 use crate::requests::is_served;
+use crate::tests::both;
+use crate::tests::either;
 use messages::Aim;
 use messages::Amount;
 use messages::Command;
@@ -151,9 +153,9 @@ fn command_wide(c: Command) -> bool
     ensures { λ r. ⌜ r ≡ commandWide c ⌝ }
 {
     match c {
-        Command::SetLimit(l) => MOST32 < l.duration || 255 < l.cause,
+        Command::SetLimit(l) => either(MOST32 < l.duration, 255 < l.cause),
         Command::ClearLimit(a) => aim_wide(a),
-        Command::SetSetpoint(l) => MOST32 < l.duration || 255 < l.cause,
+        Command::SetSetpoint(l) => either(MOST32 < l.duration, 255 < l.cause),
         Command::ClearSetpoint(a) => aim_wide(a),
         Command::Unserved(n) => 65535 < n,
     }
@@ -175,7 +177,10 @@ fn request_wide(r: Request) -> bool
     ensures { λ w. ⌜ w ≡ requestWide r ⌝ }
 {
     let command = r.command;
-    MOST32 < r.id || 255 < r.endpoint || 65535 < r.feature || command_wide(command)
+    either(
+        either(either(MOST32 < r.id, 255 < r.endpoint), 65535 < r.feature),
+        command_wide(command),
+    )
 }
 
 // The refusal of a request, whatever the room: 3, then 4.
@@ -186,10 +191,8 @@ fn request_number(r: Request) -> u64
     if request_wide(r) {
         return 3;
     }
-    if is_served(r.endpoint, r.feature) {
-        if has_parameters(command) {
-            return 0;
-        }
+    if both(is_served(r.endpoint, r.feature), has_parameters(command)) {
+        return 0;
     }
     4
 }

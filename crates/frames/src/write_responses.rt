@@ -8,13 +8,14 @@ use crate::puts::put_pair;
 use crate::puts::put_truth;
 use crate::puts::put_uint;
 use crate::requests::MOST32;
-use crate::requests::all2;
-use crate::requests::all3;
-use crate::requests::all4;
 use crate::requests::is_command;
 use crate::responses::MOST_VALUE;
 use crate::responses::has_result;
 use crate::responses::is_status;
+use crate::tests::all3;
+use crate::tests::all4;
+use crate::tests::both;
+use crate::tests::either;
 use crate::write_requests::ROOM;
 use messages::Amount;
 use messages::LimitResult;
@@ -133,7 +134,7 @@ fn setpoint_in_range(l: SetpointResult) -> bool
 {
     let consumption = l.consumption;
     let production = l.production;
-    all2(
+    both(
         amount_up_to(MOST_VALUE, consumption),
         amount_up_to(MOST_VALUE, production),
     )
@@ -145,9 +146,9 @@ fn goes_with(command: u64, o: Outcome) -> bool
 {
     match o {
         Outcome::Nothing => false,
-        Outcome::Limit(l) => all2(command == 1, limit_in_range(l)),
-        Outcome::Setpoint(l) => all2(command == 3, setpoint_in_range(l)),
-        Outcome::Success => command == 2 || command == 4,
+        Outcome::Limit(l) => both(command == 1, limit_in_range(l)),
+        Outcome::Setpoint(l) => both(command == 3, setpoint_in_range(l)),
+        Outcome::Success => either(command == 2, command == 4),
     }
 }
 

@@ -1,0 +1,43 @@
+-- The refusal of a response, from its tests. Assumes nothing.
+use Prim.Native.Nat.{ℕ, suc, _+_, _<_, _^_}
+use mathlib.Core.Path.{_≡_, refl, sym, ap, subst, _∙_}
+use mathlib.Core.Bool.{Bool, true, false, cond, not, _&&_}
+use mathlib.Core.List.{List, [], _∷_}
+use lib.Dec.{T, leb, ltb}
+use Rattle.messages.specs.Refusals.{firstOf}
+use Rattle.messages.specs.declared.Response.{Response}
+use Rattle.frames.specs.Fields.{most32}
+use Rattle.frames.specs.Requests.{servedCommand}
+use Rattle.frames.specs.Responses.{isStatus, fits, responseNumber, responseFits, statusNumber, statusFits}
+use Rattle.frames.proofs.Joined.{and-same}
+
+module _ (c : ℕ) (r : Response) (a : Bool) (ae : a ≡ servedCommand c) where
+  pub number-unserved : a ≡ false → 4 ≡ responseNumber c r
+  unfolding responseNumber firstOf
+  number-unserved y = rw (sym ae ∙ y)
+
+  module _ (y : a ≡ true) (p q t : Bool) (pe : p ≡ isStatus (r .status)) (qe : q ≡ fits c (r .status) (r .outcome)) (te : t ≡ (leb (r .id) most32 && (p && q))) where
+    whole : t ≡ responseFits c r
+    unfolding responseFits
+    whole = te ∙ ap (λ (x : Bool). leb (r .id) most32 && x) (and-same pe qe)
+
+    pub number-whole : t ≡ true → 0 ≡ responseNumber c r
+    unfolding responseNumber firstOf
+    number-whole z = rw (sym ae ∙ y, sym whole ∙ z)
+
+    pub number-wide : t ≡ false → 3 ≡ responseNumber c r
+    unfolding responseNumber firstOf
+    number-wide z = rw (sym ae ∙ y, sym whole ∙ z)
+
+module _ (i s : ℕ) (p t : Bool) (pe : p ≡ isStatus s) (te : t ≡ (leb i most32 && (p && ltb 0 s))) where
+  alone : t ≡ statusFits i s
+  unfolding statusFits
+  alone = te ∙ ap (λ (x : Bool). leb i most32 && (x && ltb 0 s)) pe
+
+  pub status-whole : t ≡ true → 0 ≡ statusNumber i s
+  unfolding statusNumber firstOf
+  status-whole z = rw (sym alone ∙ z)
+
+  pub status-wide : t ≡ false → 3 ≡ statusNumber i s
+  unfolding statusNumber firstOf
+  status-wide z = rw (sym alone ∙ z)

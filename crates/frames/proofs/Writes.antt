@@ -1,0 +1,88 @@
+-- The bytes of requests and responses, from their parts. Assumes nothing.
+use Prim.Native.Nat.{ℕ, _+_, _≤_, _<_}
+use mathlib.Core.Path.{_≡_, refl, sym, ap, subst, _∙_}
+use mathlib.Core.Bool.{Bool, true, false, cond}
+use mathlib.Core.List.{List, [], _∷_, _++_, append-assoc}
+use mathlib.Core.Option.{Option, some, none}
+use native.Mathlib.Omega.{arith}
+use Rattle.cbor.specs.Head.{headBytes}
+use Rattle.cbor.specs.Item.{Item, Pairs, encode, encodePairs, countPairs}
+use Rattle.messages.specs.Numbers.{wireNumber}
+use Rattle.messages.specs.declared.Limits.{Limits}
+use Rattle.messages.specs.declared.Request.{Request}
+use Rattle.messages.specs.declared.Response.{Response}
+use Rattle.messages.specs.declared.LimitResult.{LimitResult}
+use Rattle.messages.specs.declared.SetpointResult.{SetpointResult}
+use Rattle.frames.specs.Fields.{Fields, present, valueItem, durationItem, amountItem, truthItem}
+use Rattle.frames.specs.Requests.{limitsFields, commandFields, requestFields, requestItem}
+use Rattle.frames.specs.Responses.{mapItem, limitFields, setpointFields, clearFields, outcomeItem, responseFields, responseItem}
+use Rattle.frames.specs.Puts.{pairBytes, fieldBytes, pairsOf}
+use Rattle.frames.proofs.Added.{map-bytes, fields-more, fields-one, count-more, count-none}
+
+pub pairs-small : (o : Option Item) → pairsOf o ≤ 1
+pairs-small (some i) = omega arith
+pairs-small none = omega arith
+
+-- a map under a key: the key and the head, then the pairs
+under-key : (k n : ℕ) (fs : Fields) → n ≡ countPairs (present fs) → pairBytes k 5 n ++ encodePairs (present fs) ≡ fieldBytes k (mapItem fs)
+unfolding pairBytes fieldBytes
+under-key k n fs e = rw (e, map-bytes fs) (append-assoc (headBytes 0 k) (headBytes 5 (countPairs (present fs))) (encodePairs (present fs)))
+
+module _ (l : Limits) (o : Option Item) (e : o ≡ durationItem (l .duration)) where
+  pub limits-count : (x y z : ℕ) → x ≡ pairsOf (valueItem (l .consumption)) → y ≡ pairsOf (valueItem (l .production)) → z ≡ pairsOf o → x + y + z + 1 ≡ countPairs (present (limitsFields l))
+  unfolding limitsFields
+  limits-count x y z a b c = rw (count-more, count-more, count-more, count-more, count-none) (omega (arith, ap pairsOf e))
+
+  pub limits-bytes : ((fieldBytes 1 (valueItem (l .consumption)) ++ fieldBytes 2 (valueItem (l .production))) ++ fieldBytes 3 o) ++ fieldBytes 4 (some (Item.uint (l .cause))) ≡ encodePairs (present (limitsFields l))
+  unfolding limitsFields
+  limits-bytes = rw (e, fields-more, fields-more, fields-more, fields-one) (simp append-assoc)
+
+pub one-count : (k n : ℕ) (o : Option Item) → n ≡ pairsOf o → n ≡ countPairs (present ((k, o) ∷ []))
+one-count k n o e = rw (count-more, count-none) (omega arith)
+
+module _ (r : Request) where
+  pub request-bytes : (n k : ℕ) → k ≡ wireNumber (r .command) → n ≡ countPairs (present (commandFields (r .command)))
+      → (((((headBytes 5 5 ++ fieldBytes 1 (some (Item.uint (r .id)))) ++ fieldBytes 2 (some (Item.uint (r .endpoint)))) ++ fieldBytes 3 (some (Item.uint (r .feature)))) ++ fieldBytes 4 (some (Item.uint k))) ++ pairBytes 5 5 n) ++ encodePairs (present (commandFields (r .command)))
+      ≡ encode (requestItem r)
+  unfolding requestItem requestFields
+  request-bytes n k e f =
+      rw (map-bytes, count-more, count-more, count-more, count-more, count-more, count-none, fields-more, fields-more, fields-more, fields-more, fields-one, ← under-key 5 n (commandFields (r .command)) f, e) (simp append-assoc)
+
+module _ (r : Response) where
+  pub response-bytes : (n : ℕ) → n ≡ pairsOf (outcomeItem (r .outcome))
+      → ((headBytes 5 (2 + n) ++ fieldBytes 1 (some (Item.uint (r .id)))) ++ fieldBytes 2 (some (Item.uint (r .status)))) ++ fieldBytes 3 (outcomeItem (r .outcome)) ≡ encode (responseItem r)
+  unfolding responseItem responseFields
+  response-bytes n e =
+      let c : countPairs (present (responseFields r)) ≡ 2 + n = rw (count-more, count-more, count-more, count-none) (omega arith) in
+      rw (map-bytes, c, fields-more, fields-more, fields-one) (simp append-assoc)
+
+module _ (l : LimitResult) where
+  pub limit-count : (x y z : ℕ) → x ≡ pairsOf (amountItem (l .consumption)) → y ≡ pairsOf (amountItem (l .production)) → z ≡ pairsOf (amountItem (l .reason)) → 2 + x + y + z ≡ countPairs (present (limitFields l))
+  unfolding limitFields
+  limit-count x y z a b c = rw (count-more, count-more, count-more, count-more, count-more, count-none) (omega arith)
+
+  limit-pairs : encodePairs (present (limitFields l)) ≡ fieldBytes 1 (some (truthItem (l .applied))) ++ (fieldBytes 2 (some (Item.uint (l .state))) ++ (fieldBytes 3 (amountItem (l .consumption)) ++ (fieldBytes 4 (amountItem (l .production)) ++ fieldBytes 5 (amountItem (l .reason)))))
+  unfolding limitFields
+  limit-pairs = rw (fields-more, fields-more, fields-more, fields-more, fields-one) refl
+
+  pub limit-bytes : (n : ℕ) → n ≡ countPairs (present (limitFields l))
+      → ((((pairBytes 3 5 n ++ fieldBytes 1 (some (truthItem (l .applied)))) ++ fieldBytes 2 (some (Item.uint (l .state)))) ++ fieldBytes 3 (amountItem (l .consumption))) ++ fieldBytes 4 (amountItem (l .production))) ++ fieldBytes 5 (amountItem (l .reason)) ≡ fieldBytes 3 (mapItem (limitFields l))
+  limit-bytes n e = rw (← under-key 3 n (limitFields l) e, limit-pairs) (simp append-assoc)
+
+module _ (l : SetpointResult) where
+  pub setpoint-count : (x y : ℕ) → x ≡ pairsOf (amountItem (l .consumption)) → y ≡ pairsOf (amountItem (l .production)) → 1 + x + y ≡ countPairs (present (setpointFields l))
+  unfolding setpointFields
+  setpoint-count x y a b = rw (count-more, count-more, count-more, count-none) (omega arith)
+
+  setpoint-pairs : encodePairs (present (setpointFields l)) ≡ fieldBytes 1 (some (truthItem true)) ++ (fieldBytes 2 (amountItem (l .consumption)) ++ fieldBytes 3 (amountItem (l .production)))
+  unfolding setpointFields
+  setpoint-pairs = rw (fields-more, fields-more, fields-one) refl
+
+  pub setpoint-bytes : (n : ℕ) → n ≡ countPairs (present (setpointFields l))
+      → ((pairBytes 3 5 n ++ fieldBytes 1 (some (truthItem true))) ++ fieldBytes 2 (amountItem (l .consumption))) ++ fieldBytes 3 (amountItem (l .production)) ≡ fieldBytes 3 (mapItem (setpointFields l))
+  setpoint-bytes n e = rw (← under-key 3 n (setpointFields l) e, setpoint-pairs) (simp append-assoc)
+
+pub clear-bytes : pairBytes 3 5 1 ++ fieldBytes 1 (some (truthItem true)) ≡ fieldBytes 3 (mapItem clearFields)
+unfolding clearFields
+clear-bytes =
+    ap (λ (x : List ℕ). pairBytes 3 5 1 ++ x) (sym (fields-one 1 (some (truthItem true)))) ∙ under-key 3 1 ((1, some (truthItem true)) ∷ []) (one-count 1 1 (some (truthItem true)) refl)
