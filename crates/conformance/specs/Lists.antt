@@ -4,6 +4,7 @@ use mathlib.Core.Bool.{Bool, true, false, _&&_, _||_, cond}
 use mathlib.Core.List.{List, [], _∷_, _++_}
 use lib.Dec.{leb, eqb}
 use lib.ListN.{length, drop, getD, set}
+unfoldable pub use Rattle.messages.specs.Refusals.{firstOf}
 
 -- n stands in the list
 unfoldable pub member : ℕ → List ℕ → Bool
@@ -29,11 +30,6 @@ ascendsFrom least (x ∷ xs) = leb least x && ascendsFrom (x + 1) xs
 
 abbrev pub ascends : List ℕ → Bool
 ascends xs = ascendsFrom 0 xs
-
--- the number of the first test that holds, 0 where none does
-unfoldable pub firstOf : List (Bool × ℕ) → ℕ
-firstOf [] = 0
-firstOf (t ∷ ts) = cond (t .0) (t .1) (firstOf ts)
 
 -- a buffer with xs written over its front
 unfoldable pub front : List ℕ → List ℕ → List ℕ

@@ -1,17 +1,13 @@
 -- Refusals: a call's tests stand in document 01's order, and the first that holds gives the number.
 use Prim.Native.Nat.{ℕ, _<_}
-use mathlib.Core.Bool.{Bool, true, false, cond, _||_}
+use mathlib.Core.Bool.{Bool, true, false, _||_}
 use mathlib.Core.Path.{_≡_}
-use mathlib.Core.List.{List, [], _∷_}
+use mathlib.Core.List.{List}
 use lib.Dec.{ltb, leb, eqb}
 use lib.ListN.{getD}
+unfoldable pub use Rattle.messages.specs.Refusals.{firstOf}
 use Rattle.device.specs.Sizes.{end}
 use Rattle.device.specs.Zones.{any}
-
--- the number of the first test that holds, 0 where none does
-unfoldable pub firstOf : List (Bool × ℕ) → ℕ
-firstOf [] = 0
-firstOf (x ∷ l) = cond (x .0) (x .1) (firstOf l)
 
 -- the test in place `at` is the first to hold, and n is its number
 pub record FirstAt (l : List (Bool × ℕ)) (n : ℕ) : Type 0 where

@@ -21,7 +21,7 @@ use Rattle.frames.specs.Responses.{isStatus, stands, goesWith, fits, amountUpTo
 use Rattle.device.specs.Sizes.{valueEnd}
 use Rattle.device.specs.Zones.{upTo, joined, zoneOf, anyUp}
 use Rattle.device.specs.Words.{settingsOf, clockOf, overrideOf, zonesOf}
-use Rattle.device.specs.Refusals.{late, firstOf as firstHolds}
+use Rattle.device.specs.Refusals.{late}
 use Rattle.device.specs.Holds.{Situation, situationOf, inFailsafe, stateAt, present, shown, valuesAt, valueAt}
 use Rattle.device.specs.Commands.{commandNumber, commandAfter, commandAnswer, isCapped, outcomeWith, reasonOf, stated, natural, isUnserved, unsupported, isSetLimit, invalid, belowTheMinimum}
 use Rattle.kernel.specs.Frame.{responseTo}
@@ -81,12 +81,12 @@ outcome-fits s t n capped (Command.Unserved m) e = absurd (let z : _≡_ {A = �
 
 -- every number of a command is a status
 number-fits : (ws : List ℕ) (z t : ℕ) (c : Command) → isStatus (commandNumber ws z t c) ≡ true
-unfolding commandNumber firstHolds isStatus
+unfolding commandNumber firstOf isStatus
 number-fits ws z t c =
     go (isUnserved c) (late (clockOf ws) t) (not (joined (zonesOf ws) z)) (not (zoneOf (zonesOf ws) z .up)) (unsupported (settingsOf ws) c)
     (isSetLimit c && not (eqb (overrideOf ws) 0)) (invalid c) (belowTheMinimum (settingsOf ws) c)
   where
-    go : (a b c d e f g h : Bool) → isStatus (firstHolds ((a, 4) ∷ (b, 5) ∷ (c, 9) ∷ (d, 10) ∷ (e, 11) ∷ (f, 12) ∷ (g, 13) ∷ (h, 14) ∷ [])) ≡ true
+    go : (a b c d e f g h : Bool) → isStatus (firstOf ((a, 4) ∷ (b, 5) ∷ (c, 9) ∷ (d, 10) ∷ (e, 11) ∷ (f, 12) ∷ (g, 13) ∷ (h, 14) ∷ [])) ≡ true
     go true b c d e f g h = refl
     go false true c d e f g h = refl
     go false false true d e f g h = refl

@@ -1,2 +1,3 @@
 pub mod InRange
-pub mod Unserved
+pub mod Readings
+pub mod Framing

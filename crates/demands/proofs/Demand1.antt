@@ -1,0 +1,49 @@
+-- Demand 1, proved.
+use mathlib.Core.Path.{_≡_, refl}
+use mathlib.Core.Logic.{_≢_}
+use mathlib.Core.List.{List}
+use Prim.Native.Nat.{ℕ, _+_}
+use lib.IntN.{ℤ, negsuc}
+use lib.ListN.{length, replicate}
+use borrow.Author.Tests.{ne-eqb}
+use Rattle.frames.specs.Writing.{writingNumber, writtenOf, leftBy}
+use Rattle.device.specs.Sizes.{helds}
+use Rattle.device.specs.Calls.{askNumber, askAnswer}
+use Rattle.device.specs.Start.{startNumber, startAfter}
+use Rattle.planner.specs.Plan.{planNumber, planAnswer, planSlice}
+use Rattle.conformance.specs.declared.Inputs.{Inputs}
+use Rattle.conformance.specs.Report.{numberOf, reportOf, pairsAfter}
+use Rattle.demands.specs.Accepted.{startedWith}
+use Rattle.demands.specs.Demands.{Demand1}
+use Rattle.demands.proofs.Answers.{answers}
+use Rattle.demands.proofs.Responses.{responds}
+
+no-values : (ws : List ℕ) (t : ℕ) → askNumber ws t ≢ 0 → askAnswer ws t .values ≡ replicate (1 + helds) (negsuc 0)
+unfolding askAnswer
+no-values ws t p = rw (ne-eqb (askNumber ws t) 0 p)
+
+no-rows : (ws : List ℕ) (t : ℕ) (out : List ℤ) → planNumber ws t (length out) ≢ 0 → (planSlice ws t out ≡ out) × (planAnswer ws t (length out) .count ≡ 0)
+unfolding planSlice planAnswer
+no-rows ws t out p = let e = ne-eqb (planNumber ws t (length out)) 0 p in (rw e, rw e)
+
+no-frame : (n : ℕ) (bytes out : List ℕ) → writingNumber n bytes (length out) ≢ 0 → (leftBy n bytes out ≡ out) × (writtenOf n bytes (length out) .length ≡ 0)
+unfolding leftBy writtenOf
+no-frame n bytes out p = let e = ne-eqb (writingNumber n bytes (length out)) 0 p in (rw e, rw e)
+
+no-pairs : (i : Inputs) (attributes out : List ℕ) → numberOf i attributes (length out) ≢ 0
+    → (pairsAfter i attributes out ≡ out) × (reportOf i attributes (length out) .count ≡ 0)
+unfolding pairsAfter reportOf
+no-pairs i attributes out p = let e = ne-eqb (numberOf i attributes (length out)) 0 p in (rw e, rw e)
+
+pub demand-1 : Demand1
+unfolding startNumber startAfter startedWith
+demand-1 =
+    record {
+      calls = answers;
+      frame = λ ws z t bytes out. responds ws z t out bytes;
+      ask = no-values;
+      plan = no-rows;
+      write = no-frame;
+      report = no-pairs;
+      start = λ s. (refl, refl);
+    }

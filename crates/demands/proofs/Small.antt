@@ -1,0 +1,204 @@
+-- A command that a frame carries names values below 2^63 alone.
+use mathlib.Core.Path.{_≡_, refl}
+use mathlib.Core.Bool.{Bool, true, false, cond, _&&_}
+use mathlib.Core.List.{List}
+use mathlib.Core.Option.{Option, some, none, bind, Option·map}
+use Prim.Native.Nat.{ℕ, _<_, _^_, min}
+use native.Mathlib.Nat.{min-le-right}
+use native.Mathlib.Omega.{arith}
+use lib.Dec.{ltb, eqb}
+use lib.IntN.{ℤ, pos, negsuc}
+use lib.ListN.{getD}
+use borrow.Author.Tests.{ltb-true}
+use Rattle.cbor.specs.Item.{Item, Pairs, payloadOf}
+use Rattle.cbor.specs.Int.{intOf}
+use Rattle.cbor.specs.Find.{valueOf}
+use Rattle.cbor.specs.declared.ints.Int.{Int}
+use Rattle.messages.specs.declared.Field.{Field}
+use Rattle.messages.specs.declared.Target.{Target}
+use Rattle.messages.specs.declared.Aim.{Aim}
+use Rattle.messages.specs.declared.Limits.{Limits}
+use Rattle.messages.specs.declared.Command.{Command}
+use Rattle.frames.specs.Prefix.{framed, payloadIn}
+use Rattle.frames.specs.Fields.{mapIn, upTo, needed, optional, inside, signed, valueIn, durationIn, aimIn}
+use Rattle.frames.specs.Requests.{Envelope, envelopeIn, servedAt, servedCommand, limitsIn, targetOf, setpointsOf, commandIn, withCommand, fromEnvelope, fromPayload, readRequest}
+use Rattle.frames.specs.declared.requests.Reading.{Reading}
+use Rattle.device.specs.declared.Settings.{Settings}
+use Rattle.device.specs.declared.Action.{Action}
+use Rattle.device.specs.Sizes.{valueEnd}
+use Rattle.device.specs.Holds.{isLimit, directionOf}
+use Rattle.device.specs.Commands.{natural, fieldAction, targetAction, aimAction, action}
+
+-- SMALL: a number below 2^63, or no number
+abbrev pub SmallField : Field → Type 0
+SmallField Field.Absent = Unit {0}
+SmallField Field.Null = Unit {0}
+SmallField (Field.Value z) = natural z < valueEnd
+
+abbrev pub SmallTarget : Target → Type 0
+SmallTarget Target.Absent = Unit {0}
+SmallTarget (Target.Value z) = natural z < valueEnd
+
+abbrev pub SmallLimits : Limits → Type 0
+SmallLimits m = SmallField (m .consumption) × SmallField (m .production)
+
+abbrev pub SmallCommand : Command → Type 0
+SmallCommand (Command.SetLimit m) = SmallLimits m
+SmallCommand (Command.ClearLimit a) = Unit {0}
+SmallCommand (Command.SetSetpoint m) = SmallTarget (m .consumption) × SmallTarget (m .production)
+SmallCommand (Command.ClearSetpoint a) = Unit {0}
+SmallCommand (Command.Unserved n) = Unit {0}
+
+abbrev pub SmallReading : Reading → Type 0
+SmallReading (Reading.Is r) = SmallCommand (r .command)
+SmallReading (Reading.Unserved i) = Unit {0}
+SmallReading (Reading.Refused n) = Unit {0}
+
+-- WHAT IS READ
+-- what an option holds, if anything, is P
+abbrev Every : {X : Type 0} → (X → Type 0) → Option X → Type 0
+Every P none = Unit {0}
+Every P (some x) = P x
+
+every-bind : {X Y : Type 0} (P : X → Type 0) (Q : Y → Type 0) (o : Option X) (f : X → Option Y) → Every P o → ((x : X) → P x → Every Q (f x)) → Every Q (bind o f)
+unfolding bind
+every-bind P Q none f h k = tt
+every-bind P Q (some x) f h k = k x h
+
+any-bind : {X Y : Type 0} (Q : Y → Type 0) (o : Option X) (f : X → Option Y) → ((x : X) → Every Q (f x)) → Every Q (bind o f)
+unfolding bind
+any-bind Q none f k = tt
+any-bind Q (some x) f k = k x
+
+every-map : {X Y : Type 0} (P : X → Type 0) (Q : Y → Type 0) (o : Option X) (f : X → Y) → Every P o → ((x : X) → P x → Q (f x)) → Every Q (Option·map f o)
+every-map P Q none f h k = tt
+every-map P Q (some x) f h k = k x h
+
+any-map : {X Y : Type 0} (Q : Y → Type 0) (o : Option X) (f : X → Y) → ((x : X) → Q (f x)) → Every Q (Option·map f o)
+any-map Q none f k = tt
+any-map Q (some x) f k = k x
+
+small-int : (n : ℕ) (z : ℤ) → (n < 2 ^ 63 → natural z < valueEnd) → Every SmallField (inside (cond (ltb n (2 ^ 63)) (Int.Is z) Int.OutOfRange))
+small-int n z k = go (ltb n (2 ^ 63)) refl
+  where
+    go : (b : Bool) → ltb n (2 ^ 63) ≡ b → Every SmallField (inside (cond b (Int.Is z) Int.OutOfRange))
+    go true e = k (ltb-true n (2 ^ 63) e)
+    go false e = tt
+
+small-signed : (null : Bool) (i : Item) → Every SmallField (signed null i)
+unfolding signed intOf
+small-signed null (Item.uint v) = small-int v (pos v) (λ h. h)
+small-signed null (Item.nint v) = small-int v (negsuc v) (λ h. omega arith)
+small-signed null (Item.bytes b) = tt
+small-signed null (Item.text b) = tt
+small-signed null (Item.array is) = tt
+small-signed null (Item.map ps) = tt
+small-signed null (Item.simple v) = go (eqb v 22) null
+  where
+    go : (a b : Bool) → Every SmallField (cond a (cond b (some Field.Null) none) none)
+    go true true = tt
+    go true false = tt
+    go false b = tt
+
+small-value : (null : Bool) (o : Option Item) → Every SmallField (valueIn null o)
+unfolding valueIn optional
+small-value null none = tt
+small-value null (some i) = every-map SmallField SmallField (signed null i) (λ f. f) (small-signed null i) (λ f h. h)
+
+small-limits : (null : Bool) (ps : Pairs) → Every SmallLimits (limitsIn null ps)
+unfolding limitsIn
+small-limits null ps =
+    every-bind SmallField SmallLimits (valueIn null (valueOf ps 1)) _ (small-value null (valueOf ps 1)) (λ c hc.
+    every-bind SmallField SmallLimits (valueIn null (valueOf ps 2)) _ (small-value null (valueOf ps 2)) (λ p hp.
+    any-bind SmallLimits (durationIn (valueOf ps 3)) _ (λ d.
+    any-bind SmallLimits (needed (upTo 255) (valueOf ps 4)) _ (λ k. (hc, hp)))))
+
+small-target : (f : Field) → SmallField f → SmallTarget (targetOf f)
+small-target Field.Absent h = tt
+small-target Field.Null h = tt
+small-target (Field.Value z) h = h
+
+small-command : (c : ℕ) (ps : Pairs) → Every SmallCommand (commandIn c ps)
+unfolding commandIn setpointsOf
+small-command c ps = go (eqb c 1) (eqb c 2) (eqb c 3)
+  where
+    go : (x y z : Bool) → Every SmallCommand (
+        cond x (Option·map Command.SetLimit (limitsIn true ps))
+        (cond y (Option·map Command.ClearLimit (aimIn (valueOf ps 1)))
+        (cond z (Option·map (λ l. Command.SetSetpoint (setpointsOf l)) (limitsIn false ps))
+        (Option·map Command.ClearSetpoint (aimIn (valueOf ps 1))))))
+    go true y z = every-map SmallLimits SmallCommand (limitsIn true ps) Command.SetLimit (small-limits true ps) (λ m h. h)
+    go false true z = any-map SmallCommand (aimIn (valueOf ps 1)) Command.ClearLimit (λ a. tt)
+    go false false true =
+        every-map SmallLimits SmallCommand (limitsIn false ps) (λ l. Command.SetSetpoint (setpointsOf l)) (small-limits false ps)
+        (λ m h. (small-target (m .consumption) (h .0), small-target (m .production) (h .1)))
+    go false false false = any-map SmallCommand (aimIn (valueOf ps 1)) Command.ClearSetpoint (λ a. tt)
+
+pub small-reading : (bytes : List ℕ) → SmallReading (readRequest bytes)
+unfolding readRequest fromPayload fromEnvelope
+small-reading bytes = go (framed bytes) (payloadOf (payloadIn bytes))
+  where
+    parameters : (v : Envelope) (o : Option Command) → Every SmallCommand o → SmallReading (withCommand v o)
+    parameters v none h = tt
+    parameters v (some c) h = h
+
+    envelope : (o : Option Envelope) → SmallReading (fromEnvelope o)
+    envelope none = tt
+    envelope (some v) = served (servedAt (v .endpoint) (v .feature) && servedCommand (v .command))
+      where
+        served : (b : Bool) → SmallReading (cond b (withCommand v (commandIn (v .command) (v .parameters))) (Reading.Unserved (v .id)))
+        served true = parameters v (commandIn (v .command) (v .parameters)) (small-command (v .command) (v .parameters))
+        served false = tt
+
+    go : (b : Bool) (o : Option Item) → SmallReading (cond b (fromPayload o) (Reading.Refused 1))
+    go false o = tt
+    go true none = tt
+    go true (some i) = envelope (bind (mapIn i) envelopeIn)
+
+-- WHAT IS STORED
+puts-field : (top v : ℕ) (f : Field) → SmallField f → fieldAction top f ≡ Action.Put v → v < valueEnd
+unfolding fieldAction
+puts-field top v Field.Absent h e = absurd (let w : _≡_ {A = ℕ} 0 1 = cc in omega arith)
+puts-field top v Field.Null h e = absurd (let w : _≡_ {A = ℕ} 0 1 = cc in omega arith)
+puts-field top v (Field.Value z) h e = let q : min top (natural z) ≡ v = cc in omega (arith, min-le-right top (natural z))
+
+puts-target : (v : ℕ) (f : Target) → SmallTarget f → targetAction f ≡ Action.Put v → v < valueEnd
+unfolding targetAction
+puts-target v Target.Absent h e = absurd (let w : _≡_ {A = ℕ} 0 1 = cc in omega arith)
+puts-target v (Target.Value z) h e = let q : natural z ≡ v = cc in omega arith
+
+-- a clear puts nothing
+no-aim : {X : Type 0} (l : Bool) (a : Aim) (d v : ℕ) → cond l (aimAction a d) Action.Keep ≡ Action.Put v → X
+unfolding aimAction
+no-aim true Aim.Both d v e = absurd (let w : _≡_ {A = ℕ} 0 1 = cc in omega arith)
+no-aim {X} true (Aim.One k) d v e = go (eqb k d) e
+  where
+    go : (b : Bool) → cond b Action.Remove Action.Keep ≡ Action.Put v → X
+    go true e = absurd (let w : _≡_ {A = ℕ} 0 1 = cc in omega arith)
+    go false e = absurd (let w : _≡_ {A = ℕ} 0 1 = cc in omega arith)
+no-aim false a d v e = absurd (let w : _≡_ {A = ℕ} 0 1 = cc in omega arith)
+
+pub small-action : (s : Settings) (c : Command) (q v : ℕ) → SmallCommand c → action s c q ≡ Action.Put v → v < valueEnd
+unfolding action
+small-action s (Command.SetLimit m) q v h e = go (isLimit q) (eqb (directionOf q) 0) e
+  where
+    top : ℕ
+    top = getD (s .maxima) (directionOf q) 0
+
+    go : (l d : Bool) → cond l (fieldAction top (cond d (m .consumption) (m .production))) Action.Keep ≡ Action.Put v → v < valueEnd
+    go true true e = puts-field top v (m .consumption) (h .0) e
+    go true false e = puts-field top v (m .production) (h .1) e
+    go false d e = absurd (let w : _≡_ {A = ℕ} 0 1 = cc in omega arith)
+small-action s (Command.ClearLimit a) q v h e = no-aim (isLimit q) a (directionOf q) v e
+small-action s (Command.SetSetpoint m) q v h e = go (isLimit q) (eqb (directionOf q) 0) e
+  where
+    go : (l d : Bool) → cond l Action.Keep (targetAction (cond d (m .consumption) (m .production))) ≡ Action.Put v → v < valueEnd
+    go true d e = absurd (let w : _≡_ {A = ℕ} 0 1 = cc in omega arith)
+    go false true e = puts-target v (m .consumption) (h .0) e
+    go false false e = puts-target v (m .production) (h .1) e
+small-action s (Command.ClearSetpoint a) q v h e = go (isLimit q) e
+  where
+    go : (l : Bool) → cond l Action.Keep (aimAction a (directionOf q)) ≡ Action.Put v → v < valueEnd
+    go true e = absurd (let w : _≡_ {A = ℕ} 0 1 = cc in omega arith)
+    go false e = no-aim true a (directionOf q) v e
+small-action s (Command.Unserved n) q v h e = absurd (let w : _≡_ {A = ℕ} 0 1 = cc in omega arith)

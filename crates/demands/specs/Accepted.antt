@@ -1,0 +1,104 @@
+-- Which calls are accepted, by the history alone: the calls' own tests with the history's answers, and the log that they make.
+use Prim.Native.Nat.{ℕ}
+use mathlib.Core.Path.{_≡_}
+use mathlib.Core.Bool.{Bool, true, false, cond}
+use mathlib.Core.List.{List, [], _∷_}
+use lib.Dec.{leb, eqb}
+use lib.ListN.{length}
+use Rattle.messages.specs.declared.Command.{Command}
+use Rattle.messages.specs.declared.Outcome.{Outcome}
+use Rattle.messages.specs.declared.Request.{Request}
+use Rattle.messages.specs.declared.Response.{Response}
+use Rattle.device.specs.declared.Settings.{Settings}
+use Rattle.device.specs.Holds.{Situation, valuesAt}
+use Rattle.device.specs.Refusals.{firstOf}
+use Rattle.device.specs.Calls.{joinTests, leaveTests, linkTests, overrideTests, overrideWord, clearTests, askTests}
+use Rattle.device.specs.Commands.{commandTests, isCapped, outcomeWith}
+use Rattle.device.specs.Start.{badSettings, refusedSettings}
+use Rattle.planner.specs.Plan.{planTests, planOf}
+use Rattle.frames.specs.Requests.{readRequest}
+use Rattle.frames.specs.Responses.{responseItem, statusAlone}
+use Rattle.frames.specs.Writing.{itemFrame, writingNumber}
+use Rattle.frames.specs.declared.requests.Reading.{Reading}
+use Rattle.demands.specs.Run.{Call, join, leave, lost, back, override, clear, ask, plan, frame}
+use Rattle.demands.specs.History.{Told, joins, leaves, links, commands, overrides, passes, Entry, Log, clockBy, overrideBy, joinedBy, upBy, zonesBy, situationBy}
+
+-- THE NUMBERS: the tests of the device's calls, with the history's answers
+unfoldable pub linkNumberBy : Log → ℕ → Bool → ℕ → ℕ
+linkNumberBy h z u t = firstOf (linkTests (clockBy h) (joinedBy h z) (upBy h z) u t)
+
+unfoldable pub commandNumberBy : Settings → Log → ℕ → ℕ → Command → ℕ
+commandNumberBy s h z t c = firstOf (commandTests (clockBy h) (joinedBy h z) (upBy h z) s (overrideBy h) t c)
+
+-- the log with one call more where its number is 0
+unfoldable pub kept : ℕ → Entry → Log → Log
+kept n e h = cond (eqb n 0) (e ∷ h) h
+
+-- a command's result: "Values in a response are those at the call's time, the command's own effect included if accepted"
+unfoldable pub outcomeBy : Settings → Log → ℕ → ℕ → Command → Outcome
+outcomeBy s h z t c =
+    outcomeWith c (commandNumberBy s h z t c) (isCapped s c)
+    (valuesAt (situationBy s (kept (commandNumberBy s h z t c) (t, commands z c) h)) t)
+
+unfoldable pub responseBy : Settings → Log → ℕ → ℕ → Request → Response
+responseBy s h z t r = record { id = r .id; status = commandNumberBy s h z t (r .command); outcome = outcomeBy s h z t (r .command) }
+
+-- the response frame: none at 1, 2 and 3; status 4; a status and its result else
+unfoldable pub responseFrameBy : Settings → Log → ℕ → ℕ → Reading → List ℕ
+responseFrameBy s h z t (Reading.Refused n) = []
+responseFrameBy s h z t (Reading.Unserved i) = itemFrame (responseItem (statusAlone i 4))
+responseFrameBy s h z t (Reading.Is r) = itemFrame (responseItem (responseBy s h z t r))
+
+unfoldable pub numberFromBy : Settings → Log → ℕ → ℕ → Reading → ℕ → ℕ
+numberFromBy s h z t (Reading.Refused n) room = n
+numberFromBy s h z t (Reading.Unserved i) room = 4
+numberFromBy s h z t (Reading.Is r) room = writingNumber (commandNumberBy s h z t (r .command)) (responseFrameBy s h z t (Reading.Is r)) room
+
+unfoldable pub numberBy : Settings → Log → Call → ℕ
+numberBy s h (join z k t) = firstOf (joinTests (clockBy h) (joinedBy h z) (leb 8 (length (zonesBy s h))) z k t)
+numberBy s h (leave z t) = firstOf (leaveTests (clockBy h) (joinedBy h z) t)
+numberBy s h (lost z t) = linkNumberBy h z false t
+numberBy s h (back z t) = linkNumberBy h z true t
+numberBy s h (override r d t) = firstOf (overrideTests (clockBy h) (s .manager) r d t)
+numberBy s h (clear t) = firstOf (clearTests (clockBy h) (overrideBy h) t)
+numberBy s h (ask t) = firstOf (askTests (clockBy h) t)
+numberBy s h (plan t room) = firstOf (planTests (clockBy h) (planOf (situationBy s h) t) t room)
+numberBy s h (frame z t bytes room) = numberFromBy s h z t (readRequest bytes) room
+
+-- what a frame tells is its command; one that reads as none is never accepted
+unfoldable pub tells : ℕ → Reading → Told
+tells z (Reading.Refused n) = passes
+tells z (Reading.Unserved i) = passes
+tells z (Reading.Is r) = commands z (r .command)
+
+unfoldable pub entry : Call → Entry
+entry (join z k t) = (t, joins z k)
+entry (leave z t) = (t, leaves z)
+entry (lost z t) = (t, links z false)
+entry (back z t) = (t, links z true)
+entry (override r d t) = (t, overrides (overrideWord r d))
+entry (clear t) = (t, overrides 0)
+entry (ask t) = (t, passes)
+entry (plan t room) = (t, passes)
+entry (frame z t bytes room) = (t, tells z (readRequest bytes))
+
+-- the accepted calls, from the history alone
+unfoldable pub log : Settings → List Call → Log
+log s [] = []
+log s (c ∷ calls) = kept (numberBy s (log s calls) c) (entry c) (log s calls)
+
+-- "A refused start hands back a fresh device" with settings of its own
+unfoldable pub startedWith : Settings → Settings
+startedWith s = cond (badSettings s) refusedSettings s
+
+-- maxima and failsafe limits go by direction: two numbers each, as their type in the code has it
+pub record InPairs (s : Settings) : Type 0 where
+  pub maxima : length (s .maxima) ≡ 2
+  pub failsafe : length (s .failsafe) ≡ 2
+
+-- the log of calls to a device that was started with s, and the situation that it tells of
+abbrev pub history : Settings → List Call → Log
+history s calls = log (startedWith s) calls
+
+abbrev pub told : Settings → List Call → Situation
+told s calls = situationBy (startedWith s) (history s calls)

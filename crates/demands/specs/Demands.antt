@@ -1,0 +1,97 @@
+-- THE TENDER'S THREE DEMANDS, over the definitions that the contracts of the calls cite. Proved in proofs/Demand1, Demand2 and Demand3.
+use Prim.Native.Nat.{ℕ, _+_, _≤_, _<_}
+use mathlib.Core.Path.{_≡_}
+use mathlib.Core.Logic.{_≢_}
+use mathlib.Core.List.{List, [], _∷_}
+use lib.IntN.{ℤ, pos, negsuc}
+use lib.ListN.{length, replicate}
+use Rattle.cbor.specs.Bytes.{putWhole}
+use Rattle.cbor.specs.Laws.{PayloadExact, OneItem}
+use Rattle.messages.specs.declared.Amount.the-variants.{Is}
+use Rattle.messages.specs.declared.Command.{Command}
+use Rattle.frames.specs.Requests.{readRequest}
+use Rattle.frames.specs.Writing.{writingNumber, writtenOf, leftBy}
+use Rattle.device.specs.declared.Settings.{Settings}
+use Rattle.device.specs.declared.Zone.{Zone}
+use Rattle.device.specs.Sizes.{helds}
+use Rattle.device.specs.Holds.{Situation, situationOf, valueAt, shown, valuesAt}
+use Rattle.device.specs.Table.{Table, Expiry}
+use Rattle.device.specs.Refusals.{firstOf}
+use Rattle.device.specs.Calls.{askNumber, askAnswer}
+use Rattle.device.specs.Start.{badSettings, startNumber, startAfter}
+use Rattle.device.specs.Words.{fresh}
+use Rattle.planner.specs.Rows.{IsPlan}
+use Rattle.planner.specs.Plan.{numbersOf, front, planNumber, planAnswer, planSlice}
+use Rattle.kernel.specs.Frame.{frameNumber, frameAnswer, frameOut}
+use Rattle.conformance.specs.declared.Inputs.{Inputs}
+use Rattle.conformance.specs.Report.{numberOf, reportOf, pairsAfter}
+use Rattle.conformance.specs.Statements.{Exact, Ordered}
+use Rattle.demands.specs.Run.{Call, number, run}
+use Rattle.demands.specs.Accepted.{numberBy, responseFrameBy, startedWith, InPairs, history, told}
+use Rattle.demands.specs.Answers.{Answers, Responds}
+use Rattle.demands.specs.ReleasedSlot.{ReleasedSlot}
+
+-- DEMAND 1
+-- "Every call ends with an answer, for every frame, time, zone number and state": each contract gives its call's answer for all inputs, and asks for nothing.
+pub record Demand1 : Type 0 where
+  -- "A refusal carries the number that the table in document 01 gives for that case, and is not given otherwise. It changes neither state nor clock"
+  pub calls : (device : List ℕ) (c : Call) → Answers device c
+  -- ".. and writes nothing except the response frame where the table allows one"
+  pub frame : (device : List ℕ) (z t : ℕ) (bytes out : List ℕ)
+      → Responds (frameNumber device z t bytes (length out)) out (frameOut device z t bytes out) (frameAnswer device z t bytes (length out) .length)
+  -- "Beside a refusal, values are -1 and counts 0"
+  pub ask : (device : List ℕ) (t : ℕ) → askNumber device t ≢ 0 → askAnswer device t .values ≡ replicate (1 + helds) (negsuc 0)
+  pub plan : (device : List ℕ) (t : ℕ) (out : List ℤ) → planNumber device t (length out) ≢ 0
+      → (planSlice device t out ≡ out) × (planAnswer device t (length out) .count ≡ 0)
+  pub write : (n : ℕ) (frame out : List ℕ) → writingNumber n frame (length out) ≢ 0
+      → (leftBy n frame out ≡ out) × (writtenOf n frame (length out) .length ≡ 0)
+  pub report : (i : Inputs) (attributes out : List ℕ) → numberOf i attributes (length out) ≢ 0
+      → (pairsAfter i attributes out ≡ out) × (reportOf i attributes (length out) .count ≡ 0)
+  -- "A refused start hands back a fresh device" with settings of its own
+  pub start : (s : Settings) → (startNumber s ≡ firstOf ((badSettings s, 16) ∷ [])) × (startAfter s ≡ fresh (startedWith s))
+
+-- DEMAND 2
+pub record Demand2 : Type 0 where
+  -- "Frames are read and written as RFC 8949 and document 01 say": a payload is read exactly where it is the one encoding of an item of the strict subset
+  pub strict : PayloadExact
+  pub encoded : OneItem
+  -- "With a zone's link up, the limit in each direction is the smallest unexpired one, absent exactly when there is none;
+  -- the setpoint is that of the highest-ranked zone that has one; other cases follow document 01"
+  pub table : (s : Situation) (t : ℕ) → Table s t
+  -- "A value set at second n with duration d > 0 holds while t < n + d; duration 0 or omitted holds until replaced or cleared"
+  pub expiry : (s : Settings) (c : Command) (x : Zone) → Expiry s c x
+  -- "The conformance report lists every breach of document 01's six groups once"
+  pub exact : Exact
+  pub ordered : Ordered
+
+-- DEMAND 3
+-- a slice and a count that list a plan: every later second at which the values f change, each once, in order, with the values from then on
+pub record Lists (f : ℕ → List ℤ) (now : ℕ) (before after : List ℤ) (count : ℕ) : Type 0 where
+  pub rows : List (ℕ × List ℤ)
+  pub whole : IsPlan f now rows
+  pub only : (others : List (ℕ × List ℤ)) → IsPlan f now others → others ≡ rows
+  pub slice : after ≡ front (numbersOf rows) before
+  pub counted : count ≡ length rows
+  pub few : length rows ≤ 32
+
+-- the device that calls lead to, beside what the history of those calls tells
+pub record FromHistory (s : Settings) (calls : List Call) : Type 0 where
+  -- "a plan that fits its buffer lists every later second the clock can show at which the control state, a limit or a setpoint would change"
+  pub plan : (t : ℕ) (out : List ℤ) → planNumber (run s calls) t (length out) ≡ 0
+      → Lists (valuesAt (told s calls)) t out (planSlice (run s calls) t out) (planAnswer (run s calls) t (length out) .count)
+  -- "Those values come from the history alone": the control state, each limit and each setpoint, at every second
+  pub values : (t : ℕ) → valuesAt (situationOf (run s calls)) t ≡ valuesAt (told s calls) t
+  -- a value that is there is shown as it is: none is as large as 2^63, so -1 is absent alone
+  pub whole : (t q v : ℕ) → q < helds → valueAt (told s calls) t q ≡ Is v → shown (valueAt (told s calls) t q) ≡ pos v
+  -- the number of each call and the response to each frame come from the history too
+  pub numbers : (c : Call) → number (run s calls) c ≡ numberBy (startedWith s) (history s calls) c
+  pub responses : (z t : ℕ) (bytes out : List ℕ)
+      → frameOut (run s calls) z t bytes out ≡ putWhole out 0 (responseFrameBy (startedWith s) (history s calls) z t (readRequest bytes))
+  -- "Zones: 8 joined at once"
+  pub eight : length (told s calls .zones) ≤ 8
+  -- "no released slot may speak for its new owner"
+  pub slots : ReleasedSlot s calls
+
+-- "After any sequence of calls from a fresh device", of settings that are refused too
+abbrev pub Demand3 : Type 0
+Demand3 = (s : Settings) → InPairs s → (calls : List Call) → FromHistory s calls

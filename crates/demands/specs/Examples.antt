@@ -1,0 +1,179 @@
+-- Document 01's marked examples P1 to P10 and the bench's: one table of cases, over the definitions that the calls' contracts cite. d is the direction.
+use Prim.Native.Nat.{ℕ, _+_, _-_, _<_}
+use mathlib.Core.Path.{_≡_}
+use mathlib.Core.Bool.{true, false, cond}
+use mathlib.Core.List.{List, [], _∷_, foldl, map}
+use lib.Dec.{eqb}
+use lib.IntN.{ℤ, pos, negsuc}
+use Rattle.messages.specs.Numbers.{AUTONOMOUS, FAILSAFE}
+use Rattle.messages.specs.declared.Amount.{Amount}
+use Rattle.messages.specs.declared.Field.{Field}
+use Rattle.messages.specs.declared.Target.{Target}
+use Rattle.messages.specs.declared.Command.{Command}
+use Rattle.messages.specs.declared.Outcome.{Outcome}
+use Rattle.device.specs.declared.Settings.{Settings}
+use Rattle.device.specs.Sizes.{most}
+use Rattle.device.specs.Holds.{situationOf, valueAt, stateAt, shown}
+use Rattle.device.specs.Calls.{joinAfter, leaveAfter, linkAfter}
+use Rattle.device.specs.Commands.{commandNumber, commandAfter, commandAnswer}
+use Rattle.device.specs.Start.{startAfter}
+use Rattle.planner.specs.Plan.{planOf, numbersOf}
+
+-- a call takes a device to the next; a question reads numbers from it, -1 absent
+abbrev pub Step : Type 0
+Step = List ℕ → List ℕ
+
+pub record Case : Type 0 where
+  pub settings : Settings
+  pub calls : List Step
+  pub question : List ℕ → List ℤ
+  pub answer : List ℤ
+
+-- the device after a case's calls
+unfoldable pub reached : Case → List ℕ
+reached c = foldl (λ d call. call d) (startAfter (c .settings)) (c .calls)
+
+unfoldable pub found : Case → List ℤ
+found c = c .question (reached c)
+
+-- THE DEVICES: both directions, all accepted, failsafe 4,200,000 and 0 for 7,200 s, no energy manager
+abbrev pub device : ℕ → List ℕ → Settings
+device minimum maxima =
+    record {
+      directions = 2;
+      limits = true;
+      setpoints = true;
+      minimum = minimum;
+      maxima = maxima;
+      failsafe = 4200000 ∷ 0 ∷ [];
+      duration = 7200;
+      manager = false;
+    }
+
+-- one minimum, and one maximum for both directions
+abbrev pub box : ℕ → ℕ → Settings
+box minimum top = device minimum (top ∷ top ∷ [])
+
+-- the bench program's device
+abbrev pub bench : Settings
+bench = device 1380000 (43000000 ∷ most ∷ [])
+
+-- THE CALLS
+abbrev pub join : ℕ → ℕ → ℕ → Step
+join z k t = λ d. joinAfter d z k t
+
+abbrev pub leave : ℕ → ℕ → Step
+leave z t = λ d. leaveAfter d z t
+
+abbrev pub lost : ℕ → ℕ → Step
+lost z t = λ d. linkAfter d z false t
+
+abbrev pub tell : ℕ → ℕ → Command → Step
+tell z t c = λ d. commandAfter d z t c
+
+-- SetLimit with one field, for direction d; SetSetpoint likewise
+abbrev pub limit : ℕ → Field → ℕ → Command
+limit d f n = Command.SetLimit (record { consumption = cond (eqb d 0) f Field.Absent; production = cond (eqb d 0) Field.Absent f; duration = n; cause = 0 })
+
+abbrev pub mw : ℕ → Field
+mw v = Field.Value (pos v)
+
+abbrev pub setpoint : ℕ → ℕ → Command
+setpoint d v =
+    Command.SetSetpoint (record {
+      consumption = cond (eqb d 0) (Target.Value (pos v)) Target.Absent;
+      production = cond (eqb d 0) Target.Absent (Target.Value (pos v));
+      duration = 0;
+      cause = 0;
+    })
+
+-- THE QUESTIONS
+abbrev pub absent : ℤ
+absent = negsuc 0
+
+-- the limit and the setpoint of direction d, and the control state, at second t
+abbrev pub limitAt : ℕ → ℕ → List ℕ → List ℤ
+limitAt d t = λ ws. shown (valueAt (situationOf ws) t d) ∷ []
+
+abbrev pub setpointAt : ℕ → ℕ → List ℕ → List ℤ
+setpointAt d t = λ ws. shown (valueAt (situationOf ws) t (2 + d)) ∷ []
+
+abbrev pub controlAt : ℕ → List ℕ → List ℤ
+controlAt t = λ ws. pos (stateAt (situationOf ws) t) ∷ []
+
+-- the number that a command would have
+abbrev pub told : ℕ → ℕ → Command → List ℕ → List ℤ
+told z t c = λ ws. pos (commandNumber ws z t c) ∷ []
+
+-- the reason that its response would have
+abbrev pub amount : Amount → ℤ
+amount Amount.Absent = absent
+amount (Amount.Is v) = pos v
+
+abbrev pub reasonIn : Outcome → ℤ
+reasonIn Outcome.Nothing = absent
+reasonIn (Outcome.Limit l) = amount (l .reason)
+reasonIn (Outcome.Setpoint l) = absent
+reasonIn Outcome.Success = absent
+
+abbrev pub reason : ℕ → ℕ → Command → List ℕ → List ℤ
+reason z t c = λ ws. reasonIn (commandAnswer ws z t c .outcome) ∷ []
+
+-- the plan's rows after second t
+abbrev pub rows : ℕ → List ℕ → List ℤ
+rows t = λ ws. numbersOf (planOf (situationOf ws) t)
+
+-- THE TABLE
+abbrev case : Settings → List Step → (List ℕ → List ℤ) → List ℤ → Case
+case s calls question answer = record { settings = s; calls = calls; question = question; answer = answer }
+
+-- zones 3 and 4 with ranks 1 and 2, all joined at 10
+abbrev pub two : List Step → List Step
+two calls = join 3 1 10 ∷ join 4 2 10 ∷ calls
+
+abbrev pub free : Settings
+free = box 0 most
+
+unfoldable pub table : ℕ → List Case
+table d =
+    -- P1 limits 9,000, 7,000, 7,000: 7,000
+    case free (two (join 5 3 10 ∷ tell 3 10 (limit d (mw 9000) 0) ∷ tell 4 10 (limit d (mw 7000) 0) ∷ tell 5 10 (limit d (mw 7000) 0) ∷ []))
+    (limitAt d 10) (pos 7000 ∷ [])
+    -- P2 set at 100 for 60: there at 159, gone at 160
+    ∷ case free (two (tell 3 100 (limit d (mw 9000) 60) ∷ [])) (limitAt d 159) (pos 9000 ∷ [])
+    ∷ case free (two (tell 3 100 (limit d (mw 9000) 60) ∷ [])) (limitAt d 160) (absent ∷ [])
+    -- P3 leave and rejoin: absent
+    ∷ case free (two (tell 3 10 (limit d (mw 9000) 0) ∷ leave 3 20 ∷ join 3 1 30 ∷ [])) (limitAt d 30) (absent ∷ [])
+    ∷ case free (two (tell 3 10 (setpoint d 9000) ∷ leave 3 20 ∷ join 3 1 30 ∷ [])) (setpointAt d 30) (absent ∷ [])
+    -- P4 null consumption: production stays
+    ∷ case free (two (tell 3 10 (limit d (mw 9000) 0) ∷ tell 3 10 (limit (1 - d) (mw 7000) 0) ∷ tell 3 20 (limit d Field.Null 0) ∷ []))
+    (limitAt d 20) (absent ∷ [])
+    ∷ case free (two (tell 3 10 (limit d (mw 9000) 0) ∷ tell 3 10 (limit (1 - d) (mw 7000) 0) ∷ tell 3 20 (limit d Field.Null 0) ∷ []))
+    (limitAt (1 - d) 20) (pos 7000 ∷ [])
+    -- P5 -1: refused 13
+    ∷ case free (two []) (told 3 20 (limit d (Field.Value (negsuc 0)) 0)) (pos 13 ∷ [])
+    -- P6 minimum 1,380,000: that passes, 1,379,999 is 14
+    ∷ case (box 1380000 most) (two []) (told 3 20 (limit 0 (mw 1380000) 0)) (pos 0 ∷ [])
+    ∷ case (box 1380000 most) (two []) (told 3 20 (limit 0 (mw 1379999) 0)) (pos 14 ∷ [])
+    -- P7 maximum 43,000,000: 43,000,001 is stored as the maximum, reason 1; the maximum itself, no reason
+    ∷ case (box 0 43000000) (two (tell 3 20 (limit d (mw 43000001) 0) ∷ [])) (limitAt d 20) (pos 43000000 ∷ [])
+    ∷ case (box 0 43000000) (two []) (reason 3 20 (limit d (mw 43000001) 0)) (pos 1 ∷ [])
+    ∷ case (box 0 43000000) (two (tell 3 20 (limit d (mw 43000000) 0) ∷ [])) (limitAt d 20) (pos 43000000 ∷ [])
+    ∷ case (box 0 43000000) (two []) (reason 3 20 (limit d (mw 43000000) 0)) (absent ∷ [])
+    -- P8 all links lost at 1,000, 7,200 s: FAILSAFE at 8,199, AUTONOMOUS at 8,200
+    ∷ case free (two (lost 3 900 ∷ lost 4 1000 ∷ [])) (controlAt 8199) (pos FAILSAFE ∷ [])
+    ∷ case free (two (lost 3 900 ∷ lost 4 1000 ∷ [])) (controlAt 8200) (pos AUTONOMOUS ∷ [])
+    -- P9 equal rank, zones 4 and 6: zone 4's setpoint
+    ∷ case free (two (join 6 2 10 ∷ tell 6 10 (setpoint d 100) ∷ tell 4 10 (setpoint d 900) ∷ [])) (setpointAt d 10) (pos 900 ∷ [])
+    -- P10 two equal limits, expiries 50 and 70: a row at 70 only
+    ∷ case free (two (tell 3 10 (limit d (mw 7000) 40) ∷ tell 4 10 (limit d (mw 7000) 60) ∷ []))
+    (rows 10) (pos 70 ∷ pos 1 ∷ absent ∷ absent ∷ absent ∷ absent ∷ [])
+    -- the bench program's input, of which the last two lines of output are the plan at 110
+    ∷ case bench (join 3 1 100 ∷ join 9 2 100 ∷ tell 3 100 (limit 0 (mw 11040000) 60) ∷ tell 9 100 (limit 0 (mw 4600000) 20) ∷ [])
+    (rows 110)
+    (pos 120 ∷ pos 2 ∷ pos 11040000 ∷ absent ∷ absent ∷ absent ∷ pos 160 ∷ pos 1 ∷ absent ∷ absent ∷ absent ∷ absent ∷ [])
+    ∷ []
+
+-- "The marked examples are one table under one statement"
+abbrev pub Marked : Type 0
+Marked = (d : ℕ) → d < 2 → map found (table d) ≡ map (λ c. c .answer) (table d)
