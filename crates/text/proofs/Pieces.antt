@@ -1,15 +1,15 @@
 -- Pieces written one behind the other. Assumes nothing.
-use Prim.Native.Nat.{ℕ, _+_, _≤_, _<_}
+use Prim.Native.Nat.{ℕ, _+_, _≤_}
 use mathlib.Core.Path.{_≡_, refl, sym, ap, _∙_}
 use mathlib.Core.Logic.{⊎-elim}
-use mathlib.Core.List.{List, [], _∷_, _++_}
+use mathlib.Core.List.{List, [], _∷_}
 use native.Mathlib.Omega.{arith}
 use lib.ListN.{length, length-append}
 use Rattle.cbor.specs.Bytes.{put, putWhole, pastWhole}
 use Rattle.cbor.proofs.Order.{below}
 use Rattle.cbor.proofs.Puts.{put-whole, put-none, puts-join, length-put}
 use Rattle.text.specs.Pieces.{putAll, pastAll, joined}
-use Rattle.text.specs.Laws.{PiecesJoin, PiecesMore, PiecesWithin}
+use Rattle.text.specs.Laws.{PiecesJoin, PiecesMore, PiecesLength, PiecesWithin}
 
 pub pieces-join : PiecesJoin
 unfolding putAll pastAll joined put
@@ -27,16 +27,27 @@ unfolding putAll pastAll
 pieces-more s p [] ys = (refl, refl)
 pieces-more s p (x ∷ xs) ys = pieces-more (putWhole s p x) (pastWhole s p x) xs ys
 
-pub whole-within : (s x : List ℕ) (p : ℕ) → p ≤ length s → (length (putWhole s p x) ≡ length s) × (pastWhole s p x ≤ length s)
-whole-within s x p h = ⊎-elim
-    (λ lt. let w = put-none s x p lt in (ap length (w .0), omega (arith, w .1)))
-    (λ le. let w = put-whole s x p le in (ap length (w .0) ∙ length-put s x p, omega (arith, w .1)))
+pub whole-length : (s x : List ℕ) (p : ℕ) → length (putWhole s p x) ≡ length s
+whole-length s x p = ⊎-elim
+    (λ lt. ap length (put-none s x p lt .0))
+    (λ le. ap length (put-whole s x p le .0) ∙ length-put s x p)
     (below (length s) (p + length x))
 
+pub whole-within : (s x : List ℕ) (p : ℕ) → p ≤ length s → pastWhole s p x ≤ length s
+whole-within s x p h = ⊎-elim
+    (λ lt. omega (arith, put-none s x p lt .1))
+    (λ le. omega (arith, put-whole s x p le .1))
+    (below (length s) (p + length x))
+
+pub pieces-length : PiecesLength
+unfolding putAll
+pieces-length s p [] = refl
+pieces-length s p (x ∷ xs) = pieces-length (putWhole s p x) (pastWhole s p x) xs ∙ whole-length s x p
+
 pub pieces-within : PiecesWithin
-unfolding putAll pastAll
-pieces-within s p [] h = (refl, h)
+unfolding pastAll
+pieces-within s p [] h = h
 pieces-within s p (x ∷ xs) h =
-    let w = whole-within s x p h in
-    let k = pieces-within (putWhole s p x) (pastWhole s p x) xs (omega (arith, w .0, w .1)) in
-    (k .0 ∙ w .0, omega (arith, k .1, w .0))
+    let n = whole-length s x p in
+    let k = pieces-within (putWhole s p x) (pastWhole s p x) xs (omega (arith, whole-within s x p h)) in
+    omega arith

@@ -16,5 +16,8 @@ abbrev pub PiecesMore : Type 0
 PiecesMore = (s : List ℕ) (p : ℕ) (xs ys : List (List ℕ)) → (putAll s p (xs ++ ys) ≡ putAll (putAll s p xs) (pastAll s p xs) ys) × (pastAll s p (xs ++ ys) ≡ pastAll (putAll s p xs) (pastAll s p xs) ys)
 
 -- a slice is as long as it was, and the position stays within it
+abbrev pub PiecesLength : Type 0
+PiecesLength = (s : List ℕ) (p : ℕ) (xs : List (List ℕ)) → length (putAll s p xs) ≡ length s
+
 abbrev pub PiecesWithin : Type 0
-PiecesWithin = (s : List ℕ) (p : ℕ) (xs : List (List ℕ)) → p ≤ length s → (length (putAll s p xs) ≡ length s) × (pastAll s p xs ≤ length s)
+PiecesWithin = (s : List ℕ) (p : ℕ) (xs : List (List ℕ)) → p ≤ length s → pastAll s p xs ≤ length s

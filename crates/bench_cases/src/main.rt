@@ -1,0 +1,16 @@
+// Runs bench scripts one after the other, each behind four bytes of length: a line `script N`, then what bench prints.
+fn main() {
+    let mut n: u64 = 0;
+    while n < u64::MAX {
+        let mut prefix = [0u8; 4];
+        if io::read_full(0, &mut prefix) < 4 {
+            return;
+        }
+        io::write_all(1, b"script ");
+        io::print_decimal(1, n);
+        io::write_all(1, b"\n");
+        let left = stream::play(cbor::get_u32(&prefix, 0));
+        stream::skip(left);
+        n += 1;
+    }
+}

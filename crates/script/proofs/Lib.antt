@@ -1,0 +1,5 @@
+-- What the proofs of several functions use, and the laws that callers cite.
+pub mod Booleans
+pub mod Scans
+pub mod Steps
+pub mod Printing

@@ -1,0 +1,29 @@
+use mir.Val.{SFits}
+use mir.Syntax.{w64}
+use mir.Facts.{toZ-ofZ}
+use lib.IntN.{pos}
+use lib.ListN.{getD, length, drop}
+use Prim.Native.Nat.{_≤_, _-_}
+use native.Mathlib.Omega.{arith}
+use borrow.Author.Needs.{needs}
+use Rattle.script.specs.Answers.{rowPieces}
+use Rattle.script.proofs.Printing.{ToDo, all-to-do, all-done, two-done, row-next, row-over}
+use Rattle.script.proofs.answers.put_row.Statement.{statement}
+use Rattle.script.proofs.answers.put_row.Tie as tie
+
+abbrev Inv-loop : tie.InvT-loop
+Inv-loop out₀ at row p₀ i₀ out p i = ToDo out₀ at (rowPieces row) out p (rowPieces (drop i row)) × (i ≤ length row)
+
+abbrev μ-loop : tie.MeasureT-loop
+μ-loop out₀ at row p₀ i₀ out p i = length row - i
+
+pub put-row-spec : {M : Type 1} → statement M
+put-row-spec =
+    tie.close
+    (tie.spec
+    Inv-loop μ-loop (λ c. (all-to-do _ _ _, omega arith)) (λ c. search needs) (λ c. search needs)
+    (λ c κs. search needs) (λ c. search needs) (λ c κs. search needs) (λ c κs. search needs)
+    (λ c. omega arith)
+    (λ c. let f : SFits w64 (getD (c .before .before .before .before .before .before .before .before .before .before .before .before .before .args .row .now) (c .before .before .before .before .before .before .before .before .before .before .before .loop .i) (pos 0)) = search needs in (two-done _ _ _ _ _ _ _ _ _ _ _ _ (rw (row-next (c .before .before .before .before .before .before .before .before .before .before .before .before .before .args .row .now) (c .before .before .before .before .before .before .before .before .before .before .before .loop .i) (c .before .before .before .before .before .before .before .before .before .before .loop-test .taken)) at (c .before .before .before .before .before .before .before .before .before .before .before .loop .inv .0)) (rw (toZ-ofZ f) at (c .before .before .before .before .before .before .before .put-cell .ensures)) (rw (c .before .before .before .behind .ensures) at (c .before .before .put-byte .ensures)), omega arith))
+    (λ c. c .before .loop .inv .0 .len)
+    (λ c. all-done _ _ _ _ _ _ (c .before .loop .inv .0) (row-over (c .before .before .before .args .row .now) (c .before .loop .i) (c .before .loop .inv .1) (c .loop-test .left))))

@@ -1,0 +1,14 @@
+use Rattle.script.specs.Runs.{callOf}
+use borrow.Author.Tests.{ne-eqb}
+use Rattle.script.proofs.calls.call_of.Statement.{statement}
+use Rattle.script.proofs.calls.call_of.Tie as tie
+
+pub call-of-spec : {M : Type 1} → statement M
+unfolding callOf
+call-of-spec =
+    tie.close
+    (tie.spec
+    (λ c. rw (c .match .keys1)) (λ c. rw (c .match .keys2)) (λ c. rw (c .match .keys3))
+    (λ c. rw (c .match .keys4)) (λ c. rw (c .match .keys5)) (λ c. rw (c .match .keys6))
+    (λ c. rw (c .match .keys7)) (λ c. rw (c .match .keys8))
+    (λ c. rw (ne-eqb (c .before .args .kind) 1 (c .match .rest .0 .0 .0 .0 .0 .0 .0 .1), ne-eqb (c .before .args .kind) 2 (c .match .rest .0 .0 .0 .0 .0 .0 .1), ne-eqb (c .before .args .kind) 3 (c .match .rest .0 .0 .0 .0 .0 .1), ne-eqb (c .before .args .kind) 4 (c .match .rest .0 .0 .0 .0 .1), ne-eqb (c .before .args .kind) 5 (c .match .rest .0 .0 .0 .1), ne-eqb (c .before .args .kind) 6 (c .match .rest .0 .0 .1), ne-eqb (c .before .args .kind) 7 (c .match .rest .0 .1), ne-eqb (c .before .args .kind) 8 (c .match .rest .1))))

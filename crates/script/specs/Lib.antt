@@ -1,0 +1,4 @@
+pub mod Records
+pub mod Runs
+pub mod Answers
+pub mod Laws

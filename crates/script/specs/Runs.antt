@@ -1,0 +1,83 @@
+-- A record run on a device by the kernel's calls.
+use Prim.Native.Nat.{ℕ, _+_}
+use mathlib.Core.Bool.{true, false, cond}
+use mathlib.Core.List.{List}
+use lib.Dec.{eqb}
+use lib.IntN.{ℤ}
+use lib.ListN.{length, getD, take, drop}
+use Rattle.device.specs.Calls.{joinNumber, joinAfter, leaveNumber, leaveAfter, linkNumber, linkAfter, overrideNumber, overrideAfter, clearNumber, clearAfter, askAnswer, askAfter}
+use Rattle.planner.specs.Plan.{planAnswer, planAfter, planSlice}
+use Rattle.kernel.specs.Frame.{frameAnswer, frameAfter, frameOut}
+use Rattle.script.specs.Records.{recordAt}
+use Rattle.script.specs.declared.records.Record.{Record}
+use Rattle.script.specs.declared.records.Scan.{Scan}
+use Rattle.script.specs.declared.calls.Call.{Call}
+use Rattle.script.specs.declared.calls.Ran.{Ran}
+use Rattle.script.specs.declared.calls.Stepped.{Stepped}
+
+-- "Kinds: 1 join (rank), 2 leave, 3 lost, 4 back, 5 frame, 6 plan, 7 override (reason, direction), 8 clear override, 9 ask";
+-- a and b are the body's first bytes, and "the zone is passed over at kinds 6 to 9"
+unfoldable pub callOf : ℕ → ℕ → ℕ → ℕ → Call
+callOf kind z a b =
+    cond (eqb kind 1) (Call.Join z a)
+    (cond (eqb kind 2) (Call.Leave z)
+    (cond (eqb kind 3) (Call.Lost z)
+    (cond (eqb kind 4) (Call.Back z)
+    (cond (eqb kind 5) (Call.Frame z)
+    (cond (eqb kind 6) Call.Plan
+    (cond (eqb kind 7) (Call.Override a b)
+    (cond (eqb kind 8) Call.Clear Call.Ask)))))))
+
+-- what a call answers and leaves: its number, how many rows, the device's words, the output, the rows
+pub record Left : Type 0 where
+  pub ran : Ran
+  pub words : List ℕ
+  pub out : List ℕ
+  pub rows : List ℤ
+
+-- a call that has a number alone
+unfoldable pub alone : ℕ → List ℕ → List ℕ → List ℤ → Left
+alone n ws out rows = record { ran = record { number = n; count = 0 }; words = ws; out = out; rows = rows }
+
+-- a call at t, a frame's bytes beside it
+unfoldable pub callLeaves : List ℕ → ℕ → List ℕ → List ℕ → List ℤ → Call → Left
+callLeaves ws t bytes out rows (Call.Join z k) = alone (joinNumber ws z k t) (joinAfter ws z k t) out rows
+callLeaves ws t bytes out rows (Call.Leave z) = alone (leaveNumber ws z t) (leaveAfter ws z t) out rows
+callLeaves ws t bytes out rows (Call.Lost z) = alone (linkNumber ws z false t) (linkAfter ws z false t) out rows
+callLeaves ws t bytes out rows (Call.Back z) = alone (linkNumber ws z true t) (linkAfter ws z true t) out rows
+callLeaves ws t bytes out rows (Call.Frame z) =
+    alone (frameAnswer ws z t bytes (length out) .number) (frameAfter ws z t bytes (length out)) (frameOut ws z t bytes out) rows
+callLeaves ws t bytes out rows Call.Plan =
+    record {
+      ran = record { number = planAnswer ws t (length rows) .number; count = planAnswer ws t (length rows) .count };
+      words = planAfter ws t (length rows);
+      out = out;
+      rows = planSlice ws t rows;
+    }
+callLeaves ws t bytes out rows (Call.Override reason d) = alone (overrideNumber ws reason d t) (overrideAfter ws reason d t) out rows
+callLeaves ws t bytes out rows Call.Clear = alone (clearNumber ws t) (clearAfter ws t) out rows
+callLeaves ws t bytes out rows Call.Ask = alone (askAnswer ws t .number) (askAfter ws t) out rows
+
+-- a record's body, and its call
+unfoldable pub bodyOf : List ℕ → Record → List ℕ
+bodyOf s r = take (r .length) (drop (r .body) s)
+
+unfoldable pub recordLeaves : List ℕ → List ℕ → List ℕ → List ℤ → Record → Left
+recordLeaves ws s out rows r =
+    callLeaves ws (r .time) (bodyOf s r) out rows (callOf (r .kind) (r .zone) (getD s (r .body) 0) (getD s (r .body + 1) 0))
+
+-- what a step leaves: a bad record changes nothing
+unfoldable pub scanLeaves : List ℕ → List ℕ → List ℕ → List ℤ → Scan → Left
+scanLeaves ws s out rows (Scan.Is r) = recordLeaves ws s out rows r
+scanLeaves ws s out rows Scan.Bad = alone 0 ws out rows
+
+unfoldable pub stepLeaves : List ℕ → List ℕ → ℕ → List ℕ → List ℤ → Left
+stepLeaves ws s p out rows = scanLeaves ws s out rows (recordAt s p)
+
+-- the answer: whether the record is good, the call's number and rows, and where the next record starts
+unfoldable pub stepFrom : Ran → ℕ → Scan → Stepped
+stepFrom x p (Scan.Is r) = record { good = true; number = x .number; count = x .count; next = r .body + r .length }
+stepFrom x p Scan.Bad = record { good = false; number = 0; count = 0; next = p }
+
+unfoldable pub stepAnswer : List ℕ → List ℕ → ℕ → List ℕ → List ℤ → Stepped
+stepAnswer ws s p out rows = stepFrom (stepLeaves ws s p out rows .ran) p (recordAt s p)

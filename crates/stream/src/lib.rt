@@ -1,0 +1,7 @@
+// Bench scripts from standard input to standard output, in large pieces and constant memory.
+mod input; // input.rt: what is read and not yet run
+mod pieces; // pieces.rt: the records of one piece
+mod play; // play.rt: a script from its first record to its last
+
+pub use input::skip;
+pub use play::play;
