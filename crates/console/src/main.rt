@@ -5,6 +5,7 @@ use libc::STDIN_FILENO;
 use libc::STDOUT_FILENO;
 use lines::ANSWER;
 use lines::LONGEST;
+ghost use Prim.Native.Nat.{_≤_};
 
 // How much of a line is kept from earlier pieces of the input, and where the next answer goes.
 pub struct Place {
@@ -13,7 +14,9 @@ pub struct Place {
 }
 
 // The position of the next line end, or the end.
-fn line_end(s: &[u8], from: usize) -> usize {
+fn line_end(s: &[u8], from: usize) -> usize
+    ensures { λ r. ⌜ from ≤ r ⌝ }
+{
     let mut i = from;
     while i < s.len() {
         if s[i] == b'\n' {
@@ -21,7 +24,7 @@ fn line_end(s: &[u8], from: usize) -> usize {
         }
         i += 1;
     }
-    s.len()
+    i
 }
 
 // Keeps bytes behind those kept, as far as there is room. There is room for one more than the longest line, so that a
