@@ -17,7 +17,14 @@ pub(crate) struct Place {
 }
 
 // Runs the record at `p` and prints its answer; behind a bad one nothing is left to run.
-fn next(d: &mut State, s: &[u8], p: Place, page: &mut [u8], out: &mut [u8], rows: &mut [i64]) -> Place
+fn next(
+    d: &mut State,
+    s: &[u8],
+    p: Place,
+    page: &mut [u8],
+    out: &mut [u8],
+    rows: &mut [i64],
+) -> Place
     requires { ⌜ p .from < length (now s) ⌝ }
     ensures { λ r. ⌜ (p .from < r .from) × (r .from ≤ length (now (s .entry))) ⌝ }
 {
@@ -55,7 +62,14 @@ fn is_ready(p: Place, len: usize, last: bool, page: usize) -> bool
 }
 
 // Runs the records at the front of `s` and prints their answers from the front of `page`.
-pub(crate) fn run(d: &mut State, s: &[u8], last: bool, page: &mut [u8], out: &mut [u8], rows: &mut [i64]) -> Place
+pub(crate) fn run(
+    d: &mut State,
+    s: &[u8],
+    last: bool,
+    page: &mut [u8],
+    out: &mut [u8],
+    rows: &mut [i64],
+) -> Place
     ensures { λ r. ⌜ r .from ≤ length (now (s .entry)) ⌝ }
 {
     let mut p = Place {

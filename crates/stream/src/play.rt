@@ -54,7 +54,14 @@ fn goes_on(p: Place) -> bool
 }
 
 // Plays up to `limit` bytes of the input, piece by piece; says how many of them were not read.
-fn play_with(d: &mut State, limit: u64, buf: &mut [u8], page: &mut [u8], out: &mut [u8], rows: &mut [i64]) -> u64 {
+fn play_with(
+    d: &mut State,
+    limit: u64,
+    buf: &mut [u8],
+    page: &mut [u8],
+    out: &mut [u8],
+    rows: &mut [i64],
+) -> u64 {
     let mut x = Input {
         from: 0,
         to: 0,
