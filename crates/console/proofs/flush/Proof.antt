@@ -4,25 +4,10 @@ use native.Mathlib.Omega.{arith}
 use borrow.Author.Needs.{needs}
 use Rattle.console.proofs.flush.Statement.{statement}
 use Rattle.console.proofs.flush.Tie as tie
-use Rattle.console.proofs.flush.Reads as reads
-use Rattle.console.proofs.flush.Lts as lts
-use Rattle.io.proofs.write_all.Reads as write-all-reads
-
--- src/main.rt:45:38
-slice-aggregate-write-all : tie.Need-slice-aggregate-write-all
-slice-aggregate-write-all c = sym (length-take-le _ _ (omega arith))
-
--- src/main.rt:45:9
-write-all-requires : tie.Need-write-all-requires
-write-all-requires c κs = search needs
-
--- src/main.rt:43:1
-returns : tie.Need-returns
-returns c = search needs
-
--- src/main.rt:43:1
-returns-2 : tie.Need-returns-2
-returns-2 c = search needs
 
 pub flush-spec : {M : Type 1} → statement M
-flush-spec = tie.close (tie.spec slice-aggregate-write-all write-all-requires returns returns-2)
+flush-spec =
+    tie.close
+    (tie.spec
+    (λ c. sym (length-take-le _ _ (omega arith))) (λ c κs. search needs) (λ c. search needs)
+    (λ c. search needs))
