@@ -1,0 +1,11 @@
+use mathlib.Core.Path.{refl}
+use Rattle.lines.specs.Numbers.{noNumber}
+use Rattle.lines.proofs.numbers.no_number.Statement.{statement}
+use Rattle.lines.proofs.numbers.no_number.Tie as tie
+
+pub no-number-spec : {M : Type 1} → statement M
+unfolding noNumber
+no-number-spec =
+    tie.close
+    (tie.spec
+    (λ c. refl))

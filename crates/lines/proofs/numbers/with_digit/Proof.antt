@@ -1,0 +1,12 @@
+use Rattle.lines.proofs.Digits.{large, fits}
+use native.Mathlib.Omega.{arith}
+use borrow.Author.Needs.{needs}
+use Rattle.lines.proofs.numbers.with_digit.Statement.{statement}
+use Rattle.lines.proofs.numbers.with_digit.Tie as tie
+
+pub with-digit-spec : {M : Type 1} → statement M
+with-digit-spec =
+    tie.close
+    (tie.spec
+    (λ c. search needs) (λ c. search needs) (λ c. large _ _ (omega arith) (omega arith)) (λ c. search needs)
+    (λ c. search needs) (λ c. fits _ _ (omega arith) (omega arith)))

@@ -1,0 +1,89 @@
+// The parts of an answer, written into a lent slice, each where it fits.
+pub fn put_text(out: &mut [u8], at: usize, s: &[u8]) -> usize {
+    let mut p = at;
+    let mut i = 0;
+    while i < s.len() {
+        p = text::put_byte(out, p, s[i]);
+        i += 1;
+    }
+    p
+}
+
+pub fn put_bad(out: &mut [u8], at: usize) -> usize {
+    put_text(out, at, b"bad line\n")
+}
+
+pub fn put_end(out: &mut [u8], at: usize) -> usize {
+    text::put_byte(out, at, b'\n')
+}
+
+// The answer of a call that says its number only.
+pub fn put_number(out: &mut [u8], at: usize, number: u64) -> usize {
+    let p = text::put_decimal(out, at, number);
+    put_end(out, p)
+}
+
+fn put_hex_or_none(out: &mut [u8], at: usize, bytes: &[u8], n: usize) -> usize {
+    if n == 0 {
+        return text::put_byte(out, at, b'-');
+    }
+    if n <= bytes.len() {
+        return text::put_hex(out, at, &bytes[..n]);
+    }
+    at
+}
+
+// A number, and the first n bytes or `-`.
+pub fn put_bytes(out: &mut [u8], at: usize, number: u64, bytes: &[u8], n: usize) -> usize {
+    let p = text::put_decimal(out, at, number);
+    let q = text::put_byte(out, p, b' ');
+    let r = put_hex_or_none(out, q, bytes, n);
+    put_end(out, r)
+}
+
+// A space and a number, for each of the first n.
+pub fn put_list(out: &mut [u8], at: usize, list: &[i64], n: u64) -> usize {
+    let mut p = at;
+    let mut i = 0;
+    while i < list.len() {
+        if n <= i as u64 {
+            return p;
+        }
+        p = text::put_byte(out, p, b' ');
+        p = text::put_signed(out, p, list[i]);
+        i += 1;
+    }
+    p
+}
+
+fn word(list: &[u64], i: usize) -> u64 {
+    if i < list.len() {
+        return list[i];
+    }
+    0
+}
+
+fn put_pair(out: &mut [u8], at: usize, group: u64, number: u64) -> usize {
+    let p = text::put_byte(out, at, b' ');
+    let q = text::put_decimal(out, p, group);
+    let r = text::put_byte(out, q, b':');
+    text::put_decimal(out, r, number)
+}
+
+// The first n pairs, or `-`.
+pub fn put_pairs(out: &mut [u8], at: usize, pairs: &[u64], n: u64) -> usize {
+    if n == 0 {
+        return put_text(out, at, b" -");
+    }
+    let half = pairs.len() / 2;
+    let mut p = at;
+    let mut i = 0;
+    while i < half {
+        if n <= i as u64 {
+            return p;
+        }
+        p = put_pair(out, p, word(pairs, 2 * i), word(pairs, 2 * i + 1));
+        i += 1;
+    }
+    p
+}
