@@ -1,34 +1,61 @@
 -- A key, case by case, as its reader finds it. Assumes nothing.
-use Prim.Native.Nat.{ℕ, _+_, _<_, _≤_}
-use mathlib.Core.Path.{_≡_, sym, _∙_}
-use mathlib.Core.Bool.{Bool, true, false}
+use Prim.Native.Nat.{ℕ, _+_, _/_, _%_, _<_, _≤_}
+use mathlib.Core.Path.{_≡_, refl, ap, _∙_}
+use mathlib.Core.Logic.{⊎-elim}
+use mathlib.Core.Bool.{Bool, true, false, cond}
 use mathlib.Core.List.{List}
 use native.Mathlib.Omega.{arith}
+use lib.ListN.{length, getD}
 use borrow.Author.Tests.{le-leb, lt-leb, ne-eqb}
-use Rattle.cbor.specs.Head.{headAt}
-use Rattle.cbor.specs.Item.{keyAt, least}
+use Rattle.cbor.specs.Head.{Arg, widthOf, argAt, argOrZero, allowed, withMajor, headAt}
+use Rattle.cbor.specs.Item.{keyFrom, keyOf, keyAt, least}
 use Rattle.cbor.specs.declared.heads.Head.{Head}
 use Rattle.cbor.specs.declared.items.Key.{Key}
+use Rattle.cbor.proofs.Order.{below}
+use Rattle.cbor.proofs.HeadSteps.{head-end, head-low, arg-low, wide-none, wide-some, wide-not}
 
-module _ (s : List ℕ) (p : ℕ) (h : Head) (e : h ≡ headAt s p) where
-  pub no-head : (lo : ℕ) → h ≡ Head.Bad → Key.Bad ≡ keyAt s lo p
+-- a key against the one before
+module _ (k q last : ℕ) (first : Bool) where
+  pub later-first : first ≡ true → Key.Is k q ≡ keyFrom (least first last) k q
+  later-first f = rw (f, le-leb 0 k (omega arith))
+
+  pub later-next : first ≡ false → last < k → Key.Is k q ≡ keyFrom (least first last) k q
+  later-next f lt = rw (f, le-leb (last + 1) k (omega arith))
+
+  pub later-not : first ≡ false → k ≤ last → Key.Bad ≡ keyFrom (least first last) k q
+  later-not f le = rw (f, lt-leb (last + 1) k (omega arith))
+
+pub key-end : (s : List ℕ) (p lo : ℕ) → length s ≤ p → Key.Bad ≡ keyAt s lo p
+unfolding keyAt
+key-end s p lo h = ap (keyOf lo) (head-end s p h)
+
+module _ (s : List ℕ) (p b lo : ℕ) (lt : p < length s) (e : b ≡ getD s p 0) where
+  -- of major type 0
+  key-zero : b < 32 → (a : Arg) → argAt s (p + 1) b ≡ a → keyOf lo (withMajor 0 a) ≡ keyAt s lo p
   unfolding keyAt
-  no-head lo w = rw (sym e ∙ w)
+  key-zero h a g =
+      let m : b / 32 ≡ 0 = omega arith in
+      let i : b % 32 ≡ b = omega arith in
+      ap (keyOf lo) (rw m at (head-low s p b lt e (omega arith) a (rw i g)))
 
-  module _ (m k q : ℕ) (w : h ≡ Head.Is m k q) where
-    pub no-key : (lo : ℕ) → (m ≡ 0 → ⊥) → Key.Bad ≡ keyAt s lo p
-    unfolding keyAt
-    no-key lo ne = rw (sym e ∙ w, ne-eqb m 0 ne)
+  pub key-low : b < 24 → (r : Key) → r ≡ keyFrom lo b (p + 1) → r ≡ keyAt s lo p
+  key-low h r g = g ∙ key-zero (omega arith) (Arg.Is b (p + 1)) (arg-low s (p + 1) b h)
 
-    module _ (first : Bool) (last : ℕ) (z : m ≡ 0) where
-      pub key-first : first ≡ true → Key.Is k q ≡ keyAt s (least first last) p
-      unfolding keyAt
-      key-first f = rw (sym e ∙ w, z, f, le-leb 0 k (omega arith))
+  module _ (high : 24 ≤ b) (small : b < 28) (k : ℕ) (g : k ≡ argOrZero (argAt s (p + 1) b)) where
+    pub key-none : k ≡ 0 → Key.Bad ≡ keyAt s lo p
+    key-none z = key-zero (omega arith) Arg.Bad (wide-none s (p + 1) b high k g z)
 
-      pub key-next : first ≡ false → last < k → Key.Is k q ≡ keyAt s (least first last) p
-      unfolding keyAt
-      key-next f lt = rw (sym e ∙ w, z, f, le-leb (last + 1) k (omega arith))
+    pub key-wide : (k ≡ 0 → ⊥) → (w : ℕ) → w ≡ widthOf b → (r : Key) → r ≡ keyFrom lo k (p + 1 + w) → r ≡ keyAt s lo p
+    key-wide nz w wi r h = h ∙ ap (λ (n : ℕ). keyFrom lo k (p + 1 + n)) wi ∙ key-zero (omega arith) (Arg.Is k (p + 1 + widthOf b)) (wide-some s (p + 1) b high k g nz)
 
-      pub key-order : first ≡ false → k ≤ last → Key.Bad ≡ keyAt s (least first last) p
-      unfolding keyAt
-      key-order f le = rw (sym e ∙ w, z, f, lt-leb (last + 1) k (omega arith))
+  pub key-other : 28 ≤ b → Key.Bad ≡ keyAt s lo p
+  unfolding keyAt headAt
+  key-other h = ⊎-elim
+      (λ small. key-zero small Arg.Bad (wide-not s (p + 1) b (omega arith) h))
+      (λ large. rw (lt-leb (length s) p lt, ← e) (go (allowed (b / 32) (b % 32)) (argAt s (p + 1) (b % 32)) (omega arith)))
+      (below b 32)
+    where
+      go : (t : Bool) (a : Arg) → 1 ≤ b / 32 → Key.Bad ≡ keyOf lo (cond t (withMajor (b / 32) a) Head.Bad)
+      go true (Arg.Is v q) g = rw (ne-eqb (b / 32) 0 (λ z. omega arith))
+      go true Arg.Bad g = refl
+      go false a g = refl

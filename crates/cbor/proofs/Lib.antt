@@ -14,3 +14,5 @@ pub mod WalkSteps
 pub mod Payload
 pub mod Walks
 pub mod SameValues
+pub mod Passes
+pub mod PassSteps

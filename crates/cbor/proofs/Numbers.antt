@@ -2,7 +2,7 @@
 use Prim.Native.Nat.{ℕ, zero, suc, _+_, _-_, _*_, _/_, _%_, _^_, _<_, _≤_}
 use mathlib.Core.Path.{_≡_, refl, sym, ap, _∙_}
 use mathlib.Core.List.{List, [], _∷_, _++_, append-assoc}
-use native.Mathlib.Nat.{add-zero, pow-suc, pow-le-pow-right}
+use native.Mathlib.Nat.{add-zero, add-suc, mul-assoc, pow-suc, pow-le-pow-right}
 use native.Mathlib.Numerals.{add-one}
 use native.Mathlib.Omega.{arith}
 use lib.ListN.{length, getD, drop, length-append, length-drop, List·getD-eq-default}
@@ -47,6 +47,23 @@ number-of (suc w) s t q v lt e =
     let x = number-of w s (v % 256 ∷ t) q (v / 256) (omega arith) f in
     let g : drop (q + w) s ≡ v % 256 ∷ t = rw (bytes-length w (v / 256)) at (past (bytesOf w (v / 256)) (v % 256 ∷ t) s q f) in
     omega (arith, x, at-first s t (q + w) (v % 256) g)
+
+-- a number is that of its first bytes, then that of the others
+pub number-join : (s : List ℕ) (q a b : ℕ) → numberAt s q (a + b) ≡ numberAt s q a * 256 ^ b + numberAt s (q + a) b
+unfolding numberAt
+number-join s q a zero = ap (numberAt s q) (add-zero a) ∙ omega arith
+number-join s q a (suc b) =
+    let e : q + (a + b) ≡ q + a + b = omega arith in
+    let m : numberAt s q a * 256 ^ suc b ≡ numberAt s q a * 256 ^ b * 256 = rw (pow-suc 256 b) (sym (mul-assoc (numberAt s q a) (256 ^ b) 256)) in
+    ap (numberAt s q) (add-suc a b) ∙ omega (arith, m, number-join s q a b, ap (λ (k : ℕ). getD s k 0) e)
+
+pub number-one : (s : List ℕ) (q : ℕ) → getD s q 0 ≡ numberAt s q 1
+unfolding numberAt
+number-one s q = omega (arith, ap (λ (k : ℕ). getD s k 0) (add-zero q))
+
+-- two halves of one width, each read for itself
+pub number-halves : (s : List ℕ) (q w a b : ℕ) → a ≡ numberAt s q w → b ≡ numberAt s (q + w) w → a * 256 ^ w + b ≡ numberAt s q (w + w)
+number-halves s q w a b e f = rw (e, f) (sym (number-join s q w w))
 
 module _ (s : List ℕ) (ok : Bytes s) where
   pub number-small : (w q : ℕ) → numberAt s q w < 256 ^ w

@@ -1,9 +1,10 @@
 -- Bytes stored in a list, one run behind the other. Assumes nothing.
-use Prim.Native.Nat.{ℕ, suc, _+_, _/_, _%_, _≤_, _<_}
+use Prim.Native.Nat.{ℕ, zero, suc, _+_, _/_, _%_, _^_, _≤_, _<_}
 use mathlib.Core.Path.{_≡_, refl, sym, ap, _∙_}
-use mathlib.Core.List.{List, [], _∷_, _++_, append-assoc}
+use mathlib.Core.List.{List, [], _∷_, _++_, append-assoc, append-nil}
 use mathlib.Core.Bool.{Bool, true, false}
-use native.Mathlib.Nat.{add-zero}
+use native.Mathlib.Nat.{add-zero, add-suc, mul-comm, pow-suc, div-one, div-div-eq-div-mul}
+use native.Mathlib.Numerals.{add-one}
 use native.Mathlib.Omega.{arith}
 use lib.ListN.{length, set, take, drop, length-append}
 use lib.Seq.{sets, sets-eq, set-comm, length-sets, length-take-le, drop-at}
@@ -27,25 +28,37 @@ pub length-put : (s bs : List ℕ) (p : ℕ) → length (put s p bs) ≡ length 
 unfolding put
 length-put s bs p = length-sets s p bs
 
--- a store behind a run of stores may come first
-set-first : (a s : List ℕ) (p k x : ℕ) → p + length a ≤ k → sets (set s k x) p a ≡ set (sets s p a) k x
-set-first [] s p k x h = refl
-set-first (y ∷ a) s p k x h =
-    ap (λ (l : List ℕ). sets l (suc p) a) (set-comm s k p x y (λ e. omega arith))
-    ∙ set-first a (set s p y) (suc p) k x (omega arith)
+-- the low bytes of a number are its first ones, then the others
+bytes-join : (a b v : ℕ) → bytesOf (a + b) v ≡ bytesOf a (v / 256 ^ b) ++ bytesOf b v
+unfolding bytesOf
+bytes-join a zero v = ap (λ (k : ℕ). bytesOf k v) (add-zero a) ∙ sym (append-nil (bytesOf a (v / 256 ^ zero)) ∙ ap (bytesOf a) (div-one v))
+bytes-join a (suc b) v =
+    let d : v / 256 / 256 ^ b ≡ v / 256 ^ suc b = div-div-eq-div-mul v 256 (256 ^ b) ∙ ap (λ (k : ℕ). v / k) (mul-comm 256 (256 ^ b) ∙ sym (pow-suc 256 b)) in
+    ap (λ (k : ℕ). bytesOf k v) (add-suc a b)
+    ∙ ap (λ (l : List ℕ). l ++ (v % 256 ∷ [])) (bytes-join a b (v / 256) ∙ ap (λ (k : ℕ). bytesOf a k ++ bytesOf b (v / 256)) d)
+    ∙ append-assoc (bytesOf a (v / 256 ^ suc b)) (bytesOf b (v / 256)) (v % 256 ∷ [])
 
--- a number's last byte stored first, and then the others
-pub put-last : (s : List ℕ) (p i j v : ℕ) → i ≡ suc j → put (set s (p + j) (v % 256)) p (bytesOf j (v / 256)) ≡ put s p (bytesOf i v)
-unfolding put bytesOf
-put-last s p i j v e =
-    let n = bytes-length j (v / 256) in
-    rw e (set-first (bytesOf j (v / 256)) s p (p + j) (v % 256) (omega arith)
-    ∙ ap (λ (k : ℕ). set (sets s p (bytesOf j (v / 256))) (p + k) (v % 256)) (sym n)
-    ∙ sym (sets-append (bytesOf j (v / 256)) (v % 256 ∷ []) s p))
+-- a width by another name
+pub put-width : (s t : List ℕ) (p v w n : ℕ) → w ≡ n → t ≡ put s p (bytesOf w v) → t ≡ put s p (bytesOf n v)
+put-width s t p v w n e h = rw (← e) h
 
-pub put-nothing : (s : List ℕ) (p i v : ℕ) → i ≡ 0 → put s p (bytesOf i v) ≡ s
+-- two halves of one width, each stored for itself
+pub put-halves : (s t u : List ℕ) (p w v : ℕ) → t ≡ put s p (bytesOf w (v / 256 ^ w)) → u ≡ put t (p + w) (bytesOf w v) → u ≡ put s p (bytesOf (w + w) v)
+put-halves s t u p w v e f =
+    f ∙ rw (e, bytes-join w w v) (ap (λ (k : ℕ). put (put s p (bytesOf w (v / 256 ^ w))) (p + k) (bytesOf w v)) (sym (bytes-length w (v / 256 ^ w)))
+    ∙ put-put s (bytesOf w (v / 256 ^ w)) (bytesOf w v) p)
+
+pub put-nothing : (s : List ℕ) (p v : ℕ) → s ≡ put s p (bytesOf 0 v)
 unfolding put bytesOf
-put-nothing s p i v e = rw e
+put-nothing s p v = refl
+
+pub put-one : (s : List ℕ) (p v : ℕ) → set s p (v % 256) ≡ put s p (bytesOf 1 v)
+unfolding put bytesOf
+put-one s p v = refl
+
+pub put-two : (s : List ℕ) (p v : ℕ) → set (set s p (v / 256 % 256)) (p + 1) (v % 256) ≡ put s p (bytesOf 2 v)
+unfolding put bytesOf
+put-two s p v = ap (λ (k : ℕ). set (set s p (v / 256 % 256)) k (v % 256)) (add-one p)
 
 pub has-room : (p n len : ℕ) (b : Bool) → b ≡ leb (p + n) len → b ≡ true → p + n ≤ len
 has-room p n len b e y = leb-true (p + n) len (sym e ∙ y)

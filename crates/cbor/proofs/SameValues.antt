@@ -11,7 +11,7 @@ use Rattle.cbor.proofs.Order.{below}
 use Rattle.cbor.proofs.Walks.{value-here, value-there}
 
 -- no key is below the least
-none-below : (ps : Pairs) (lo d k : ℕ) → OkPairs ps lo d → k < lo → valueOf ps k ≡ none
+pub none-below : (ps : Pairs) (lo d k : ℕ) → OkPairs ps lo d → k < lo → valueOf ps k ≡ none
 unfolding valueOf Ok
 none-below Pairs.empty lo d k ok lt = refl
 none-below (Pairs.pair j i ps) lo d k ok lt =

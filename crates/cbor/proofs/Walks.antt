@@ -22,7 +22,7 @@ use Rattle.cbor.proofs.Complete.{majorOf, argOf, item-head}
 use Rattle.cbor.proofs.Payload.{item-exact}
 
 -- an item that was read, by its head
-read-head-of : (s : List ℕ) → Bytes s → (d p e : ℕ) (i : Item) → itemAt s d p ≡ got i e → headAt s p ≡ Head.Is (majorOf i) (argOf i) (p + headLen (argOf i))
+pub read-head-of : (s : List ℕ) → Bytes s → (d p e : ℕ) (i : Item) → itemAt s d p ≡ got i e → headAt s p ≡ Head.Is (majorOf i) (argOf i) (p + headLen (argOf i))
 read-head-of s ok d p e i h = let x = item-exact s ok d p e i .0 h in item-head s (drop e s) d p i (x .0) (x .1 .bytes)
 
 pub int-exact : IntExact
@@ -60,19 +60,19 @@ unfolding keyAt
 key-again s lo p k q h le = rw (h, le-leb lo k le)
 
 -- a pair that was read, and the pairs behind it
-record Step (s : List ℕ) (f : ℕ → Got Item) (n lo p : ℕ) (all : Pairs) (end : ℕ) : Type 0 where
-  key : ℕ
-  at : ℕ
-  item : Item
-  next : ℕ
-  rest : Pairs
-  head : headAt s p ≡ Head.Is 0 key at
-  order : lo ≤ key
-  value : f at ≡ got item next
-  behind : pairsAt s f n (key + 1) next ≡ got rest end
-  whole : all ≡ Pairs.pair key item rest
+pub record Step (s : List ℕ) (f : ℕ → Got Item) (n lo p : ℕ) (all : Pairs) (end : ℕ) : Type 0 where
+  pub key : ℕ
+  pub at : ℕ
+  pub item : Item
+  pub next : ℕ
+  pub rest : Pairs
+  pub head : headAt s p ≡ Head.Is 0 key at
+  pub order : lo ≤ key
+  pub value : f at ≡ got item next
+  pub behind : pairsAt s f n (key + 1) next ≡ got rest end
+  pub whole : all ≡ Pairs.pair key item rest
 
-pairs-step : (s : List ℕ) (f : ℕ → Got Item) (n lo p e : ℕ) (ps : Pairs) → pairsAt s f (suc n) lo p ≡ got ps e → Step s f n lo p ps e
+pub pairs-step : (s : List ℕ) (f : ℕ → Got Item) (n lo p e : ℕ) (ps : Pairs) → pairsAt s f (suc n) lo p ≡ got ps e → Step s f n lo p ps e
 unfolding pairsAt
 pairs-step s f n lo p e ps h =
     let w = keyed-inv (keyAt s lo p) _ ps e h in

@@ -1,6 +1,6 @@
 -- The five widths of an argument, taken together. Assumes nothing.
 use Prim.Native.Nat.{ℕ, _+_, _^_, _<_, _≤_}
-use mathlib.Core.Path.{_≡_}
+use mathlib.Core.Path.{_≡_, sym}
 use mathlib.Core.Logic.{⊎-elim}
 use native.Mathlib.Omega.{arith}
 use borrow.Author.Tests.{lt-ltb, le-ltb, ne-eqb}
@@ -18,6 +18,23 @@ info-low v h = rw (lt-ltb v 24 h)
 pub width-low : (i : ℕ) → i < 24 → widthOf i ≡ 0
 unfolding widthOf
 width-low i h = rw (ne-eqb i 24 (λ e. omega arith), ne-eqb i 25 (λ e. omega arith), ne-eqb i 26 (λ e. omega arith), ne-eqb i 27 (λ e. omega arith))
+
+module _ (i : ℕ) where
+  pub width-24 : i ≡ 24 → 1 ≡ widthOf i
+  unfolding widthOf
+  width-24 e = rw e
+
+  pub width-25 : i ≡ 25 → 2 ≡ widthOf i
+  unfolding widthOf
+  width-25 e = rw e
+
+  pub width-26 : i ≡ 26 → 4 ≡ widthOf i
+  unfolding widthOf
+  width-26 e = rw e
+
+  pub width-27 : i ≡ 27 → 8 ≡ widthOf i
+  unfolding widthOf
+  width-27 e = rw e
 
 pub width-small : (i : ℕ) → widthOf i ≤ 8
 unfolding widthOf
@@ -53,6 +70,38 @@ info-small v = by-width (λ i w. i < 28) v (λ h. omega arith) (λ g h. omega ar
 
 pub info-high : (v : ℕ) → 24 ≤ v → 24 ≤ infoOf v
 info-high v k = by-width (λ i w. 24 ≤ i) v (λ h. omega arith) (λ g h. omega arith) (λ g h. omega arith) (λ g h. omega arith) (λ g. omega arith)
+
+-- an argument that a width holds is in shortest form from a least one on
+abbrev pub From : ℕ → ℕ → ℕ → Type 0
+From least v i = (v < least → infoOf v ≡ i → ⊥) × (least ≤ v → infoOf v ≡ i)
+
+pub from-24 : (v : ℕ) → v < 256 → From 24 v 24
+from-24 v b = by-width (λ i w. (v < 24 → i ≡ 24 → ⊥) × (24 ≤ v → i ≡ 24)) v (λ h. (λ l e. omega arith, λ l. omega arith)) (λ g h. (λ l e. omega arith, λ l. omega arith)) (λ g h. (λ l e. omega arith, λ l. omega arith)) (λ g h. (λ l e. omega arith, λ l. omega arith)) (λ g. (λ l e. omega arith, λ l. omega arith))
+
+pub from-25 : (v : ℕ) → v < 65536 → From 256 v 25
+from-25 v b = by-width (λ i w. (v < 256 → i ≡ 25 → ⊥) × (256 ≤ v → i ≡ 25)) v (λ h. (λ l e. omega arith, λ l. omega arith)) (λ g h. (λ l e. omega arith, λ l. omega arith)) (λ g h. (λ l e. omega arith, λ l. omega arith)) (λ g h. (λ l e. omega arith, λ l. omega arith)) (λ g. (λ l e. omega arith, λ l. omega arith))
+
+pub from-26 : (v : ℕ) → v < 4294967296 → From 65536 v 26
+from-26 v b = by-width (λ i w. (v < 65536 → i ≡ 26 → ⊥) × (65536 ≤ v → i ≡ 26)) v (λ h. (λ l e. omega arith, λ l. omega arith)) (λ g h. (λ l e. omega arith, λ l. omega arith)) (λ g h. (λ l e. omega arith, λ l. omega arith)) (λ g h. (λ l e. omega arith, λ l. omega arith)) (λ g. (λ l e. omega arith, λ l. omega arith))
+
+pub from-27 : (v : ℕ) → From 4294967296 v 27
+from-27 v = by-width (λ i w. (v < 4294967296 → i ≡ 27 → ⊥) × (4294967296 ≤ v → i ≡ 27)) v (λ h. (λ l e. omega arith, λ l. omega arith)) (λ g h. (λ l e. omega arith, λ l. omega arith)) (λ g h. (λ l e. omega arith, λ l. omega arith)) (λ g h. (λ l e. omega arith, λ l. omega arith)) (λ g. (λ l e. omega arith, λ l. omega arith))
+
+-- the width of an argument, by its size
+pub arg-width-0 : (v : ℕ) → v < 24 → 0 ≡ widthOf (infoOf v)
+arg-width-0 v h = sym (rw (info-low v h) (width-low v h))
+
+pub arg-width-1 : (v : ℕ) → 24 ≤ v → v < 256 → 1 ≡ widthOf (infoOf v)
+arg-width-1 v g h = width-24 (infoOf v) (from-24 v h .1 g)
+
+pub arg-width-2 : (v : ℕ) → 256 ≤ v → v < 65536 → 2 ≡ widthOf (infoOf v)
+arg-width-2 v g h = width-25 (infoOf v) (from-25 v h .1 g)
+
+pub arg-width-4 : (v : ℕ) → 65536 ≤ v → v < 4294967296 → 4 ≡ widthOf (infoOf v)
+arg-width-4 v g h = width-26 (infoOf v) (from-26 v h .1 g)
+
+pub arg-width-8 : (v : ℕ) → 4294967296 ≤ v → 8 ≡ widthOf (infoOf v)
+arg-width-8 v g = width-27 (infoOf v) (from-27 v .1 g)
 
 -- an argument fits its width
 pub width-enough : (v : ℕ) → 24 ≤ v → v < 2 ^ 64 → v < 256 ^ widthOf (infoOf v)

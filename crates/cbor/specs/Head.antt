@@ -6,7 +6,6 @@ use mathlib.Core.List.{List, [], _∷_}
 use lib.ListN.{length, getD}
 use lib.Dec.{ltb, leb, eqb}
 use Rattle.cbor.specs.Bytes.{numberAt, bytesOf}
-use Rattle.cbor.specs.declared.heads.Arg.{Arg}
 use Rattle.cbor.specs.declared.heads.Head.{Head}
 
 -- the additional information of the shortest head of an argument
@@ -36,6 +35,11 @@ allowed m v = cond (leb m 5) true (cond (eqb m 7) (cond (leb 20 v) (leb v 22) fa
 abbrev pub Within : ℕ → ℕ → Type 0
 Within m v = allowed m v ≡ true
 
+-- an argument and the position past it, or none in shortest form
+pub data Arg : Type 0 where
+  Is : ℕ → ℕ → Arg
+  Bad : Arg
+
 -- the argument v that w bytes at p say, where they are there and i is its shortest form
 abbrev pub wideAt : List ℕ → ℕ → ℕ → ℕ → ℕ → Arg
 wideAt s p i w v = cond (leb w (length s - p)) (cond (eqb (infoOf v) i) (Arg.Is v (p + w)) Arg.Bad) Arg.Bad
@@ -43,6 +47,11 @@ wideAt s p i w v = cond (leb w (length s - p)) (cond (eqb (infoOf v) i) (Arg.Is 
 -- the argument of additional information i, whose bytes start at p
 unfoldable pub argAt : List ℕ → ℕ → ℕ → Arg
 argAt s p i = cond (ltb i 24) (Arg.Is i p) (wideAt s p i (widthOf i) (numberAt s p (widthOf i)))
+
+-- an argument alone; 0 where there is none, as no argument of more than one byte is 0
+abbrev pub argOrZero : Arg → ℕ
+argOrZero (Arg.Is v e) = v
+argOrZero Arg.Bad = 0
 
 abbrev pub withMajor : ℕ → Arg → Head
 withMajor m (Arg.Is v e) = Head.Is m v e

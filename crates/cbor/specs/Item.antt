@@ -93,9 +93,12 @@ unfoldable pub itemsAt : (ℕ → Got Item) → ℕ → ℕ → Got Items
 itemsAt f zero p = got none p
 itemsAt f (suc n) p = andThen (f p) (λ i e. andThen (itemsAt f n e) (λ is e′. got (more i is) e′))
 
+abbrev pub keyFrom : ℕ → ℕ → ℕ → Key
+keyFrom lo k e = cond (leb lo k) (Key.Is k e) Key.Bad
+
 -- a key is an unsigned number, not below lo
 abbrev pub keyOf : ℕ → Head → Key
-keyOf lo (Head.Is m k e) = cond (eqb m 0) (cond (leb lo k) (Key.Is k e) Key.Bad) Key.Bad
+keyOf lo (Head.Is m k e) = cond (eqb m 0) (keyFrom lo k e) Key.Bad
 keyOf lo Head.Bad = Key.Bad
 
 -- the key at p
@@ -133,14 +136,28 @@ unfoldable pub itemAt : List ℕ → ℕ → ℕ → Got Item
 itemAt s zero p = fromHead s (λ n q. bad) (λ n q. bad) (headAt s p)
 itemAt s (suc d) p = fromHead s (itemsAt (itemAt s d)) (λ n q. pairsAt s (itemAt s d) n 0 q) (headAt s p)
 
+-- the items and pairs within an item of d levels
+abbrev pub itemsWithin : List ℕ → ℕ → ℕ → ℕ → Got Items
+itemsWithin s zero n q = bad
+itemsWithin s (suc d) n q = itemsAt (itemAt s d) n q
+
+abbrev pub pairsWithin : List ℕ → ℕ → ℕ → ℕ → Got Pairs
+pairsWithin s zero n q = bad
+pairsWithin s (suc d) n q = pairsAt s (itemAt s d) n 0 q
+
+-- the item of d levels whose head is given
+abbrev pub restAt : List ℕ → ℕ → Head → Got Item
+restAt s d h = fromHead s (itemsWithin s d) (pairsWithin s d) h
+
 -- where a reader stopped
 abbrev pub endOf : {X : Type 0} → Got X → End
 endOf (got x e) = End.At e
 endOf bad = End.Bad
 
--- the end of n bytes at p
-abbrev pub stringEnd : List ℕ → ℕ → ℕ → End
-stringEnd s p n = cond (leb n (length s - p)) (End.At (p + n)) End.Bad
+-- the same as a number; 0 where it is bad, as nothing that is read ends at 0
+abbrev pub pastOf : {X : Type 0} → Got X → ℕ
+pastOf (got x e) = e
+pastOf bad = 0
 
 -- the least key that may come first, or behind the last
 abbrev pub least : Bool → ℕ → ℕ

@@ -6,16 +6,18 @@ use mathlib.Core.Bool.{true, false}
 use mathlib.Core.Logic.{_↔_}
 use mathlib.Core.List.{List, _++_}
 use mathlib.Core.Option.{Option, some, none}
-use lib.ListN.{length, drop}
+use lib.ListN.{length, getD, drop}
 use lib.IntN.{pos, negsuc, _-ℤ_}
 use Rattle.cbor.specs.Bytes.{numberAt, bytesOf, Bytes, Stands, putWhole, pastWhole}
 use Rattle.cbor.specs.Head.{headBytes, headAt, headLen, Within}
 use Rattle.cbor.specs.Item.{Item, Pairs, got, itemAt, pairsAt, encode, Ok, OkPairs, levels, payloadOf}
 use Rattle.cbor.specs.Int.{intOf, intAt}
 use Rattle.cbor.specs.Find.{valueOf, seekAt, findAt}
+use Rattle.cbor.specs.Scan.{noSight, wordsOf, sightIn}
 use Rattle.cbor.specs.declared.heads.Head.{Head}
 use Rattle.cbor.specs.declared.pairs.Stop.{Stop}
 use Rattle.cbor.specs.declared.pairs.Found.{Found}
+use Rattle.cbor.specs.declared.sights.Sight.{Sight}
 
 -- a number is read exactly where its bytes stand, whatever its width
 abbrev pub NumberExact : Type 0
@@ -115,3 +117,7 @@ HeadWritten = (s : List ℕ) (p m v : ℕ) → Within m v → v < 2 ^ 64 → p +
 -- an item that is written reads back
 abbrev pub ItemWritten : Type 0
 ItemWritten = (s : List ℕ) (d p : ℕ) (i : Item) → Ok i d → p + length (encode i) ≤ length s → itemAt (putWhole s p (encode i)) d p ≡ got i (p + length (encode i))
+
+-- the words of twelve sights hold each
+abbrev pub SightExact : Type 0
+SightExact = (l : List Sight) (k : ℕ) → length l ≡ 12 → k < 12 → sightIn (wordsOf l) k ≡ getD l k noSight

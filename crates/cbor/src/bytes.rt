@@ -7,7 +7,8 @@ ghost use Rattle.cbor.specs.Bytes.{numberAt, bytesOf, put, putWhole, pas
 
 // The byte `i` places behind `at`; 0 past the end.
 pub(crate) fn byte(s: &[u8], at: usize, i: usize) -> u64
-    ensures { λ r. ⌜ (r ≡ getD (now (s .entry)) (at + i) 0) × (r < 256) ⌝ }
+    ensures { λ r. ⌜ r ≡ getD (now (s .entry)) (at + i) 0 ⌝ }
+    ensures { λ r. ⌜ r < 256 ⌝ }
 {
     if s.len() <= at {
         return 0;
@@ -32,25 +33,61 @@ pub(crate) fn number(s: &[u8], at: usize, width: usize) -> u64
     n
 }
 
+// The numbers that two, four and eight bytes at `at` say, where they are there.
+pub(crate) fn be16(s: &[u8], at: usize) -> u64
+    requires { ⌜ at + 2 ≤ length (now s) ⌝ }
+    ensures { λ r. ⌜ r ≡ numberAt (now (s .entry)) at 2 ⌝ }
+{
+    s[at] as u64 * 256 + s[at + 1] as u64
+}
+
+pub(crate) fn be32(s: &[u8], at: usize) -> u64
+    requires { ⌜ at + 4 ≤ length (now s) ⌝ }
+    ensures { λ r. ⌜ r ≡ numberAt (now (s .entry)) at 4 ⌝ }
+{
+    be16(s, at) * 65536 + be16(s, at + 2)
+}
+
+pub(crate) fn be64(s: &[u8], at: usize) -> u64
+    requires { ⌜ at + 8 ≤ length (now s) ⌝ }
+    ensures { λ r. ⌜ r ≡ numberAt (now (s .entry)) at 8 ⌝ }
+{
+    be32(s, at) * 4294967296 + be32(s, at + 4)
+}
+
 // The number that the four bytes at `at` say; a byte past the end counts as 0.
 pub fn get_u32(s: &[u8], at: usize) -> u64
     ensures { λ r. ⌜ r ≡ numberAt (now (s .entry)) at 4 ⌝ }
 {
+    if has_room(s.len(), at, 4) {
+        return be32(s, at);
+    }
     number(s, at, 4)
 }
 
-// Stores the low `width` bytes of `v`.
-pub(crate) fn put_number(out: &mut [u8], at: usize, width: usize, v: u64)
-    requires { ⌜ at + width ≤ length (now out) ⌝ }
-    ensures { λ _. ⌜ now (out .exit) ≡ put (now (out .entry)) at (bytesOf width v) ⌝ }
+// Stores the low two, four and eight bytes of `v`.
+pub(crate) fn put16(out: &mut [u8], at: usize, v: u64)
+    requires { ⌜ at + 2 ≤ length (now out) ⌝ }
+    ensures { λ _. ⌜ now (out .exit) ≡ put (now (out .entry)) at (bytesOf 2 v) ⌝ }
 {
-    let mut i = width;
-    let mut rest = v;
-    while i > 0 {
-        i -= 1;
-        out[at + i] = (rest % 256) as u8;
-        rest = rest / 256;
-    }
+    out[at] = (v / 256 % 256) as u8;
+    out[at + 1] = (v % 256) as u8;
+}
+
+pub(crate) fn put32(out: &mut [u8], at: usize, v: u64)
+    requires { ⌜ at + 4 ≤ length (now out) ⌝ }
+    ensures { λ _. ⌜ now (out .exit) ≡ put (now (out .entry)) at (bytesOf 4 v) ⌝ }
+{
+    put16(out, at, v / 65536);
+    put16(out, at + 2, v);
+}
+
+pub(crate) fn put64(out: &mut [u8], at: usize, v: u64)
+    requires { ⌜ at + 8 ≤ length (now out) ⌝ }
+    ensures { λ _. ⌜ now (out .exit) ≡ put (now (out .entry)) at (bytesOf 8 v) ⌝ }
+{
+    put32(out, at, v / 4294967296);
+    put32(out, at + 4, v);
 }
 
 // Whether `n` bytes fit at `at` into `len`.
@@ -65,10 +102,11 @@ pub(crate) fn has_room(len: usize, at: usize, n: usize) -> bool
 
 // Writes the low four bytes of `v` where they fit, and says the position past them; nothing otherwise.
 pub fn put_u32(out: &mut [u8], at: usize, v: u64) -> usize
-    ensures { λ r. ⌜ (r ≡ pastWhole (now (out .entry)) at (bytesOf 4 v)) × (now (out .exit) ≡ putWhole (now (out .entry)) at (bytesOf 4 v)) ⌝ }
+    ensures { λ r. ⌜ r ≡ pastWhole (now (out .entry)) at (bytesOf 4 v) ⌝ }
+    ensures { λ _. ⌜ now (out .exit) ≡ putWhole (now (out .entry)) at (bytesOf 4 v) ⌝ }
 {
     if has_room(out.len(), at, 4) {
-        put_number(out, at, 4, v);
+        put32(out, at, v);
         return at + 4;
     }
     at

@@ -1,19 +1,18 @@
 // Heads: a major type and an argument in its shortest form.
-use crate::bytes::byte;
+use crate::bytes::be16;
+use crate::bytes::be32;
+use crate::bytes::be64;
 use crate::bytes::has_room;
-use crate::bytes::number;
-use crate::bytes::put_number;
+use crate::bytes::put16;
+use crate::bytes::put32;
+use crate::bytes::put64;
 ghost use mathlib.Core.Path.{_≡_};
-ghost use Prim.Native.Nat.{_≤_};
+ghost use mathlib.Core.Bool.{cond};
+ghost use Prim.Native.Nat.{_+_, _≤_, _<_};
 ghost use lib.ListN.{length};
-ghost use Rattle.cbor.specs.Bytes.{putWhole, pastWhole};
-ghost use Rattle.cbor.specs.Head.{infoOf, widthOf, headLen, headOf, allowed, argAt, headAt};
-
-// An argument and the position past it, or none in shortest form.
-pub enum Arg {
-    Is(u64, usize),
-    Bad,
-}
+ghost use lib.Dec.{ltb};
+ghost use Rattle.cbor.specs.Bytes.{bytesOf, put, putWhole, pastWhole};
+ghost use Rattle.cbor.specs.Head.{infoOf, widthOf, headLen, headOf, argAt, argOrZero, headAt};
 
 // A head: its major type, its argument and the position past it.
 pub enum Head {
@@ -41,8 +40,9 @@ fn info_of(arg: u64) -> u64
 }
 
 // How many bytes of argument stand behind a first byte with this additional information.
-fn width_of(info: u64) -> usize
-    ensures { λ r. ⌜ (r ≡ widthOf info) × (r ≤ 8) ⌝ }
+pub(crate) fn width_of(info: u64) -> usize
+    ensures { λ r. ⌜ r ≡ widthOf info ⌝ }
+    ensures { λ r. ⌜ r ≤ 8 ⌝ }
 {
     if info == 24 {
         return 1;
@@ -66,37 +66,56 @@ pub fn head_len(arg: u64) -> usize
     1 + width_of(info_of(arg))
 }
 
-// Whether the subset has a head of this major type and additional information.
-fn in_subset(major: u64, info: u64) -> bool
-    ensures { λ r. ⌜ r ≡ allowed major info ⌝ }
+// `v` where it is not below `least`; 0 where a shorter head would hold it.
+fn unless_below(v: u64, least: u64) -> u64
+    ensures { λ r. ⌜ r ≡ cond (ltb v least) 0 v ⌝ }
 {
-    if major <= 5 {
-        return true;
+    if v < least {
+        return 0;
     }
-    if major == 7 {
-        if 20 <= info {
-            return info <= 22;
-        }
-    }
-    false
+    v
 }
 
-// The argument of additional information `info`, whose bytes start at `at`.
-fn argument(s: &[u8], at: usize, info: u64) -> Arg
-    requires { ⌜ at ≤ length (now s) ⌝ }
-    ensures { λ r. ⌜ r ≡ argAt (now (s .entry)) at info ⌝ }
+// The same as `wide`, for arguments of four and eight bytes.
+fn wider(s: &[u8], at: usize, info: u64) -> u64
+    requires { ⌜ (at ≤ length (now s)) × (25 < info) ⌝ }
+    ensures { λ r. ⌜ r ≡ argOrZero (argAt (now (s .entry)) at info) ⌝ }
 {
-    if info < 24 {
-        return Arg::Is(info, at);
-    }
-    let width = width_of(info);
-    if width <= s.len() - at {
-        let v = number(s, at, width);
-        if info_of(v) == info {
-            return Arg::Is(v, at + width);
+    let left = s.len() - at;
+    if info == 26 {
+        if left < 4 {
+            return 0;
         }
+        return unless_below(be32(s, at), 65536);
     }
-    Arg::Bad
+    if info == 27 {
+        if left < 8 {
+            return 0;
+        }
+        return unless_below(be64(s, at), 4294967296);
+    }
+    0
+}
+
+// The argument of a head of more than one byte; 0 where it is not there or not in shortest form.
+pub(crate) fn wide(s: &[u8], at: usize, info: u64) -> u64
+    requires { ⌜ (at ≤ length (now s)) × (24 ≤ info) ⌝ }
+    ensures { λ r. ⌜ r ≡ argOrZero (argAt (now (s .entry)) at info) ⌝ }
+{
+    if 25 < info {
+        return wider(s, at, info);
+    }
+    let left = s.len() - at;
+    if info == 24 {
+        if left < 1 {
+            return 0;
+        }
+        return unless_below(s[at] as u64, 24);
+    }
+    if left < 2 {
+        return 0;
+    }
+    unless_below(be16(s, at), 256)
 }
 
 // The head at `at`.
@@ -106,29 +125,61 @@ pub fn read_head(s: &[u8], at: usize) -> Head
     if s.len() <= at {
         return Head::Bad;
     }
-    let first = byte(s, at, 0);
+    let first = s[at] as u64;
     let major = first / 32;
     let info = first % 32;
-    if in_subset(major, info) {
-        match argument(s, at + 1, info) {
-            Arg::Is(v, next) => Head::Is(major, v, next),
-            Arg::Bad => Head::Bad,
+    if major <= 5 {
+        if info < 24 {
+            return Head::Is(major, info, at + 1);
         }
-    } else {
-        Head::Bad
+        let v = wide(s, at + 1, info);
+        if v == 0 {
+            return Head::Bad;
+        }
+        return Head::Is(major, v, at + 1 + width_of(info));
     }
+    if 244 <= first {
+        if first <= 246 {
+            return Head::Is(7, info, at + 1);
+        }
+    }
+    Head::Bad
+}
+
+// Stores the bytes of an argument, behind the first byte of its head.
+fn put_argument(out: &mut [u8], at: usize, arg: u64)
+    requires { ⌜ at + widthOf (infoOf arg) ≤ length (now out) ⌝ }
+    ensures { λ _. ⌜ now (out .exit) ≡ put (now (out .entry)) at (bytesOf (widthOf (infoOf arg)) arg) ⌝ }
+{
+    if arg < 24 {
+        return;
+    }
+    if arg < 256 {
+        out[at] = (arg % 256) as u8;
+        return;
+    }
+    if arg < 65536 {
+        put16(out, at, arg);
+        return;
+    }
+    if arg < 4294967296 {
+        put32(out, at, arg);
+        return;
+    }
+    put64(out, at, arg);
 }
 
 // Writes the head of a major type and an argument where it fits, and says the position past it; nothing otherwise.
 pub fn put_head(out: &mut [u8], at: usize, major: u64, arg: u64) -> usize
-    ensures { λ r. ⌜ (r ≡ pastWhole (now (out .entry)) at (headOf major arg)) × (now (out .exit) ≡ putWhole (now (out .entry)) at (headOf major arg)) ⌝ }
+    ensures { λ r. ⌜ r ≡ pastWhole (now (out .entry)) at (headOf major arg) ⌝ }
+    ensures { λ _. ⌜ now (out .exit) ≡ putWhole (now (out .entry)) at (headOf major arg) ⌝ }
 {
     let len = head_len(arg);
     if major < 8 {
         if has_room(out.len(), at, len) {
             let info = info_of(arg);
             out[at] = (major * 32 + info) as u8;
-            put_number(out, at + 1, len - 1, arg);
+            put_argument(out, at + 1, arg);
             return at + len;
         }
     }

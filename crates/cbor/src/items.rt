@@ -1,10 +1,16 @@
 // Items, arrays and maps, checked: each calls the others, with a loop over the elements, so that the stack grows with nesting alone.
+// They answer the position past what they checked, and 0 where it is bad: nothing ends at 0.
 use crate::heads::Head;
 use crate::heads::read_head;
+use crate::heads::wide;
+use crate::heads::width_of;
 ghost use mathlib.Core.Path.{_≡_};
-ghost use Prim.Native.Nat.{_≤_};
+ghost use mathlib.Core.Bool.{cond};
+ghost use Prim.Native.Nat.{_+_, _-_, _≤_};
 ghost use lib.ListN.{length};
-ghost use Rattle.cbor.specs.Item.{keyAt, itemAt, itemsAt, pairsAt, endOf, least, stringEnd, payloadOf, isSome};
+ghost use lib.Dec.{leb};
+ghost use Rattle.cbor.specs.Item.{keyFrom, keyAt, itemAt, restAt, itemsAt, pairsAt, endOf, pastOf, least, payloadOf, isSome};
+ghost use Rattle.cbor.specs.declared.heads.Head.{Head};
 
 // How many maps and arrays may stand within each other.
 pub const DEPTH: u64 = 8;
@@ -21,119 +27,139 @@ pub enum Key {
     Bad,
 }
 
-// The key at `at`: any if it is the first, else above the last.
+// A key and the position past it: any if it is the first, else above the last.
+fn later(first: bool, last: u64, key: u64, next: usize) -> Key
+    ensures { λ r. ⌜ r ≡ keyFrom (least first last) key next ⌝ }
+{
+    if first {
+        return Key::Is(key, next);
+    }
+    if last < key {
+        return Key::Is(key, next);
+    }
+    Key::Bad
+}
+
+// The key at `at`, whose major type is 0: its first byte is its additional information.
 pub(crate) fn read_key(s: &[u8], at: usize, first: bool, last: u64) -> Key
     ensures { λ r. ⌜ r ≡ keyAt (now (s .entry)) (least first last) at ⌝ }
 {
+    if s.len() <= at {
+        return Key::Bad;
+    }
+    let b = s[at] as u64;
+    if b < 24 {
+        return later(first, last, b, at + 1);
+    }
+    if b < 28 {
+        let key = wide(s, at + 1, b);
+        if key == 0 {
+            return Key::Bad;
+        }
+        return later(first, last, key, at + 1 + width_of(b));
+    }
+    Key::Bad
+}
+
+// The position past a string of n bytes at `at`; 0 where it does not fit.
+fn past_string(len: usize, at: usize, n: u64) -> usize
+    requires { ⌜ at ≤ len ⌝ }
+    ensures { λ r. ⌜ r ≡ cond (leb n (len - at)) (at + n) 0 ⌝ }
+{
+    let left = (len - at) as u64;
+    if n <= left {
+        return at + n as usize;
+    }
+    0
+}
+
+// The position past the item at `at`, with at most `depth` arrays and maps within each other; 0 where it is bad.
+pub(crate) fn past_item(s: &[u8], at: usize, depth: u64) -> usize
+    ensures { λ r. ⌜ r ≡ pastOf (itemAt (now (s .entry)) depth at) ⌝ }
+{
     match read_head(s, at) {
-        Head::Bad => Key::Bad,
-        Head::Is(major, key, next) => {
-            if major != 0 {
-                return Key::Bad;
+        Head::Bad => 0,
+        Head::Is(major, arg, next) => {
+            if major < 2 {
+                return next;
             }
-            if first {
-                return Key::Is(key, next);
+            if major == 7 {
+                return next;
             }
-            if last < key {
-                return Key::Is(key, next);
-            }
-            Key::Bad
+            past_rest(s, major, arg, next, depth)
         }
     }
 }
 
-// The end of a string of n bytes at `at`.
-fn check_string(s: &[u8], at: usize, n: u64) -> End
-    requires { ⌜ at ≤ length (now s) ⌝ }
-    ensures { λ r. ⌜ r ≡ stringEnd (now (s .entry)) at n ⌝ }
+// The same behind the head of a string, an array or a map.
+pub(crate) fn past_rest(s: &[u8], major: u64, arg: u64, next: usize, depth: u64) -> usize
+    requires { ⌜ (2 ≤ major) × (major ≤ 5) × (next ≤ length (now s)) ⌝ }
+    ensures { λ r. ⌜ r ≡ pastOf (restAt (now (s .entry)) depth (Head.Is major arg next)) ⌝ }
 {
-    let left = (s.len() - at) as u64;
-    if n <= left {
-        End::At(at + n as usize)
-    } else {
-        End::Bad
+    if major < 4 {
+        return past_string(s.len(), next, arg);
     }
+    if depth == 0 {
+        return 0;
+    }
+    if major == 4 {
+        return past_array(s, next, arg, depth - 1);
+    }
+    past_pairs(s, next, arg, true, 0, depth - 1)
+}
+
+// The position past n items at `at`; 0 where one is bad.
+fn past_array(s: &[u8], at: usize, n: u64, depth: u64) -> usize
+    ensures { λ r. ⌜ r ≡ pastOf (itemsAt (itemAt (now (s .entry)) depth) n at) ⌝ }
+{
+    let mut p = at;
+    let mut left = n;
+    while left != 0 {
+        p = past_item(s, p, depth);
+        if p == 0 {
+            return 0;
+        }
+        left -= 1;
+    }
+    p
+}
+
+// The position past n pairs at `at`, their keys ascending; 0 where one is bad.
+pub(crate) fn past_pairs(s: &[u8], at: usize, n: u64, first: bool, last: u64, depth: u64) -> usize
+    ensures { λ r. ⌜ r ≡ pastOf (pairsAt (now (s .entry)) (itemAt (now (s .entry)) depth) n (least first last) at) ⌝ }
+{
+    let mut p = at;
+    let mut left = n;
+    let mut start = first;
+    let mut before = last;
+    while left != 0 {
+        match read_key(s, p, start, before) {
+            Key::Bad => {
+                return 0;
+            }
+            Key::Is(key, next) => {
+                p = past_item(s, next, depth);
+                if p == 0 {
+                    return 0;
+                }
+                left -= 1;
+                start = false;
+                before = key;
+            }
+        }
+    }
+    p
 }
 
 // The end of the item at `at`, with at most `depth` arrays and maps within each other.
 pub fn check_item(s: &[u8], at: usize, depth: u64) -> End
     ensures { λ r. ⌜ r ≡ endOf (itemAt (now (s .entry)) depth at) ⌝ }
 {
-    match read_head(s, at) {
-        Head::Bad => End::Bad,
-        Head::Is(major, arg, next) => {
-            if major == 2 {
-                return check_string(s, next, arg);
-            }
-            if major == 3 {
-                return check_string(s, next, arg);
-            }
-            if major == 4 {
-                if depth == 0 {
-                    return End::Bad;
-                }
-                return check_array(s, next, arg, depth - 1);
-            }
-            if major == 5 {
-                if depth == 0 {
-                    return End::Bad;
-                }
-                return check_map(s, next, arg, depth - 1);
-            }
-            End::At(next)
-        }
+    let e = past_item(s, at, depth);
+    if e == 0 {
+        return End::Bad;
     }
-}
-
-// The end of n items at `at`.
-fn check_array(s: &[u8], at: usize, n: u64, depth: u64) -> End
-    ensures { λ r. ⌜ r ≡ endOf (itemsAt (itemAt (now (s .entry)) depth) n at) ⌝ }
-{
-    let mut p = at;
-    let mut left = n;
-    while left != 0 {
-        match check_item(s, p, depth) {
-            End::Bad => {
-                return End::Bad;
-            }
-            End::At(e) => {
-                p = e;
-                left -= 1;
-            }
-        }
-    }
-    End::At(p)
-}
-
-// The end of n pairs at `at`, their keys ascending.
-fn check_map(s: &[u8], at: usize, n: u64, depth: u64) -> End
-    ensures { λ r. ⌜ r ≡ endOf (pairsAt (now (s .entry)) (itemAt (now (s .entry)) depth) n 0 at) ⌝ }
-{
-    let mut p = at;
-    let mut left = n;
-    let mut first = true;
-    let mut last: u64 = 0;
-    while left != 0 {
-        match read_key(s, p, first, last) {
-            Key::Bad => {
-                return End::Bad;
-            }
-            Key::Is(key, next) => {
-                match check_item(s, next, depth) {
-                    End::Bad => {
-                        return End::Bad;
-                    }
-                    End::At(e) => {
-                        p = e;
-                        left -= 1;
-                        first = false;
-                        last = key;
-                    }
-                }
-            }
-        }
-    }
-    End::At(p)
+    End::At(e)
 }
 
 // Whether the slice is exactly one item.

@@ -1,9 +1,10 @@
-// RFC 8949's strict subset: heads and integers read, items checked, a key of a map found, heads written.
+// RFC 8949's strict subset: heads and integers read, items checked, a key of a map found, a payload scanned, heads written.
 mod bytes; // bytes.rt: numbers as bytes, read and written
 mod heads; // heads.rt: heads, read and written
 mod ints; // ints.rt: integers as 64 signed bits
 mod items; // items.rt: items, arrays and maps, checked
 mod pairs; // pairs.rt: the value under a key of a map
+mod sights; // sights.rt: one pass that checks a payload and keeps the heads under its small keys
 
 pub use bytes::get_u32;
 pub use bytes::put_u32;
@@ -18,6 +19,11 @@ pub use items::End;
 pub use items::check_item;
 pub use items::is_item;
 pub use pairs::Found;
-pub use pairs::Stop;
 pub use pairs::find;
-pub use pairs::seek;
+pub use sights::KEYS;
+pub use sights::SIGHTS;
+pub use sights::Sight;
+pub use sights::Sights;
+pub use sights::WORDS;
+pub use sights::scan;
+pub use sights::sight_at;

@@ -5,90 +5,101 @@ use mathlib.Core.Bool.{Bool, true, false, _&&_}
 use mathlib.Core.List.{List}
 use mathlib.Core.Option.{Option, some, none, bind}
 use native.Mathlib.Omega.{arith}
+use lib.Dec.{eqb}
 use borrow.Author.Tests.{eq-eqb, ne-eqb}
-use Rattle.cbor.specs.Bytes.{Bytes}
 use Rattle.cbor.specs.Item.{Item, Pairs, payloadOf, isSome}
 use Rattle.cbor.specs.Find.{valueOf}
+use Rattle.cbor.specs.Scan.{pairsIn, sightIn, sightsOf, wordsOf}
+use Rattle.cbor.specs.declared.sights.Sight.{Sight}
+use Rattle.messages.specs.declared.Amount.{Amount}
 use Rattle.messages.specs.declared.Outcome.{Outcome}
+use Rattle.messages.specs.declared.Response.{Response}
 use Rattle.frames.specs.Prefix.{framed, payloadIn}
-use Rattle.frames.specs.Fields.{upTo, mapIn, needed, most32}
+use Rattle.frames.specs.Fields.{upTo, truth, mapIn, needed, most32, mostValue, successIn}
 use Rattle.frames.specs.Requests.{servedCommand}
-use Rattle.frames.specs.Responses.{isStatus, stands, statusIn, outcomeIn, noResult, resultIn, responseIn, answerOf, answerIn, answerFrom, readResponse}
-use Rattle.frames.specs.Walks.{On, Says, sightAt, UintReads, TruthReads, InnerReads, EffectReads, TargetsRead, OutcomeReads, ResultReads, BodyReads, RootReads, resultFrom}
-use Rattle.frames.specs.declared.fields.Walk.{Walk}
-use Rattle.frames.specs.declared.fields.Sight.{Sight}
-use Rattle.frames.specs.declared.fields.Uint.{Uint}
-use Rattle.frames.specs.declared.fields.Truth.{Truth}
-use Rattle.frames.specs.declared.fields.Inner.{Inner}
+use Rattle.frames.specs.Responses.{isStatus, stands, statusIn, limitResultIn, setpointResultIn, outcomeIn, noResult, resultIn, responseIn, answerOf, answerIn, answerFrom, readResponse}
+use Rattle.frames.specs.Sights.{found, Reads, UintReads, MapReads, amountOf, Shown, Inside, OutcomeReads, ResultReads, BodyReads, resultFrom}
 use Rattle.frames.specs.declared.responses.Answer.{Answer}
 use Rattle.frames.specs.declared.responses.Effect.{Effect}
 use Rattle.frames.specs.declared.responses.Targets.{Targets}
 use Rattle.frames.specs.declared.responses.Result.{Result}
-use Rattle.frames.proofs.Joined.{and-left, and-right}
-use Rattle.frames.proofs.Seen.{Seen, seen}
-use Rattle.frames.proofs.Readers.{clash, yes, no}
-use Rattle.frames.proofs.Steps.{as-needed}
-use Rattle.frames.proofs.Messages.{success-says}
+use Rattle.frames.proofs.Joined.{via, and-left, and-right}
+use Rattle.frames.proofs.Parts.{top, low, then, last}
 use Rattle.frames.proofs.Requested.{is-some, is-none}
 
--- RESULTS
-module _ (s : List ℕ) (w : Walk) (c : ℕ) where
-  module _ (v : Effect) (r : EffectReads s w v) (e : c ≡ 1) where
-    pub effect-is : v .ok ≡ true → OutcomeReads s w c (Result.Is (Outcome.Limit (v .result)))
-    unfolding OutcomeReads EffectReads outcomeIn
-    effect-is y ps on = rw (eq-eqb c 1 e, r ps on .1 y .0) refl
+module _ (ws : List ℕ) where
+  -- RESULTS
+  module _ (j k l m n : Sight) (je : j ≡ sightIn ws 7) (ke : k ≡ sightIn ws 8) (le : l ≡ sightIn ws 9) (me : m ≡ sightIn ws 10) (ne : n ≡ sightIn ws 11)
+      (a s c p r : Bool) (ar : Reads j (needed truth) a (eqb (j .arg) 21)) (sr : UintReads k true 4 s)
+      (cr : UintReads l false mostValue c) (pr : UintReads m false mostValue p) (rr : UintReads n false 4 r) where
+    pub effect-reads : (ok : Bool) → ok ≡ (a && (s && (c && (p && r)))) → (x y z : Amount) → x ≡ amountOf l → y ≡ amountOf m → z ≡ amountOf n
+        → Inside ws limitResultIn ok (record { applied = eqb (j .arg) 21; state = k .arg; consumption = x; production = y; reason = z })
+    unfolding Inside limitResultIn UintReads Reads
+    effect-reads ok e x y z xe ye ze ps qs h =
+        rw (e, xe, ye, ze)
+        (then (eqb (j .arg) 21) _ _ a _ (ar _ (je ∙ low ws ps qs h 1 (omega arith)))
+        (then (k .arg) _ _ s _ (sr _ (ke ∙ low ws ps qs h 2 (omega arith)))
+        (then (amountOf l) _ _ c _ (cr _ (le ∙ low ws ps qs h 3 (omega arith)))
+        (then (amountOf m) _ _ p _ (pr _ (me ∙ low ws ps qs h 4 (omega arith)))
+        (last (amountOf n) _ r (rr _ (ne ∙ low ws ps qs h 5 (omega arith))))))))
 
-    pub effect-wrong : v .ok ≡ false → OutcomeReads s w c Result.Wrong
-    unfolding OutcomeReads EffectReads outcomeIn
-    effect-wrong y ps on = rw (eq-eqb c 1 e, r ps on .0 y) refl
+  module _ (j k l : Sight) (je : j ≡ sightIn ws 7) (ke : k ≡ sightIn ws 8) (le : l ≡ sightIn ws 9)
+      (a c p : Bool) (ar : Reads j successIn a true) (cr : UintReads k false mostValue c) (pr : UintReads l false mostValue p) where
+    pub targets-read : (ok : Bool) → ok ≡ (a && (c && p)) → (x y : Amount) → x ≡ amountOf k → y ≡ amountOf l → Inside ws setpointResultIn ok (record { consumption = x; production = y })
+    unfolding Inside setpointResultIn UintReads Reads
+    targets-read ok e x y xe ye ps qs h =
+        rw (e, xe, ye)
+        (then true _ _ a _ (ar _ (je ∙ low ws ps qs h 1 (omega arith)))
+        (then (amountOf k) _ _ c _ (cr _ (ke ∙ low ws ps qs h 2 (omega arith)))
+        (last (amountOf l) _ p (pr _ (le ∙ low ws ps qs h 3 (omega arith))))))
 
-  module _ (v : Targets) (r : TargetsRead s w v) (e : c ≡ 3) where
-    pub targets-are : v .ok ≡ true → OutcomeReads s w c (Result.Is (Outcome.Setpoint (v .result)))
-    unfolding OutcomeReads TargetsRead outcomeIn
-    targets-are y ps on = rw (ne-eqb c 1 (λ z. omega arith), eq-eqb c 3 e, r ps on .1 y .0) refl
+  module _ (c : ℕ) where
+    module _ (v : Effect) (r : Inside ws limitResultIn (v .ok) (v .result)) (e : c ≡ 1) where
+      pub effect-is : v .ok ≡ true → OutcomeReads ws c (Result.Is (Outcome.Limit (v .result)))
+      unfolding OutcomeReads Inside outcomeIn
+      effect-is y ps qs h = rw (eq-eqb c 1 e, r ps qs h, y) refl
 
-    pub targets-wrong : v .ok ≡ false → OutcomeReads s w c Result.Wrong
-    unfolding OutcomeReads TargetsRead outcomeIn
-    targets-wrong y ps on = rw (ne-eqb c 1 (λ z. omega arith), eq-eqb c 3 e, r ps on .0 y) refl
+      pub effect-wrong : v .ok ≡ false → OutcomeReads ws c Result.Wrong
+      unfolding OutcomeReads Inside outcomeIn
+      effect-wrong y ps qs h = rw (eq-eqb c 1 e, r ps qs h, y) refl
 
-  module _ (v : Truth) (r : TruthReads s w 1 v) (a : c ≡ 1 → ⊥) (b : c ≡ 3 → ⊥) (t : Bool) (te : t ≡ (v .ok && v .value)) where
-    pub success-is : t ≡ true → OutcomeReads s w c (Result.Is Outcome.Success)
-    unfolding OutcomeReads TruthReads outcomeIn
-    success-is y ps on = rw (ne-eqb c 1 a, ne-eqb c 3 b, success-says s v _ _ (r ps 0 on (omega arith)) .1 (sym te ∙ y) .0) refl
+    module _ (v : Targets) (r : Inside ws setpointResultIn (v .ok) (v .result)) (e : c ≡ 3) where
+      pub targets-are : v .ok ≡ true → OutcomeReads ws c (Result.Is (Outcome.Setpoint (v .result)))
+      unfolding OutcomeReads Inside outcomeIn
+      targets-are y ps qs h = rw (ne-eqb c 1 (λ z. omega arith), eq-eqb c 3 e, r ps qs h, y) refl
 
-    pub success-wrong : t ≡ false → OutcomeReads s w c Result.Wrong
-    unfolding OutcomeReads TruthReads outcomeIn
-    success-wrong y ps on = rw (ne-eqb c 1 a, ne-eqb c 3 b, success-says s v _ _ (r ps 0 on (omega arith)) .0 (sym te ∙ y)) refl
+      pub targets-wrong : v .ok ≡ false → OutcomeReads ws c Result.Wrong
+      unfolding OutcomeReads Inside outcomeIn
+      targets-wrong y ps qs h = rw (ne-eqb c 1 (λ z. omega arith), eq-eqb c 3 e, r ps qs h, y) refl
 
--- WHAT STANDS UNDER KEY 3
-module _ (s : List ℕ) (w : Walk) (c status : ℕ) (t : Bool) (te : t ≡ stands c status) where
-  module _ (y : t ≡ true) (m : Inner) (mr : InnerReads s w 3 m) where
-    pub result-no-map : m .ok ≡ false → ResultReads s w c status Result.Wrong
-    unfolding ResultReads InnerReads resultIn bind
-    result-no-map q ps lo on le = rw (sym te ∙ y, mr ps lo on le .0 q) refl
+    module _ (k : Sight) (ke : k ≡ sightIn ws 7) (t : Bool) (r : Reads k successIn t true) (a : c ≡ 1 → ⊥) (b : c ≡ 3 → ⊥) where
+      pub success-is : t ≡ true → OutcomeReads ws c (Result.Is Outcome.Success)
+      unfolding OutcomeReads Reads outcomeIn
+      success-is y ps qs h = rw (ne-eqb c 1 a, ne-eqb c 3 b, r _ (ke ∙ low ws ps qs h 1 (omega arith)), y) refl
 
-    pub result-is : m .ok ≡ true → (r : Result) → OutcomeReads s (m .next) c r → ResultReads s w c status r
-    unfolding ResultReads InnerReads OutcomeReads resultIn bind
-    result-is q r h ps lo on le =
-        let x = mr ps lo on le .1 q in
-        h (x .0) (x .2) ∙ rw (sym te ∙ y, x .1) refl
+      pub success-wrong : t ≡ false → OutcomeReads ws c Result.Wrong
+      unfolding OutcomeReads Reads outcomeIn
+      success-wrong y ps qs h = rw (ne-eqb c 1 a, ne-eqb c 3 b, r _ (ke ∙ low ws ps qs h 1 (omega arith)), y) refl
 
-  module _ (y : t ≡ false) (ok : Bytes s) (f : Sight) (e : f ≡ sightAt s w 3) where
-    none-there : (o : Option Item) (ps : Pairs) → Seen s w ps 3 o f → f .there ≡ false → Result.Is Outcome.Nothing ≡ resultFrom (noResult o)
-    none-there none ps h th = refl
-    none-there (some i) ps h th = absurd (clash (h .there) th)
+  -- WHAT STANDS UNDER KEY 3
+  module _ (c status : ℕ) (k : Sight) (ke : k ≡ sightIn ws 3) (t : Bool) (te : t ≡ stands c status) where
+    module _ (y : t ≡ true) (m : Bool) (mr : MapReads k m) where
+      pub result-no-map : m ≡ false → ResultReads ws c status Result.Wrong
+      unfolding ResultReads MapReads resultIn bind
+      result-no-map q ps h = rw (via te y, mr _ (ke ∙ top ws ps _ h 3 (omega arith)), q) refl
 
-    some-there : (o : Option Item) (ps : Pairs) → Seen s w ps 3 o f → f .there ≡ true → Result.Wrong ≡ resultFrom (noResult o)
-    some-there none ps h th = absurd (clash th (h .gone))
-    some-there (some i) ps h th = refl
+      pub result-is : m ≡ true → (r : Result) → OutcomeReads ws c r → ResultReads ws c status r
+      unfolding ResultReads OutcomeReads MapReads resultIn bind
+      result-is q r o ps h = o ps _ h ∙ rw (via te y, mr _ (ke ∙ top ws ps _ h 3 (omega arith)), q) refl
 
-    pub result-none : f .there ≡ false → ResultReads s w c status (Result.Is Outcome.Nothing)
-    unfolding ResultReads resultIn
-    result-none th ps lo on le = rw (sym te ∙ y) (none-there (valueOf ps 3) ps (seen s ok w 3 ps lo on le f e) th)
+    module _ (y : t ≡ false) (n : Bool) (nr : Reads k noResult n Outcome.Nothing) where
+      pub result-none : n ≡ true → ResultReads ws c status (Result.Is Outcome.Nothing)
+      unfolding ResultReads Reads resultIn
+      result-none q ps h = rw (via te y, nr _ (ke ∙ top ws ps _ h 3 (omega arith)), q) refl
 
-    pub result-elsewhere : f .there ≡ true → ResultReads s w c status Result.Wrong
-    unfolding ResultReads resultIn
-    result-elsewhere th ps lo on le = rw (sym te ∙ y) (some-there (valueOf ps 3) ps (seen s ok w 3 ps lo on le f e) th)
+      pub result-elsewhere : n ≡ false → ResultReads ws c status Result.Wrong
+      unfolding ResultReads Reads resultIn
+      result-elsewhere q ps h = rw (via te y, nr _ (ke ∙ top ws ps _ h 3 (omega arith)), q) refl
 
 -- THE BODY
 is-outcome : (o : Option Outcome) (x : Outcome) → Result.Is x ≡ resultFrom o → o ≡ some x
@@ -99,79 +110,83 @@ no-outcome : (o : Option Outcome) → Result.Wrong ≡ resultFrom o → o ≡ no
 no-outcome (some d) e = absurd (let z : _≡_ {A = ℕ} 0 1 = cc in omega arith)
 no-outcome none e = refl
 
-status-says : (o : Option Item) (ok b : Bool) (v : ℕ) (G : Type 0) → b ≡ isStatus v → Says (needed (upTo 14) o) ok v G → Says (statusIn o) (ok && b) v G
+status-found : (o : Option Item) (ok b : Bool) (v : ℕ) → b ≡ isStatus v → needed (upTo 14) o ≡ found ok v → statusIn o ≡ found (ok && b) v
 unfolding statusIn bind
-status-says o true true v G e h = yes (rw (h .1 refl .0, sym e) refl) (h .1 refl .1)
-status-says o true false v G e h = no (rw (h .1 refl .0, sym e) refl)
-status-says o false b v G e h = no (rw (h .0 refl) refl)
+status-found o true true v e h = rw (h, ← e) refl
+status-found o true false v e h = rw (h, ← e) refl
+status-found o false b v e h = rw h refl
+
+-- what is read or not
+found-of : (o : Option Outcome) → (r : Bool) × (x : Outcome) × (o ≡ found r x)
+found-of (some x) = (true, x, refl)
+found-of none = (false, Outcome.Nothing, refl)
+
+not-first : (a q r : Bool) → (a && q) ≡ false → (a && (q && r)) ≡ false
+not-first true q r e = rw e refl
+not-first false q r e = refl
+
+all-first : (a q r : Bool) → (a && q) ≡ true → (a && (q && r)) ≡ r
+all-first a q r e = rw (and-left a q e, and-right a q e) refl
 
 -- a response by its parts
-module _ (c : ℕ) (ps : Pairs) where
-  no-id : needed (upTo most32) (valueOf ps 1) ≡ none → responseIn c ps ≡ none
-  unfolding responseIn bind
-  no-id e = rw e refl
+pub all-parts : (c : ℕ) (ps : Pairs) (i : ℕ) → needed (upTo most32) (valueOf ps 1) ≡ some i → (n : ℕ) → statusIn (valueOf ps 2) ≡ some n
+    → (o : Outcome) → resultIn c n (valueOf ps 3) ≡ some o → responseIn c ps ≡ some (record { id = i; status = n; outcome = o })
+unfolding responseIn bind
+all-parts c ps i e n f o g = rw (e, f, g) refl
 
-  module _ (i : ℕ) (e : needed (upTo most32) (valueOf ps 1) ≡ some i) where
-    no-status : statusIn (valueOf ps 2) ≡ none → responseIn c ps ≡ none
-    unfolding responseIn bind
-    no-status f = rw (e, f) refl
+module _ (ws : List ℕ) (c : ℕ) (k l : Sight) (ke : k ≡ sightIn ws 1) (le : l ≡ sightIn ws 2) (a b s : Bool)
+    (ar : UintReads k true most32 a) (br : UintReads l true 14 b) (se : s ≡ isStatus (l .arg)) (t : Bool) (te : t ≡ (a && (b && s))) where
+  abbrev whole : Outcome → Response
+  whole o = record { id = k .arg; status = l .arg; outcome = o }
 
-    module _ (n : ℕ) (f : statusIn (valueOf ps 2) ≡ some n) where
-      no-result : resultIn c n (valueOf ps 3) ≡ none → responseIn c ps ≡ none
-      unfolding responseIn bind
-      no-result g = rw (e, f, g) refl
+  -- the id and the status are there, then the result
+  from-result : (ps qs : Pairs) → Shown ws ps qs → (r : Bool) (o : Outcome) → resultIn c (l .arg) (valueOf ps 3) ≡ found r o
+      → responseIn c ps ≡ found (a && ((b && s) && r)) (whole o)
+  unfolding responseIn UintReads Reads
+  from-result ps qs h r o e =
+      then (k .arg) _ _ a _ (ar _ (ke ∙ top ws ps qs h 1 (omega arith)))
+      (then (l .arg) _ _ (b && s) _ (status-found (valueOf ps 2) b s (l .arg) se (br _ (le ∙ top ws ps qs h 2 (omega arith))))
+      (last o _ r e))
 
-      pub all-parts : (o : Outcome) → resultIn c n (valueOf ps 3) ≡ some o → responseIn c ps ≡ some (record { id = i; status = n; outcome = o })
-      unfolding responseIn bind
-      all-parts o g = rw (e, f, g) refl
-
-module _ (s : List ℕ) (w : Walk) (c : ℕ) (a b : Uint) (ra : UintReads s w 1 true most32 a) (rb : UintReads s (a .next) 2 true 14 b)
-    (p : Bool) (pe : p ≡ isStatus (b .value)) (t : Bool) (te : t ≡ (a .ok && (b .ok && p))) where
-  status-of : (ps : Pairs) → On s (a .next) ps 2 → Says (statusIn (valueOf ps 2)) (b .ok && p) (b .value) (On s (b .next) ps 3)
-  unfolding UintReads
-  status-of ps on = status-says (valueOf ps 2) (b .ok) p (b .value) _ pe (as-needed (upTo 14) (valueOf ps 2) (b .ok) (b .there) (b .value) (rb ps 2 on (omega arith)))
-
-  id-of : (ps : Pairs) → On s w ps 0 → Says (needed (upTo most32) (valueOf ps 1)) (a .ok) (a .value) (On s (a .next) ps 2)
-  unfolding UintReads
-  id-of ps on = as-needed (upTo most32) (valueOf ps 1) (a .ok) (a .there) (a .value) (ra ps 0 on (omega arith))
-
-  pub body-wrong : t ≡ false → BodyReads s w c (Answer.Refused 3)
+  pub body-wrong : t ≡ false → BodyReads ws c (Answer.Refused 3)
   unfolding BodyReads
-  body-wrong y ps on = go (a .ok) (id-of ps on) (sym te ∙ y)
-    where
-      go : (ok : Bool) → Says (needed (upTo most32) (valueOf ps 1)) ok (a .value) (On s (a .next) ps 2) → (ok && (b .ok && p)) ≡ false → Answer.Refused 3 ≡ answerOf (responseIn c ps)
-      go false h z = sym (ap answerOf (no-id c ps (h .0 refl)))
-      go true h z = sym (ap answerOf (no-status c ps (a .value) (h .1 refl .0) (status-of ps (h .1 refl .1) .0 z)))
+  body-wrong y ps h =
+      let f = found-of (resultIn c (l .arg) (valueOf ps 3)) in
+      sym (ap answerOf (from-result ps _ h (f .0) (f .1) (f .2) ∙ ap (λ (x : Bool). found x (whole (f .1))) (not-first a (b && s) (f .0) (via te y))))
 
-  module _ (y : t ≡ true) (r : Result) (h : ResultReads s (b .next) c (b .value) r) where
-    parts : (ps : Pairs) → On s w ps 0 → (needed (upTo most32) (valueOf ps 1) ≡ some (a .value)) × (statusIn (valueOf ps 2) ≡ some (b .value)) × (r ≡ resultFrom (resultIn c (b .value) (valueOf ps 3)))
-    unfolding ResultReads
-    parts ps on =
-        let i = id-of ps on .1 (and-left _ _ (sym te ∙ y)) in
-        let n = status-of ps (i .1) .1 (and-right (a .ok) _ (sym te ∙ y)) in
-        (i .0, n .0, h ps 3 (n .1) (omega arith))
+  module _ (y : t ≡ true) (r : Result) (h : ResultReads ws c (l .arg) r) where
+    body-by : (ps : Pairs) → Shown ws ps (pairsIn (valueOf ps 3)) → (g : Bool) (o : Outcome) → resultIn c (l .arg) (valueOf ps 3) ≡ found g o
+        → answerOf (found g (whole o)) ≡ answerOf (responseIn c ps)
+    body-by ps q g o e = sym (ap answerOf (from-result ps _ q g o e ∙ ap (λ (x : Bool). found x (whole o)) (all-first a (b && s) g (via te y))))
 
-    pub body-is : (o : Outcome) → r ≡ Result.Is o → BodyReads s w c (Answer.Is (record { id = a .value; status = b .value; outcome = o }))
-    unfolding BodyReads
-    body-is o q ps on =
-        let x = parts ps on in
-        sym (ap answerOf (all-parts c ps (a .value) (x .0) (b .value) (x .1) o (is-outcome _ o (sym q ∙ x .2))))
+    pub body-is : (o : Outcome) → r ≡ Result.Is o → BodyReads ws c (Answer.Is (whole o))
+    unfolding BodyReads ResultReads
+    body-is o q ps z = body-by ps z true o (is-outcome (resultIn c (l .arg) (valueOf ps 3)) o (sym q ∙ h ps z))
 
-    pub body-no-result : r ≡ Result.Wrong → BodyReads s w c (Answer.Refused 3)
-    unfolding BodyReads
-    body-no-result q ps on =
-        let x = parts ps on in
-        sym (ap answerOf (no-result c ps (a .value) (x .0) (b .value) (x .1) (no-outcome _ (sym q ∙ x .2))))
+    pub body-no-result : r ≡ Result.Wrong → BodyReads ws c (Answer.Refused 3)
+    unfolding BodyReads ResultReads
+    body-no-result q ps z = body-by ps z false Outcome.Nothing (no-outcome (resultIn c (l .arg) (valueOf ps 3)) (sym q ∙ h ps z))
 
 -- FRAMES
 pub answer-map-of : (c : ℕ) (frame : List ℕ) (i : Item) (m : Pairs) → framed frame ≡ true → payloadOf (payloadIn frame) ≡ some i → mapIn i ≡ some m → answerFrom c frame ≡ answerOf (responseIn c m)
 unfolding answerFrom answerIn bind
 answer-map-of c frame i m x y z = rw (x, y, z) refl
 
+-- what is no map has no small key
+no-map : (c : ℕ) (i : Item) → answerOf (responseIn c (pairsIn (some i))) ≡ answerOf (bind (mapIn i) (responseIn c))
+unfolding mapIn bind responseIn needed valueOf
+no-map c (Item.uint v) = refl
+no-map c (Item.nint v) = refl
+no-map c (Item.bytes b) = refl
+no-map c (Item.text b) = refl
+no-map c (Item.array is) = refl
+no-map c (Item.map m) = refl
+no-map c (Item.simple v) = refl
+
 module _ (c : ℕ) (frame : List ℕ) (b : Bool) (be : b ≡ framed frame) where
   pub not-framed : b ≡ false → Answer.Refused 1 ≡ answerFrom c frame
   unfolding answerFrom
-  not-framed y = rw (sym be ∙ y) refl
+  not-framed y = rw (via be y) refl
 
   module _ (y : b ≡ true) (p : List ℕ) (pe : p ≡ payloadIn frame) (t : Bool) (te : t ≡ isSome (payloadOf p)) where
     tested : t ≡ isSome (payloadOf (payloadIn frame))
@@ -179,26 +194,21 @@ module _ (c : ℕ) (frame : List ℕ) (b : Bool) (be : b ≡ framed frame) where
 
     pub not-item : t ≡ false → Answer.Refused 2 ≡ answerFrom c frame
     unfolding answerFrom answerIn
-    not-item z = rw (sym be ∙ y, is-none (payloadOf (payloadIn frame)) (sym tested ∙ z)) refl
+    not-item z = rw (via be y, is-none (payloadOf (payloadIn frame)) (via tested z)) refl
 
-    module _ (z : t ≡ true) (root : Inner) (rr : RootReads p root) where
-      pub root-not-map : root .ok ≡ false → Answer.Refused 3 ≡ answerFrom c frame
-      unfolding answerFrom answerIn RootReads bind
-      root-not-map q =
-          let x = is-some (payloadOf (payloadIn frame)) (sym tested ∙ z) in
-          rw (sym be ∙ y, x .1, rr (x .0) (ap payloadOf pe ∙ x .1) .0 q) refl
+    -- the payload is one item, of which the sights are seen
+    module _ (ws : List ℕ) (e : ws ≡ wordsOf (sightsOf 3 (payloadOf p))) (r : Answer) (h : BodyReads ws c r) where
+      seen : (i : Item) → payloadOf (payloadIn frame) ≡ some i → r ≡ answerFrom c frame
+      unfolding answerFrom answerIn BodyReads Shown sightsOf
+      seen i x = h (pairsIn (some i)) (e ∙ ap (λ (o : Option Item). wordsOf (sightsOf 3 o)) (ap payloadOf pe ∙ x)) ∙ no-map c i ∙ rw (via be y, x) refl
 
-      pub root-is-map : root .ok ≡ true → (r : Answer) → BodyReads p (root .next) c r → r ≡ answerFrom c frame
-      unfolding RootReads BodyReads
-      root-is-map q r h =
-          let x = is-some (payloadOf (payloadIn frame)) (sym tested ∙ z) in
-          let m = rr (x .0) (ap payloadOf pe ∙ x .1) .1 q in
-          h (m .0) (m .2) ∙ sym (answer-map-of c frame (x .0) (m .0) (sym be ∙ y) (x .1) (m .1))
+      pub is-item : t ≡ true → r ≡ answerFrom c frame
+      is-item z = let x = is-some (payloadOf (payloadIn frame)) (via tested z) in seen (x .0) (x .1)
 
 pub named : (c : ℕ) (frame : List ℕ) (b : Bool) → b ≡ servedCommand c → b ≡ true → (r : Answer) → r ≡ answerFrom c frame → r ≡ readResponse c frame
 unfolding readResponse
-named c frame b e y r h = h ∙ rw (sym e ∙ y) refl
+named c frame b e y r h = h ∙ rw (via e y) refl
 
 pub not-named : (c : ℕ) (frame : List ℕ) (b : Bool) → b ≡ servedCommand c → b ≡ false → Answer.Refused 4 ≡ readResponse c frame
 unfolding readResponse
-not-named c frame b e y = rw (sym e ∙ y) refl
+not-named c frame b e y = rw (via e y) refl

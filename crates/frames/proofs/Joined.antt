@@ -4,6 +4,10 @@ use mathlib.Core.Path.{_≡_, refl, sym, ap, _∙_}
 use mathlib.Core.Bool.{Bool, true, false, not, _&&_, _||_}
 use native.Mathlib.Omega.{arith}
 
+-- a test's result is what its contract says
+pub via : {X : Type 0} {r p v : X} → r ≡ p → r ≡ v → p ≡ v
+via e f = sym e ∙ f
+
 pub no-both : true ≡ false → ⊥
 no-both e = let z : _≡_ {A = ℕ} 0 1 = cc in omega arith
 
@@ -34,9 +38,6 @@ not-is-false false e = absurd (no-both e)
 
 pub and-same : {a b c d : Bool} → a ≡ c → b ≡ d → (a && b) ≡ (c && d)
 and-same {a} {b} {c} {d} e f = ap (λ (x : Bool). x && b) e ∙ ap (λ (x : Bool). c && x) f
-
-pub or-same : {a b c d : Bool} → a ≡ c → b ≡ d → (a || b) ≡ (c || d)
-or-same {a} {b} {c} {d} e f = ap (λ (x : Bool). x || b) e ∙ ap (λ (x : Bool). c || x) f
 
 -- the last of the commands 1 to 4
 pub four : (c : ℕ) → (c ≡ 1 → ⊥) → (c ≡ 2 → ⊥) → (c ≡ 3 → ⊥) → 1 ≤ c → c ≤ 4 → c ≡ 4

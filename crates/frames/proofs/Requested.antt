@@ -9,66 +9,97 @@ use lib.Dec.{eqb}
 use borrow.Author.Tests.{eq-eqb, ne-eqb}
 use Rattle.cbor.specs.Item.{Item, Pairs, payloadOf, isSome}
 use Rattle.cbor.specs.Find.{valueOf}
+use Rattle.cbor.specs.Scan.{pairsIn, sightIn, sightsOf, wordsOf}
+use Rattle.cbor.specs.declared.sights.Sight.{Sight}
 use Rattle.messages.specs.declared.Aim.{Aim}
+use Rattle.messages.specs.declared.Amount.{Amount}
 use Rattle.messages.specs.declared.Setpoints.{Setpoints}
 use Rattle.messages.specs.declared.Command.{Command}
 use Rattle.frames.specs.Prefix.{framed, payloadIn}
-use Rattle.frames.specs.Fields.{upTo, mapIn, aimIn}
-use Rattle.frames.specs.Requests.{envelopeIn, setpointsOf, commandIn, servedAt, servedCommand, fromEnvelope, fromPayload, readRequest}
-use Rattle.frames.specs.Walks.{UintReads, EnvelopeReads, ValuesRead, CommandReads, ClearReads, MessageReads, RootReads, parametersFrom}
-use Rattle.frames.specs.declared.fields.Walk.{Walk}
-use Rattle.frames.specs.declared.fields.Uint.{Uint}
-use Rattle.frames.specs.declared.fields.Inner.{Inner}
+use Rattle.frames.specs.Fields.{mapIn, needed, most32, valueIn, aimIn}
+use Rattle.frames.specs.Requests.{envelopeIn, limitsIn, setpointsOf, commandIn, servedAt, servedCommand, fromEnvelope, fromPayload, readRequest}
+use Rattle.frames.specs.Sights.{Reads, UintReads, MapReads, amountOf, durationOf, aimOf, Shown, Inside, EnvelopeReads, CommandReads, ClearReads, MessageReads, parametersFrom}
+use Rattle.frames.specs.declared.fields.Value.{Value}
 use Rattle.frames.specs.declared.requests.Reading.{Reading}
-use Rattle.frames.specs.declared.requests.Envelope.{Envelope}
 use Rattle.frames.specs.declared.requests.Values.{Values}
 use Rattle.frames.specs.declared.requests.Parameters.{Parameters}
-use Rattle.frames.proofs.Steps.{as-optional}
+use Rattle.frames.proofs.Joined.{via}
+use Rattle.frames.proofs.Parts.{top, low, then, last, mapped, duration-amount, aim-amount}
 
--- COMMANDS
-module _ (s : List ℕ) (w : Walk) (c : ℕ) where
-  module _ (v : Values) (r : ValuesRead s w true v) (e : c ≡ 1) where
-    pub limit-is : v .ok ≡ true → CommandReads s w c (Parameters.Are (Command.SetLimit (v .values)))
-    unfolding CommandReads ValuesRead commandIn
-    limit-is y ps on = rw (eq-eqb c 1 e, r ps on .1 y .0) refl
+module _ (ws : List ℕ) where
+  -- THE ENVELOPE
+  module _ (a b c d e : Sight) (ae : a ≡ sightIn ws 1) (be : b ≡ sightIn ws 2) (ce : c ≡ sightIn ws 3) (de : d ≡ sightIn ws 4) (ee : e ≡ sightIn ws 5)
+      (p q r s t : Bool) (pr : UintReads a true most32 p) (qr : UintReads b true 255 q)
+      (rr : UintReads c true 65535 r) (sr : UintReads d true 65535 s) (tr : MapReads e t) where
+    pub envelope-reads : (ok : Bool) → ok ≡ (p && (q && (r && (s && t)))) → EnvelopeReads ws ok
+    unfolding EnvelopeReads envelopeIn UintReads Reads MapReads
+    envelope-reads ok y ps qs h =
+        rw (y, ← ae, ← be, ← ce, ← de)
+        (then (a .arg) _ _ p _ (pr _ (ae ∙ top ws ps qs h 1 (omega arith)))
+        (then (b .arg) _ _ q _ (qr _ (be ∙ top ws ps qs h 2 (omega arith)))
+        (then (c .arg) _ _ r _ (rr _ (ce ∙ top ws ps qs h 3 (omega arith)))
+        (then (d .arg) _ _ s _ (sr _ (de ∙ top ws ps qs h 4 (omega arith)))
+        (last (pairsIn (valueOf ps 5)) _ t (tr _ (ee ∙ top ws ps qs h 5 (omega arith))))))))
 
-    pub limit-wrong : v .ok ≡ false → CommandReads s w c Parameters.Wrong
-    unfolding CommandReads ValuesRead commandIn
-    limit-wrong y ps on = rw (eq-eqb c 1 e, r ps on .0 y) refl
+  -- PARAMETERS
+  module _ (null : Bool) (k l m n : Sight) (ke : k ≡ sightIn ws 7) (le : l ≡ sightIn ws 8) (me : m ≡ sightIn ws 9) (ne : n ≡ sightIn ws 10)
+      (c p : Value) (d e : Bool) (cr : Reads k (valueIn null) (c .ok) (c .field)) (pr : Reads l (valueIn null) (p .ok) (p .field))
+      (dr : UintReads m false most32 d) (er : UintReads n true 255 e) where
+    pub values-read : (ok : Bool) → ok ≡ (c .ok && (p .ok && (d && e))) → (a : Amount) → a ≡ amountOf m → (x : ℕ) → x ≡ durationOf a
+        → Inside ws (limitsIn null) ok (record { consumption = c .field; production = p .field; duration = x; cause = n .arg })
+    unfolding Inside limitsIn UintReads Reads
+    values-read ok y a ae x xe ps qs h =
+        rw (y, xe, ae)
+        (then (c .field) _ _ (c .ok) _ (cr _ (ke ∙ low ws ps qs h 1 (omega arith)))
+        (then (p .field) _ _ (p .ok) _ (pr _ (le ∙ low ws ps qs h 2 (omega arith)))
+        (then (durationOf (amountOf m)) _ _ d _ (duration-amount (valueOf qs 3) ∙ mapped (amountOf m) durationOf d (dr _ (me ∙ low ws ps qs h 3 (omega arith))))
+        (last (n .arg) _ e (er _ (ne ∙ low ws ps qs h 4 (omega arith)))))))
 
-  module _ (v : Values) (r : ValuesRead s w false v) (e : c ≡ 3) where
-    pub setpoint-is : v .ok ≡ true → (l : Setpoints) → l ≡ setpointsOf (v .values) → CommandReads s w c (Parameters.Are (Command.SetSetpoint l))
-    unfolding CommandReads ValuesRead commandIn
-    setpoint-is y l le ps on = rw (ne-eqb c 1 (λ z. omega arith), ne-eqb c 2 (λ z. omega arith), eq-eqb c 3 e, r ps on .1 y .0, le) refl
+  -- COMMANDS
+  module _ (c : ℕ) where
+    module _ (v : Values) (r : Inside ws (limitsIn true) (v .ok) (v .values)) (e : c ≡ 1) where
+      pub limit-is : v .ok ≡ true → CommandReads ws c (Parameters.Are (Command.SetLimit (v .values)))
+      unfolding CommandReads Inside commandIn
+      limit-is y ps qs h = rw (eq-eqb c 1 e, r ps qs h, y) refl
 
-    pub setpoint-wrong : v .ok ≡ false → CommandReads s w c Parameters.Wrong
-    unfolding CommandReads ValuesRead commandIn
-    setpoint-wrong y ps on = rw (ne-eqb c 1 (λ z. omega arith), ne-eqb c 2 (λ z. omega arith), eq-eqb c 3 e, r ps on .0 y) refl
+      pub limit-wrong : v .ok ≡ false → CommandReads ws c Parameters.Wrong
+      unfolding CommandReads Inside commandIn
+      limit-wrong y ps qs h = rw (eq-eqb c 1 e, r ps qs h, y) refl
 
-  by-two : (b : Bool) (o : Option Aim) → parametersFrom (Option·map (cond b Command.ClearLimit Command.ClearSetpoint) o) ≡ parametersFrom (cond b (Option·map Command.ClearLimit o) (Option·map Command.ClearSetpoint o))
-  by-two true o = refl
-  by-two false o = refl
+    module _ (v : Values) (r : Inside ws (limitsIn false) (v .ok) (v .values)) (e : c ≡ 3) where
+      pub setpoint-is : v .ok ≡ true → (l : Setpoints) → l ≡ setpointsOf (v .values) → CommandReads ws c (Parameters.Are (Command.SetSetpoint l))
+      unfolding CommandReads Inside commandIn
+      setpoint-is y l le ps qs h = rw (ne-eqb c 1 (λ z. omega arith), ne-eqb c 2 (λ z. omega arith), eq-eqb c 3 e, r ps qs h, y, le) refl
 
-  pub clear-is : (r : Parameters) → ClearReads s w c r → (c ≡ 1 → ⊥) → (c ≡ 3 → ⊥) → CommandReads s w c r
-  unfolding CommandReads ClearReads commandIn
-  clear-is r h a b ps on = h ps on ∙ rw (ne-eqb c 1 a, ne-eqb c 3 b) (by-two (eqb c 2) (aimIn (valueOf ps 1)))
+      pub setpoint-wrong : v .ok ≡ false → CommandReads ws c Parameters.Wrong
+      unfolding CommandReads Inside commandIn
+      setpoint-wrong y ps qs h = rw (ne-eqb c 1 (λ z. omega arith), ne-eqb c 2 (λ z. omega arith), eq-eqb c 3 e, r ps qs h, y) refl
 
-  module _ (d : Uint) (r : UintReads s w 1 false 1 d) where
-    pub clear-wrong : d .ok ≡ false → ClearReads s w c Parameters.Wrong
-    unfolding ClearReads UintReads aimIn
-    clear-wrong y ps on =
-        rw (as-optional (upTo 1) Aim.Both Aim.One _ (d .ok) (d .there) (d .value) (r ps 0 on (omega arith)) .0 y) refl
+    by-two : (b : Bool) (o : Option Aim) → parametersFrom (Option·map (cond b Command.ClearLimit Command.ClearSetpoint) o) ≡ parametersFrom (cond b (Option·map Command.ClearLimit o) (Option·map Command.ClearSetpoint o))
+    by-two true o = refl
+    by-two false o = refl
 
-    module _ (y : d .ok ≡ true) (a : Aim) (e : a ≡ cond (d .there) (Aim.One (d .value)) Aim.Both) where
-      pub clear-limit : c ≡ 2 → ClearReads s w c (Parameters.Are (Command.ClearLimit a))
-      unfolding ClearReads UintReads aimIn
-      clear-limit z ps on =
-          rw (eq-eqb c 2 z, as-optional (upTo 1) Aim.Both Aim.One _ (d .ok) (d .there) (d .value) (r ps 0 on (omega arith)) .1 y .0, e) refl
+    pub clear-is : (r : Parameters) → ClearReads ws c r → (c ≡ 1 → ⊥) → (c ≡ 3 → ⊥) → CommandReads ws c r
+    unfolding CommandReads ClearReads commandIn
+    clear-is r h a b ps qs s = h ps qs s ∙ rw (ne-eqb c 1 a, ne-eqb c 3 b) (by-two (eqb c 2) (aimIn (valueOf qs 1)))
 
-      pub clear-setpoint : (c ≡ 2 → ⊥) → ClearReads s w c (Parameters.Are (Command.ClearSetpoint a))
-      unfolding ClearReads UintReads aimIn
-      clear-setpoint z ps on =
-          rw (ne-eqb c 2 z, as-optional (upTo 1) Aim.Both Aim.One _ (d .ok) (d .there) (d .value) (r ps 0 on (omega arith)) .1 y .0, e) refl
+    module _ (k : Sight) (ke : k ≡ sightIn ws 7) (t : Bool) (r : UintReads k false 1 t) where
+      aim-read : (ps qs : Pairs) → Shown ws ps qs → aimIn (valueOf qs 1) ≡ cond t (some (aimOf (amountOf k))) none
+      unfolding UintReads Reads
+      aim-read ps qs h = aim-amount (valueOf qs 1) ∙ mapped (amountOf k) aimOf t (r _ (ke ∙ low ws ps qs h 1 (omega arith)))
+
+      pub clear-wrong : t ≡ false → ClearReads ws c Parameters.Wrong
+      unfolding ClearReads
+      clear-wrong y ps qs h = rw (aim-read ps qs h, y) refl
+
+      module _ (y : t ≡ true) (a : Amount) (ae : a ≡ amountOf k) (x : Aim) (xe : x ≡ aimOf a) where
+        pub clear-limit : c ≡ 2 → ClearReads ws c (Parameters.Are (Command.ClearLimit x))
+        unfolding ClearReads
+        clear-limit z ps qs h = rw (aim-read ps qs h, y, eq-eqb c 2 z, xe, ae) refl
+
+        pub clear-setpoint : (c ≡ 2 → ⊥) → ClearReads ws c (Parameters.Are (Command.ClearSetpoint x))
+        unfolding ClearReads
+        clear-setpoint z ps qs h = rw (aim-read ps qs h, y, ne-eqb c 2 z, xe, ae) refl
 
 -- MESSAGES
 are-some : (o : Option Command) (c : Command) → Parameters.Are c ≡ parametersFrom o → o ≡ some c
@@ -79,28 +110,25 @@ wrong-none : (o : Option Command) → Parameters.Wrong ≡ parametersFrom o → 
 wrong-none (some d) e = absurd (let z : _≡_ {A = ℕ} 0 1 = cc in omega arith)
 wrong-none none e = refl
 
-module _ (s : List ℕ) (w : Walk) (e : Envelope) (r : EnvelopeReads s w e) where
-  pub envelope-wrong : e .ok ≡ false → MessageReads s w (Reading.Refused 3)
+module _ (ws : List ℕ) (ok : Bool) (r : EnvelopeReads ws ok) where
+  pub envelope-wrong : ok ≡ false → MessageReads ws (Reading.Refused 3)
   unfolding MessageReads EnvelopeReads fromEnvelope
-  envelope-wrong y ps on = rw (r ps on .0 y) refl
+  envelope-wrong y ps h = rw (r ps _ h, y) refl
 
-  module _ (y : e .ok ≡ true) (t : Bool) (te : t ≡ (servedAt (e .endpoint) (e .feature) && servedCommand (e .command))) where
-    pub unserved : t ≡ false → MessageReads s w (Reading.Unserved (e .id))
+  module _ (y : ok ≡ true) (a b c d : Sight) (ae : a ≡ sightIn ws 1) (be : b ≡ sightIn ws 2) (ce : c ≡ sightIn ws 3) (de : d ≡ sightIn ws 4)
+      (t : Bool) (te : t ≡ (servedAt (b .arg) (c .arg) && servedCommand (d .arg))) where
+    pub unserved : t ≡ false → MessageReads ws (Reading.Unserved (a .arg))
     unfolding MessageReads EnvelopeReads fromEnvelope
-    unserved z ps on = rw (r ps on .1 y .1, sym te ∙ z) refl
+    unserved z ps h = rw (r ps _ h, y, ← ae, ← be, ← ce, ← de, via te z) refl
 
-    module _ (z : t ≡ true) (p : Parameters) (pr : CommandReads s (e .parameters) (e .command) p) where
-      pub message-is : (c : Command) → p ≡ Parameters.Are c → MessageReads s w (Reading.Is (record { id = e .id; endpoint = e .endpoint; feature = e .feature; command = c }))
+    module _ (z : t ≡ true) (p : Parameters) (pr : CommandReads ws (d .arg) p) where
+      pub message-is : (x : Command) → p ≡ Parameters.Are x → MessageReads ws (Reading.Is (record { id = a .arg; endpoint = b .arg; feature = c .arg; command = x }))
       unfolding MessageReads EnvelopeReads CommandReads fromEnvelope
-      message-is c q ps on =
-          let x = r ps on .1 y in
-          rw (x .1, sym te ∙ z, are-some (commandIn (e .command) (x .0)) c (sym q ∙ pr (x .0) (x .2))) refl
+      message-is x q ps h = rw (r ps _ h, y, ← ae, ← be, ← ce, ← de, via te z, are-some (commandIn (d .arg) (pairsIn (valueOf ps 5))) x (sym q ∙ pr ps _ h)) refl
 
-      pub message-wrong : p ≡ Parameters.Wrong → MessageReads s w (Reading.Refused 3)
+      pub message-wrong : p ≡ Parameters.Wrong → MessageReads ws (Reading.Refused 3)
       unfolding MessageReads EnvelopeReads CommandReads fromEnvelope
-      message-wrong q ps on =
-          let x = r ps on .1 y in
-          rw (x .1, sym te ∙ z, wrong-none (commandIn (e .command) (x .0)) (sym q ∙ pr (x .0) (x .2))) refl
+      message-wrong q ps h = rw (r ps _ h, y, ← ae, ← be, ← ce, ← de, via te z, wrong-none (commandIn (d .arg) (pairsIn (valueOf ps 5))) (sym q ∙ pr ps _ h)) refl
 
 -- FRAMES
 pub is-some : {X : Type 0} (o : Option X) → isSome o ≡ true → (x : X) × (o ≡ some x)
@@ -116,29 +144,36 @@ pub read-map-of : (frame : List ℕ) (i : Item) (m : Pairs) → framed frame ≡
 unfolding readRequest fromPayload bind
 read-map-of frame i m a b c = rw (a, b, c) refl
 
+-- what is no map has no small key
+no-map : (i : Item) → fromEnvelope (envelopeIn (pairsIn (some i))) ≡ fromEnvelope (bind (mapIn i) envelopeIn)
+unfolding mapIn bind envelopeIn needed fromEnvelope valueOf
+no-map (Item.uint v) = refl
+no-map (Item.nint v) = refl
+no-map (Item.bytes b) = refl
+no-map (Item.text b) = refl
+no-map (Item.array is) = refl
+no-map (Item.map m) = refl
+no-map (Item.simple v) = refl
+
+module _ (p : List ℕ) (t : Bool) (te : t ≡ isSome (payloadOf p)) where
+  pub not-item : t ≡ false → Reading.Refused 2 ≡ fromPayload (payloadOf p)
+  unfolding fromPayload
+  not-item z = rw (is-none (payloadOf p) (via te z)) refl
+
+  -- the payload is one item, of which the sights are seen
+  module _ (ws : List ℕ) (e : ws ≡ wordsOf (sightsOf 5 (payloadOf p))) (r : Reading) (h : MessageReads ws r) where
+    seen : (i : Item) → payloadOf p ≡ some i → r ≡ fromPayload (payloadOf p)
+    unfolding fromPayload MessageReads Shown sightsOf
+    seen i x = h (pairsIn (some i)) (e ∙ ap (λ (o : Option Item). wordsOf (sightsOf 5 o)) x) ∙ no-map i ∙ rw x refl
+
+    pub is-item : t ≡ true → r ≡ fromPayload (payloadOf p)
+    is-item z = let x = is-some (payloadOf p) (via te z) in seen (x .0) (x .1)
+
 module _ (frame : List ℕ) (b : Bool) (be : b ≡ framed frame) where
   pub not-framed : b ≡ false → Reading.Refused 1 ≡ readRequest frame
   unfolding readRequest
-  not-framed y = rw (sym be ∙ y) refl
+  not-framed y = rw (via be y) refl
 
-  module _ (y : b ≡ true) (p : List ℕ) (pe : p ≡ payloadIn frame) (t : Bool) (te : t ≡ isSome (payloadOf p)) where
-    tested : t ≡ isSome (payloadOf (payloadIn frame))
-    tested = te ∙ ap (λ (q : List ℕ). isSome (payloadOf q)) pe
-
-    pub not-item : t ≡ false → Reading.Refused 2 ≡ readRequest frame
-    unfolding readRequest fromPayload
-    not-item z = rw (sym be ∙ y, is-none (payloadOf (payloadIn frame)) (sym tested ∙ z)) refl
-
-    module _ (z : t ≡ true) (root : Inner) (rr : RootReads p root) where
-      pub root-not-map : root .ok ≡ false → Reading.Refused 3 ≡ readRequest frame
-      unfolding readRequest fromPayload RootReads fromEnvelope bind
-      root-not-map q =
-          let x = is-some (payloadOf (payloadIn frame)) (sym tested ∙ z) in
-          rw (sym be ∙ y, x .1, rr (x .0) (ap payloadOf pe ∙ x .1) .0 q) refl
-
-      pub root-is-map : root .ok ≡ true → (r : Reading) → MessageReads p (root .next) r → r ≡ readRequest frame
-      unfolding RootReads MessageReads
-      root-is-map q r h =
-          let x = is-some (payloadOf (payloadIn frame)) (sym tested ∙ z) in
-          let m = rr (x .0) (ap payloadOf pe ∙ x .1) .1 q in
-          h (m .0) (m .2) ∙ sym (read-map-of frame (x .0) (m .0) (sym be ∙ y) (x .1) (m .1))
+  pub is-framed : b ≡ true → fromPayload (payloadOf (payloadIn frame)) ≡ readRequest frame
+  unfolding readRequest
+  is-framed y = rw (via be y) refl

@@ -1,4 +1,4 @@
--- Signed numbers as they are written: n, and -1 - n. Assumes nothing.
+-- Signed numbers as they are read and written: n, and -1 - n. Assumes nothing.
 use Prim.Native.Nat.{ℕ, suc, _-_, _<_, _^_}
 use mathlib.Core.Path.{_≡_, refl, sym, ap, subst, _∙_}
 use mathlib.Core.Bool.{true, false}
@@ -6,17 +6,26 @@ use native.Mathlib.Omega.{arith}
 use lib.Dec.{T}
 use lib.IntN.{ℤ, pos, negsuc, natAbs, _-ℤ_}
 use lib.Signed.{ltZ, nonNeg}
-use borrow.Author.Tests.{ltb-true, le-ltb}
+use borrow.Author.Tests.{ltb-true, lt-ltb, le-ltb}
 use mir.Val.{Fits, SFits, toZ, ofZ}
 use mir.ValLaws.{toZ-ofZ}
 use mir.Syntax.{w64}
 use Rattle.cbor.specs.Item.{Item}
+use Rattle.cbor.proofs.IntSteps.{minus-one-minus}
 use Rattle.frames.specs.Fields.{intItem}
 use Rattle.frames.proofs.Joined.{no-both}
 
 -- z as 64 bits, and back
 abbrev pub again : ℤ → ℤ
 again z = toZ w64 (ofZ w64 z)
+
+-- what 64 bits say is read
+module _ (n : ℕ) (h : n < 2 ^ 63) where
+  pub plain-read : toZ w64 n ≡ pos n
+  plain-read = rw (lt-ltb n (2 ^ 63) h)
+
+  pub minus-read : again (negsuc 0 -ℤ toZ w64 n) ≡ negsuc n
+  minus-read = rw (plain-read, ← minus-one-minus n) (toZ-ofZ w64 (negsuc n) (record { sfits = h }))
 
 minus-negative : (n : ℕ) → negsuc 0 -ℤ negsuc n ≡ pos n
 minus-negative n = rw (le-ltb (suc n) 1 (omega arith)) (ap pos (omega arith))

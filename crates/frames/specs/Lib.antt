@@ -4,5 +4,5 @@ pub mod Requests
 pub mod Responses
 pub mod Writing
 pub mod Puts
-pub mod Walks
+pub mod Sights
 pub mod RoundTrips

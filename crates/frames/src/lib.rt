@@ -9,10 +9,13 @@ mod write_requests; // write_requests.rt: requests, written
 mod write_responses; // write_responses.rt: responses, written
 
 pub use prefix::Written;
+pub use prefix::is_framed;
 pub use requests::Reading;
+pub use requests::read_payload;
 pub use requests::read_request;
 pub use responses::Answer;
 pub use responses::read_response;
 pub use write_requests::write_request;
+pub use write_responses::frame_response;
 pub use write_responses::write_response;
 pub use write_responses::write_status;

@@ -55,7 +55,8 @@ fn copy(out: &mut [u8], at: usize, from: &[u8], n: usize)
 // Writes the first n bytes of a payload behind their length, where all of it fits.
 pub fn send(out: &mut [u8], payload: &[u8], n: usize) -> Written
     requires { ⌜ (n ≤ length (now payload)) × (n < 2 ^ 32) ⌝ }
-    ensures { λ r. ⌜ (r ≡ writtenOf 0 (frameOf (take n (now (payload .entry)))) (length (now (out .entry)))) × (now (out .exit) ≡ leftBy 0 (frameOf (take n (now (payload .entry)))) (now (out .entry))) ⌝ }
+    ensures { λ r. ⌜ r ≡ writtenOf 0 (frameOf (take n (now (payload .entry)))) (length (now (out .entry))) ⌝ }
+    ensures { λ _. ⌜ now (out .exit) ≡ leftBy 0 (frameOf (take n (now (payload .entry)))) (now (out .entry)) ⌝ }
 {
     let all = n + 4;
     if out.len() < all {

@@ -1,14 +1,16 @@
-// Requests, read.
-use crate::fields::Walk;
-use crate::fields::read_map;
-use crate::fields::read_root;
-use crate::fields::read_signed;
-use crate::fields::read_uint;
+// Requests, read. Place k of the sights is key k of the payload, place 6 + k is key k of the parameters.
+use crate::fields::amount_of;
+use crate::fields::is_map;
+use crate::fields::is_uint;
+use crate::fields::read_value;
 use crate::prefix::is_framed;
 use crate::tests::all4;
 use crate::tests::all5;
 use crate::tests::both;
+use cbor::Sights;
+use cbor::sight_at;
 use messages::Aim;
+use messages::Amount;
 use messages::Command;
 use messages::Field;
 use messages::Limits;
@@ -16,26 +18,15 @@ use messages::Request;
 use messages::Setpoints;
 use messages::Target;
 ghost use mathlib.Core.Path.{_≡_};
-ghost use mathlib.Core.Bool.{cond};
-ghost use Rattle.messages.specs.declared.Aim.{Aim};
-ghost use Rattle.frames.specs.Requests.{readRequest, servedCommand, servedAt, targetOf, setpointsOf};
-ghost use Rattle.frames.specs.Walks.{EnvelopeReads, ValuesRead, CommandReads, ClearReads, MessageReads};
+ghost use Rattle.cbor.specs.Item.{payloadOf};
+ghost use Rattle.frames.specs.Requests.{fromPayload, readRequest, servedCommand, servedAt, limitsIn, targetOf, setpointsOf};
+ghost use Rattle.frames.specs.Sights.{durationOf, aimOf, Inside, EnvelopeReads, CommandReads, ClearReads, MessageReads};
 
 // A request; the message id of one that is not served; a refusal number.
 pub enum Reading {
     Is(Request),
     Unserved(u64),
     Refused(u64),
-}
-
-// The envelope, and the walk over its parameters; not `ok` is refusal 3.
-pub struct Envelope {
-    pub ok: bool,
-    pub id: u64,
-    pub endpoint: u64,
-    pub feature: u64,
-    pub command: u64,
-    pub parameters: Walk,
 }
 
 // The parameters of a Set command; not `ok` is refusal 3.
@@ -67,41 +58,40 @@ pub fn is_served(endpoint: u64, feature: u64) -> bool
     both(endpoint == messages::ENDPOINT, feature == messages::FEATURE)
 }
 
-fn read_envelope(s: &[u8], w: Walk) -> Envelope
-    ensures { λ r. ⌜ EnvelopeReads (now (s .entry)) w r ⌝ }
+// Whether the envelope is there: the parameters are a map, seen below.
+fn is_envelope(sights: &Sights) -> bool
+    ensures { λ r. ⌜ EnvelopeReads (now (sights .entry)) r ⌝ }
 {
-    let id = read_uint(s, w, 1, true, MOST32);
-    let endpoint = read_uint(s, id.next, 2, true, 255);
-    let feature = read_uint(s, endpoint.next, 3, true, 65535);
-    let command = read_uint(s, feature.next, 4, true, 65535);
-    let inner = read_map(s, command.next, 5);
-    let parameters = inner.next;
-    Envelope {
-        ok: all5(id.ok, endpoint.ok, feature.ok, command.ok, inner.ok),
-        id: id.value,
-        endpoint: endpoint.value,
-        feature: feature.value,
-        command: command.value,
-        parameters,
-    }
+    all5(
+        is_uint(sight_at(sights, 1), true, MOST32),
+        is_uint(sight_at(sights, 2), true, 255),
+        is_uint(sight_at(sights, 3), true, 65535),
+        is_uint(sight_at(sights, 4), true, 65535),
+        is_map(sight_at(sights, 5)),
+    )
 }
 
 // The parameters of SetLimit, and without null those of SetSetpoint.
-fn read_values(s: &[u8], w: Walk, null: bool) -> Values
-    ensures { λ r. ⌜ ValuesRead (now (s .entry)) w null r ⌝ }
+fn read_values(sights: &Sights, null: bool) -> Values
+    ensures { λ r. ⌜ Inside (now (sights .entry)) (limitsIn null) (r .ok) (r .values) ⌝ }
 {
-    let consumption = read_signed(s, w, 1, null);
-    let production = read_signed(s, consumption.next, 2, null);
-    let duration = read_uint(s, production.next, 3, false, MOST32);
-    let cause = read_uint(s, duration.next, 4, true, 255);
-    let ok = all4(consumption.ok, production.ok, duration.ok, cause.ok);
+    let consumption = read_value(sight_at(sights, 7), null);
+    let production = read_value(sight_at(sights, 8), null);
+    let duration = sight_at(sights, 9);
+    let cause = sight_at(sights, 10);
+    let ok = all4(
+        consumption.ok,
+        production.ok,
+        is_uint(duration, false, MOST32),
+        is_uint(cause, true, 255),
+    );
     let c = consumption.field;
     let p = production.field;
     let values = Limits {
         consumption: c,
         production: p,
-        duration: or_zero(duration.there, duration.value),
-        cause: cause.value,
+        duration: duration_of(amount_of(duration)),
+        cause: cause.arg,
     };
     Values { ok, values }
 }
@@ -130,28 +120,30 @@ fn setpoints_of(l: Limits) -> Setpoints
 }
 
 // An omitted duration is 0.
-fn or_zero(there: bool, duration: u64) -> u64
-    ensures { λ r. ⌜ r ≡ cond there duration 0 ⌝ }
+fn duration_of(a: Amount) -> u64
+    ensures { λ r. ⌜ r ≡ durationOf a ⌝ }
 {
-    if there { duration } else { 0 }
+    match a {
+        Amount::Absent => 0,
+        Amount::Is(d) => d,
+    }
 }
 
-fn aim_of(there: bool, direction: u64) -> Aim
-    ensures { λ r. ⌜ r ≡ cond there (Aim.One direction) Aim.Both ⌝ }
+fn aim_of(a: Amount) -> Aim
+    ensures { λ r. ⌜ r ≡ aimOf a ⌝ }
 {
-    if there {
-        Aim::One(direction)
-    } else {
-        Aim::Both
+    match a {
+        Amount::Absent => Aim::Both,
+        Amount::Is(d) => Aim::One(d),
     }
 }
 
 // The parameters of a served command.
-fn read_command(s: &[u8], w: Walk, command: u64) -> Parameters
-    ensures { λ r. ⌜ CommandReads (now (s .entry)) w command r ⌝ }
+fn read_command(sights: &Sights, command: u64) -> Parameters
+    ensures { λ r. ⌜ CommandReads (now (sights .entry)) command r ⌝ }
 {
     if command == 1 {
-        let v = read_values(s, w, true);
+        let v = read_values(sights, true);
         if v.ok {
             let l = v.values;
             return Parameters::Are(Command::SetLimit(l));
@@ -159,23 +151,23 @@ fn read_command(s: &[u8], w: Walk, command: u64) -> Parameters
         return Parameters::Wrong;
     }
     if command == 3 {
-        let v = read_values(s, w, false);
+        let v = read_values(sights, false);
         if v.ok {
             let l = v.values;
             return Parameters::Are(Command::SetSetpoint(setpoints_of(l)));
         }
         return Parameters::Wrong;
     }
-    read_clear(s, w, command)
+    read_clear(sights, command)
 }
 
 // The parameters of a clear.
-fn read_clear(s: &[u8], w: Walk, command: u64) -> Parameters
-    ensures { λ r. ⌜ ClearReads (now (s .entry)) w command r ⌝ }
+fn read_clear(sights: &Sights, command: u64) -> Parameters
+    ensures { λ r. ⌜ ClearReads (now (sights .entry)) command r ⌝ }
 {
-    let d = read_uint(s, w, 1, false, 1);
-    if d.ok {
-        let aim = aim_of(d.there, d.value);
+    let direction = sight_at(sights, 7);
+    if is_uint(direction, false, 1) {
+        let aim = aim_of(amount_of(direction));
         if command == 2 {
             return Parameters::Are(Command::ClearLimit(aim));
         }
@@ -184,27 +176,40 @@ fn read_clear(s: &[u8], w: Walk, command: u64) -> Parameters
     Parameters::Wrong
 }
 
-// What the map of a payload says, in the order envelope 3, 4, parameters 3.
-fn read_message(s: &[u8], w: Walk) -> Reading
-    ensures { λ r. ⌜ MessageReads (now (s .entry)) w r ⌝ }
+// What is seen in a payload, in the order envelope 3, 4, parameters 3.
+fn read_message(sights: &Sights) -> Reading
+    ensures { λ r. ⌜ MessageReads (now (sights .entry)) r ⌝ }
 {
-    let e = read_envelope(s, w);
-    if e.ok {
-        let parameters = e.parameters;
-        if both(is_served(e.endpoint, e.feature), is_command(e.command)) {
-            return match read_command(s, parameters, e.command) {
+    if is_envelope(sights) {
+        let id = sight_at(sights, 1);
+        let endpoint = sight_at(sights, 2);
+        let feature = sight_at(sights, 3);
+        let number = sight_at(sights, 4);
+        if both(is_served(endpoint.arg, feature.arg), is_command(number.arg)) {
+            return match read_command(sights, number.arg) {
                 Parameters::Are(command) => Reading::Is(Request {
-                    id: e.id,
-                    endpoint: e.endpoint,
-                    feature: e.feature,
+                    id: id.arg,
+                    endpoint: endpoint.arg,
+                    feature: feature.arg,
                     command,
                 }),
                 Parameters::Wrong => Reading::Refused(3),
             };
         }
-        return Reading::Unserved(e.id);
+        return Reading::Unserved(id.arg);
     }
     Reading::Refused(3)
+}
+
+// The request that a payload holds.
+pub fn read_payload(payload: &[u8]) -> Reading
+    ensures { λ r. ⌜ r ≡ fromPayload (payloadOf (now (payload .entry))) ⌝ }
+{
+    let mut sights = [0u64; cbor::WORDS];
+    if cbor::scan(payload, 5, &mut sights) {
+        return read_message(&sights);
+    }
+    Reading::Refused(2)
 }
 
 // The request that a frame holds.
@@ -212,15 +217,7 @@ pub fn read_request(frame: &[u8]) -> Reading
     ensures { λ r. ⌜ r ≡ readRequest (now (frame .entry)) ⌝ }
 {
     if is_framed(frame) {
-        let payload = &frame[4..];
-        if cbor::is_item(payload) {
-            let root = read_root(payload);
-            if root.ok {
-                return read_message(payload, root.next);
-            }
-            return Reading::Refused(3);
-        }
-        return Reading::Refused(2);
+        return read_payload(&frame[4..]);
     }
     Reading::Refused(1)
 }

@@ -1,10 +1,10 @@
-// Responses, read.
-use crate::fields::Walk;
-use crate::fields::look;
-use crate::fields::read_map;
-use crate::fields::read_root;
-use crate::fields::read_truth;
-use crate::fields::read_uint;
+// Responses, read. Place k of the sights is key k of the payload, place 6 + k is key k of the result.
+use crate::fields::amount_of;
+use crate::fields::is_absent;
+use crate::fields::is_map;
+use crate::fields::is_success;
+use crate::fields::is_truth;
+use crate::fields::is_uint;
 use crate::prefix::is_framed;
 use crate::requests::MOST32;
 use crate::requests::is_command;
@@ -12,16 +12,15 @@ use crate::tests::all3;
 use crate::tests::all5;
 use crate::tests::both;
 use crate::tests::either;
-use messages::Amount;
+use cbor::Sights;
+use cbor::sight_at;
 use messages::LimitResult;
 use messages::Outcome;
 use messages::Response;
 use messages::SetpointResult;
 ghost use mathlib.Core.Path.{_≡_};
-ghost use mathlib.Core.Bool.{cond};
-ghost use Rattle.messages.specs.declared.Amount.{Amount};
-ghost use Rattle.frames.specs.Responses.{isStatus, stands, answerFrom, readResponse};
-ghost use Rattle.frames.specs.Walks.{EffectReads, TargetsRead, OutcomeReads, ResultReads, BodyReads};
+ghost use Rattle.frames.specs.Responses.{isStatus, stands, limitResultIn, setpointResultIn, answerFrom, readResponse};
+ghost use Rattle.frames.specs.Sights.{Inside, OutcomeReads, ResultReads, BodyReads};
 
 // A response, or a refusal number.
 pub enum Answer {
@@ -67,64 +66,54 @@ pub fn has_result(command: u64, status: u64) -> bool
     either(status == 0, all3(command == 1, 11 <= status, status <= 14))
 }
 
-fn amount_of(there: bool, value: u64) -> Amount
-    ensures { λ r. ⌜ r ≡ cond there (Amount.Is value) Amount.Absent ⌝ }
+fn read_effect(sights: &Sights) -> Effect
+    ensures { λ r. ⌜ Inside (now (sights .entry)) limitResultIn (r .ok) (r .result) ⌝ }
 {
-    if there {
-        Amount::Is(value)
-    } else {
-        Amount::Absent
-    }
-}
-
-fn read_effect(s: &[u8], w: Walk) -> Effect
-    ensures { λ r. ⌜ EffectReads (now (s .entry)) w r ⌝ }
-{
-    let applied = read_truth(s, w, 1);
-    let state = read_uint(s, applied.next, 2, true, 4);
-    let consumption = read_uint(s, state.next, 3, false, MOST_VALUE);
-    let production = read_uint(s, consumption.next, 4, false, MOST_VALUE);
-    let reason = read_uint(s, production.next, 5, false, 4);
+    let applied = sight_at(sights, 7);
+    let state = sight_at(sights, 8);
+    let consumption = sight_at(sights, 9);
+    let production = sight_at(sights, 10);
+    let reason = sight_at(sights, 11);
     let ok = all5(
-        applied.ok,
-        state.ok,
-        consumption.ok,
-        production.ok,
-        reason.ok,
+        is_truth(applied),
+        is_uint(state, true, 4),
+        is_uint(consumption, false, MOST_VALUE),
+        is_uint(production, false, MOST_VALUE),
+        is_uint(reason, false, 4),
     );
     let result = LimitResult {
-        applied: applied.value,
-        state: state.value,
-        consumption: amount_of(consumption.there, consumption.value),
-        production: amount_of(production.there, production.value),
-        reason: amount_of(reason.there, reason.value),
+        applied: applied.arg == 21,
+        state: state.arg,
+        consumption: amount_of(consumption),
+        production: amount_of(production),
+        reason: amount_of(reason),
     };
     Effect { ok, result }
 }
 
-fn read_targets(s: &[u8], w: Walk) -> Targets
-    ensures { λ r. ⌜ TargetsRead (now (s .entry)) w r ⌝ }
+fn read_targets(sights: &Sights) -> Targets
+    ensures { λ r. ⌜ Inside (now (sights .entry)) setpointResultIn (r .ok) (r .result) ⌝ }
 {
-    let success = read_truth(s, w, 1);
-    let consumption = read_uint(s, success.next, 2, false, MOST_VALUE);
-    let production = read_uint(s, consumption.next, 3, false, MOST_VALUE);
-    let ok = both(
-        both(success.ok, success.value),
-        both(consumption.ok, production.ok),
+    let consumption = sight_at(sights, 8);
+    let production = sight_at(sights, 9);
+    let ok = all3(
+        is_success(sight_at(sights, 7)),
+        is_uint(consumption, false, MOST_VALUE),
+        is_uint(production, false, MOST_VALUE),
     );
     let result = SetpointResult {
-        consumption: amount_of(consumption.there, consumption.value),
-        production: amount_of(production.there, production.value),
+        consumption: amount_of(consumption),
+        production: amount_of(production),
     };
     Targets { ok, result }
 }
 
 // The result of a served command.
-fn read_outcome(s: &[u8], w: Walk, command: u64) -> Result
-    ensures { λ r. ⌜ OutcomeReads (now (s .entry)) w command r ⌝ }
+fn read_outcome(sights: &Sights, command: u64) -> Result
+    ensures { λ r. ⌜ OutcomeReads (now (sights .entry)) command r ⌝ }
 {
     if command == 1 {
-        let e = read_effect(s, w);
+        let e = read_effect(sights);
         if e.ok {
             let result = e.result;
             return Result::Is(Outcome::Limit(result));
@@ -132,49 +121,51 @@ fn read_outcome(s: &[u8], w: Walk, command: u64) -> Result
         return Result::Wrong;
     }
     if command == 3 {
-        let t = read_targets(s, w);
+        let t = read_targets(sights);
         if t.ok {
             let result = t.result;
             return Result::Is(Outcome::Setpoint(result));
         }
         return Result::Wrong;
     }
-    let success = read_truth(s, w, 1);
-    if both(success.ok, success.value) {
+    if is_success(sight_at(sights, 7)) {
         return Result::Is(Outcome::Success);
     }
     Result::Wrong
 }
 
 // The result that stands at a status, or its absence.
-fn read_result(s: &[u8], w: Walk, command: u64, status: u64) -> Result
-    ensures { λ r. ⌜ ResultReads (now (s .entry)) w command status r ⌝ }
+fn read_result(sights: &Sights, command: u64, status: u64) -> Result
+    ensures { λ r. ⌜ ResultReads (now (sights .entry)) command status r ⌝ }
 {
+    let result = sight_at(sights, 3);
     if has_result(command, status) {
-        let inner = read_map(s, w, 3);
-        if inner.ok {
-            return read_outcome(s, inner.next, command);
+        if is_map(result) {
+            return read_outcome(sights, command);
         }
         return Result::Wrong;
     }
-    let f = look(s, w, 3);
-    if f.there {
-        return Result::Wrong;
+    if is_absent(result) {
+        return Result::Is(Outcome::Nothing);
     }
-    Result::Is(Outcome::Nothing)
+    Result::Wrong
 }
 
-// What the map of a payload says.
-fn read_body(s: &[u8], w: Walk, command: u64) -> Answer
-    ensures { λ r. ⌜ BodyReads (now (s .entry)) w command r ⌝ }
+// What is seen in a payload.
+fn read_body(sights: &Sights, command: u64) -> Answer
+    ensures { λ r. ⌜ BodyReads (now (sights .entry)) command r ⌝ }
 {
-    let id = read_uint(s, w, 1, true, MOST32);
-    let status = read_uint(s, id.next, 2, true, 14);
-    if all3(id.ok, status.ok, is_status(status.value)) {
-        return match read_result(s, status.next, command, status.value) {
+    let id = sight_at(sights, 1);
+    let status = sight_at(sights, 2);
+    if all3(
+        is_uint(id, true, MOST32),
+        is_uint(status, true, 14),
+        is_status(status.arg),
+    ) {
+        return match read_result(sights, command, status.arg) {
             Result::Is(outcome) => Answer::Is(Response {
-                id: id.value,
-                status: status.value,
+                id: id.arg,
+                status: status.arg,
                 outcome,
             }),
             Result::Wrong => Answer::Refused(3),
@@ -199,12 +190,9 @@ fn read_answer(command: u64, frame: &[u8]) -> Answer
 {
     if is_framed(frame) {
         let payload = &frame[4..];
-        if cbor::is_item(payload) {
-            let root = read_root(payload);
-            if root.ok {
-                return read_body(payload, root.next, command);
-            }
-            return Answer::Refused(3);
+        let mut sights = [0u64; cbor::WORDS];
+        if cbor::scan(payload, 3, &mut sights) {
+            return read_body(&sights, command);
         }
         return Answer::Refused(2);
     }

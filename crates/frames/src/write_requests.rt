@@ -199,7 +199,8 @@ fn request_number(r: Request) -> u64
 
 // Writes a request's frame to the front of `out`.
 pub fn write_request(out: &mut [u8], r: Request) -> Written
-    ensures { λ w. ⌜ (w ≡ writtenOf (requestNumber r) (itemFrame (requestItem r)) (length (now (out .entry)))) × (now (out .exit) ≡ leftBy (requestNumber r) (itemFrame (requestItem r)) (now (out .entry))) ⌝ }
+    ensures { λ w. ⌜ w ≡ writtenOf (requestNumber r) (itemFrame (requestItem r)) (length (now (out .entry))) ⌝ }
+    ensures { λ _. ⌜ now (out .exit) ≡ leftBy (requestNumber r) (itemFrame (requestItem r)) (now (out .entry)) ⌝ }
 {
     let number = request_number(r);
     if number != 0 {

@@ -199,9 +199,10 @@ fn status_number(id: u64, status: u64) -> u64
     3
 }
 
-// Writes a frame that holds a response which was tested.
-fn send_response(out: &mut [u8], r: Response) -> Written
-    ensures { λ w. ⌜ (w ≡ writtenOf 0 (itemFrame (responseItem r)) (length (now (out .entry)))) × (now (out .exit) ≡ leftBy 0 (itemFrame (responseItem r)) (now (out .entry))) ⌝ }
+// Writes a frame that holds a response, whatever its numbers.
+pub fn frame_response(out: &mut [u8], r: Response) -> Written
+    ensures { λ w. ⌜ w ≡ writtenOf 0 (itemFrame (responseItem r)) (length (now (out .entry))) ⌝ }
+    ensures { λ _. ⌜ now (out .exit) ≡ leftBy 0 (itemFrame (responseItem r)) (now (out .entry)) ⌝ }
 {
     let mut payload = [0u8; ROOM];
     let n = put_response(&mut payload, r);
@@ -210,24 +211,26 @@ fn send_response(out: &mut [u8], r: Response) -> Written
 
 // Writes a response to a command that the caller names, to the front of `out`.
 pub fn write_response(out: &mut [u8], command: u64, r: Response) -> Written
-    ensures { λ w. ⌜ (w ≡ writtenOf (responseNumber command r) (itemFrame (responseItem r)) (length (now (out .entry)))) × (now (out .exit) ≡ leftBy (responseNumber command r) (itemFrame (responseItem r)) (now (out .entry))) ⌝ }
+    ensures { λ w. ⌜ w ≡ writtenOf (responseNumber command r) (itemFrame (responseItem r)) (length (now (out .entry))) ⌝ }
+    ensures { λ _. ⌜ now (out .exit) ≡ leftBy (responseNumber command r) (itemFrame (responseItem r)) (now (out .entry)) ⌝ }
 {
     let number = response_number(command, r);
     if number != 0 {
         return refused(number);
     }
-    send_response(out, r)
+    frame_response(out, r)
 }
 
 // Writes an answer with a status and no result, which names no command.
 pub fn write_status(out: &mut [u8], id: u64, status: u64) -> Written
-    ensures { λ w. ⌜ (w ≡ writtenOf (statusNumber id status) (itemFrame (responseItem (statusAlone id status))) (length (now (out .entry)))) × (now (out .exit) ≡ leftBy (statusNumber id status) (itemFrame (responseItem (statusAlone id status))) (now (out .entry))) ⌝ }
+    ensures { λ w. ⌜ w ≡ writtenOf (statusNumber id status) (itemFrame (responseItem (statusAlone id status))) (length (now (out .entry))) ⌝ }
+    ensures { λ _. ⌜ now (out .exit) ≡ leftBy (statusNumber id status) (itemFrame (responseItem (statusAlone id status))) (now (out .entry)) ⌝ }
 {
     let number = status_number(id, status);
     if number != 0 {
         return refused(number);
     }
-    send_response(
+    frame_response(
         out,
         Response {
             id,

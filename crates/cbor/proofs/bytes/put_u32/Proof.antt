@@ -16,5 +16,5 @@ put-u32-spec =
     (λ c κs. omega (arith, leb-true, sym (c .before .before .has-room .ensures) ∙ c .before .if1 .taken))
     (λ c. omega (arith, leb-true, sym (c .before .before .before .before .before .has-room .ensures) ∙ c .before .before .before .before .if1 .taken))
     (λ c. search needs)
-    (λ c. stored (c .before .before .before .before .before .before .before .args .out .now) (bytesOf 4 (c .before .before .before .before .before .before .before .args .v)) (c .before .before .before .before .before .before .before .args .at) 4 (sym (bytes-length 4 (c .before .before .before .before .before .before .before .args .v))) _ (c .before .before .before .before .before .has-room .ensures) _ (c .before .before .before .before .if1 .taken) (c .before .before .put-number .ensures))
+    (λ c. stored (c .before .before .before .before .before .before .before .args .out .now) (bytesOf 4 (c .before .before .before .before .before .before .before .args .v)) (c .before .before .before .before .before .before .before .args .at) 4 (sym (bytes-length 4 (c .before .before .before .before .before .before .before .args .v))) _ (c .before .before .before .before .before .has-room .ensures) _ (c .before .before .before .before .if1 .taken) (c .before .before .put32 .ensures))
     (λ c. not-stored (c .before .before .before .args .out .now) (bytesOf 4 (c .before .before .before .args .v)) (c .before .before .before .args .at) 4 (sym (bytes-length 4 (c .before .before .before .args .v))) _ (c .before .has-room .ensures) (c .if1 .left)))

@@ -1,3 +1,4 @@
+use Rattle.frames.proofs.BySight.{truth-reads}
 use borrow.Author.Needs.{needs}
 use Rattle.frames.proofs.fields.is_truth.Statement.{statement}
 use Rattle.frames.proofs.fields.is_truth.Tie as tie
@@ -6,4 +7,5 @@ pub is-truth-spec : {M : Type 1} → statement M
 is-truth-spec =
     tie.close
     (tie.spec
-    (λ c κs. search needs) (λ c κs. search needs) (λ c. rw (c .both .ensures, c .before .either .ensures)))
+    (λ c κs. search needs) (λ c κs. search needs)
+    (λ c. truth-reads _ _ (rw (c .both .ensures, c .before .either .ensures))))

@@ -6,4 +6,5 @@ pub aim-of-spec : {M : Type 1} → statement M
 aim-of-spec =
     tie.close
     (tie.spec
-    (λ c. rw (c .if1 .taken)) (λ c. search needs))
+    (λ c. search needs) (λ c. search needs) (λ c. search needs)
+    (λ c. rw (c .before .a .given .1)))

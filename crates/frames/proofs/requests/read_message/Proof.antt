@@ -1,7 +1,7 @@
-use borrow.Author.Needs.{needs}
 use mathlib.Core.Path.{_∙_}
 use Rattle.frames.proofs.Joined.{and-same}
 use Rattle.frames.proofs.Requested.{envelope-wrong, unserved, message-is, message-wrong}
+use borrow.Author.Needs.{needs}
 use Rattle.frames.proofs.requests.read_message.Statement.{statement}
 use Rattle.frames.proofs.requests.read_message.Tie as tie
 
@@ -9,9 +9,10 @@ pub read-message-spec : {M : Type 1} → statement M
 read-message-spec =
     tie.close
     (tie.spec
-    (λ c κs. search needs) (λ c κs. search needs) (λ c κs. search needs) (λ c κs. search needs)
-    (λ c κs. search needs) (λ c. search needs) (λ c. search needs)
-    (λ c. message-is (c .before .before .before .before .before .before .before .before .before .before .before .before .args .s .now) (c .before .before .before .before .before .before .before .before .before .before .before .before .args .w) _ (c .before .before .before .before .before .before .before .before .before .before .read-envelope .ensures) (c .before .before .before .before .before .before .before .before .before .if1 .taken) _ (c .before .before .before .before .before .both .ensures ∙ and-same (c .before .before .before .before .before .before .before .is-served .ensures) (c .before .before .before .before .before .before .is-command .ensures)) (c .before .before .before .before .if2 .taken) _ (c .before .before .before .read-command .ensures) _ (c .before .command .given .1))
-    (λ c. message-wrong (c .before .before .before .before .before .before .before .before .before .before .before .args .s .now) (c .before .before .before .before .before .before .before .before .before .before .before .args .w) _ (c .before .before .before .before .before .before .before .before .before .read-envelope .ensures) (c .before .before .before .before .before .before .before .before .if1 .taken) _ (c .before .before .before .before .both .ensures ∙ and-same (c .before .before .before .before .before .before .is-served .ensures) (c .before .before .before .before .before .is-command .ensures)) (c .before .before .before .if2 .taken) _ (c .before .before .read-command .ensures) (c .enum-told .given .1))
-    (λ c. unserved (c .before .before .before .before .before .before .before .before .args .s .now) (c .before .before .before .before .before .before .before .before .args .w) _ (c .before .before .before .before .before .before .read-envelope .ensures) (c .before .before .before .before .before .if1 .taken) _ (c .before .both .ensures ∙ and-same (c .before .before .before .is-served .ensures) (c .before .before .is-command .ensures)) (c .if2 .left))
-    (λ c. envelope-wrong (c .before .before .before .args .s .now) (c .before .before .before .args .w) _ (c .before .read-envelope .ensures) (c .if1 .left)))
+    (λ c κs. search needs) (λ c κs. search needs) (λ c κs. search needs) (λ c κs. search needs) (λ c κs. search needs)
+    (λ c κs. search needs) (λ c κs. search needs) (λ c κs. search needs) (λ c κs. search needs) (λ c. search needs)
+    (λ c. search needs)
+    (λ c. message-is (c .before .before .before .before .before .before .before .before .before .before .before .before .before .before .args .sights .now) _ (c .before .before .before .before .before .before .before .before .before .before .before .before .before .is-envelope .ensures) (c .before .before .before .before .before .before .before .before .before .before .before .before .if1 .taken) _ _ _ _ (c .before .before .before .before .before .before .before .before .before .before .before .sight-at .ensures) (c .before .before .before .before .before .before .before .before .before .before .sight-at2 .ensures) (c .before .before .before .before .before .before .before .before .before .sight-at3 .ensures) (c .before .before .before .before .before .before .before .before .sight-at4 .ensures) _ (c .before .before .before .before .before .both .ensures ∙ and-same (c .before .before .before .before .before .before .before .is-served .ensures) (c .before .before .before .before .before .before .is-command .ensures)) (c .before .before .before .before .if2 .taken) _ (c .before .before .before .read-command .ensures) _ (c .before .command .given .1))
+    (λ c. message-wrong (c .before .before .before .before .before .before .before .before .before .before .before .before .before .args .sights .now) _ (c .before .before .before .before .before .before .before .before .before .before .before .before .is-envelope .ensures) (c .before .before .before .before .before .before .before .before .before .before .before .if1 .taken) _ _ _ _ (c .before .before .before .before .before .before .before .before .before .before .sight-at .ensures) (c .before .before .before .before .before .before .before .before .before .sight-at2 .ensures) (c .before .before .before .before .before .before .before .before .sight-at3 .ensures) (c .before .before .before .before .before .before .before .sight-at4 .ensures) _ (c .before .before .before .before .both .ensures ∙ and-same (c .before .before .before .before .before .before .is-served .ensures) (c .before .before .before .before .before .is-command .ensures)) (c .before .before .before .if2 .taken) _ (c .before .before .read-command .ensures) (c .enum-told .given .1))
+    (λ c. unserved (c .before .before .before .before .before .before .before .before .before .before .args .sights .now) _ (c .before .before .before .before .before .before .before .before .before .is-envelope .ensures) (c .before .before .before .before .before .before .before .before .if1 .taken) _ _ _ _ (c .before .before .before .before .before .before .before .sight-at .ensures) (c .before .before .before .before .before .before .sight-at2 .ensures) (c .before .before .before .before .before .sight-at3 .ensures) (c .before .before .before .before .sight-at4 .ensures) _ (c .before .both .ensures ∙ and-same (c .before .before .before .is-served .ensures) (c .before .before .is-command .ensures)) (c .if2 .left))
+    (λ c. envelope-wrong (c .before .before .args .sights .now) _ (c .before .is-envelope .ensures) (c .if1 .left)))

@@ -1,6 +1,11 @@
-use Rattle.frames.proofs.Framed.{long-enough, rest-all}
+use Prim.Native.Nat.{ℕ}
+use mathlib.Core.List.{List}
+use mathlib.Core.Path.{ap, _∙_}
 use native.Mathlib.Omega.{arith}
-use Rattle.frames.proofs.Requested.{not-framed, not-item, root-not-map, root-is-map}
+use Rattle.cbor.specs.Item.{payloadOf}
+use Rattle.frames.specs.Requests.{fromPayload}
+use Rattle.frames.proofs.Framed.{long-enough, rest-all}
+use Rattle.frames.proofs.Requested.{not-framed, is-framed}
 use borrow.Author.Needs.{needs}
 use Rattle.frames.proofs.requests.read_request.Statement.{statement}
 use Rattle.frames.proofs.requests.read_request.Tie as tie
@@ -12,8 +17,6 @@ read-request-spec =
     (λ c κs. search needs)
     (λ c. omega (arith, long-enough (c .before .before .before .args .frame .now) _ (c .before .is-framed .ensures) (c .if1 .taken)))
     (λ c. omega (arith, long-enough (c .before .before .before .args .frame .now) _ (c .before .is-framed .ensures) (c .if1 .taken)))
-    (λ c. search needs) (λ c κs. search needs) (λ c κs. search needs) (λ c κs. search needs)
-    (λ c. root-is-map (c .before .before .before .before .before .before .before .before .before .args .frame .now) _ (c .before .before .before .before .before .before .before .is-framed .ensures) (c .before .before .before .before .before .before .if1 .taken) _ (rest-all (c .before .before .before .before .before .before .before .before .before .args .frame .now)) _ (c .before .before .before .before .is-item .ensures) (c .before .before .before .if2 .taken) _ (c .before .before .read-root .ensures) (c .before .if3 .taken) _ (c .read-message .ensures))
-    (λ c. root-not-map (c .before .before .before .before .before .before .before .before .args .frame .now) _ (c .before .before .before .before .before .before .is-framed .ensures) (c .before .before .before .before .before .if1 .taken) _ (rest-all (c .before .before .before .before .before .before .before .before .args .frame .now)) _ (c .before .before .before .is-item .ensures) (c .before .before .if2 .taken) _ (c .before .read-root .ensures) (c .if3 .left))
-    (λ c. not-item (c .before .before .before .before .before .before .args .frame .now) _ (c .before .before .before .before .is-framed .ensures) (c .before .before .before .if1 .taken) _ (rest-all (c .before .before .before .before .before .before .args .frame .now)) _ (c .before .is-item .ensures) (c .if2 .left))
+    (λ c. search needs) (λ c κs. search needs)
+    (λ c. c .read-payload .ensures ∙ ap (λ (p : List ℕ). fromPayload (payloadOf p)) (rest-all (c .before .before .before .before .before .args .frame .now)) ∙ is-framed (c .before .before .before .before .before .args .frame .now) _ (c .before .before .before .is-framed .ensures) (c .before .before .if1 .taken))
     (λ c. not-framed (c .before .before .before .args .frame .now) _ (c .before .is-framed .ensures) (c .if1 .left)))

@@ -1,4 +1,4 @@
-use Rattle.frames.proofs.Messages.{values-read}
+use Rattle.frames.proofs.Requested.{values-read}
 use borrow.Author.Needs.{needs}
 use Rattle.frames.proofs.requests.read_values.Statement.{statement}
 use Rattle.frames.proofs.requests.read_values.Tie as tie
@@ -7,6 +7,7 @@ pub read-values-spec : {M : Type 1} → statement M
 read-values-spec =
     tie.close
     (tie.spec
-    (λ c κs. search needs) (λ c κs. search needs) (λ c κs. search needs) (λ c κs. search needs)
-    (λ c κs. search needs) (λ c κs. search needs)
-    (λ c. rw (c .or-zero .ensures) (values-read (c .before .before .before .before .before .before .before .args .s .now) (c .before .before .before .before .before .before .before .args .w) (c .before .before .before .before .before .before .before .args .null) _ _ _ _ _ (c .before .before .before .before .before .read-signed .ensures) (c .before .before .before .before .read-signed2 .ensures) (c .before .before .before .read-uint .ensures) (c .before .before .read-uint2 .ensures) (c .before .all4 .ensures))))
+    (λ c κs. search needs) (λ c κs. search needs) (λ c κs. search needs) (λ c κs. search needs) (λ c κs. search needs)
+    (λ c κs. search needs) (λ c κs. search needs) (λ c κs. search needs) (λ c κs. search needs) (λ c κs. search needs)
+    (λ c κs. search needs)
+    (λ c. values-read (c .before .before .before .before .before .before .before .before .before .before .before .args .sights .now) (c .before .before .before .before .before .before .before .before .before .before .before .args .null) _ _ _ _ (c .before .before .before .before .before .before .before .before .before .before .sight-at .ensures) (c .before .before .before .before .before .before .before .before .sight-at2 .ensures) (c .before .before .before .before .before .before .sight-at3 .ensures) (c .before .before .before .before .before .sight-at4 .ensures) _ _ _ _ (c .before .before .before .before .before .before .before .before .before .read-value .ensures) (c .before .before .before .before .before .before .before .read-value2 .ensures) (c .before .before .before .before .is-uint .ensures) (c .before .before .before .is-uint2 .ensures) _ (c .before .before .all4 .ensures) _ (c .before .amount-of .ensures) _ (c .duration-of .ensures)))

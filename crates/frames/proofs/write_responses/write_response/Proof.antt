@@ -12,4 +12,4 @@ write-response-spec =
     (λ c κs. search needs) (λ c κs. search needs)
     (λ c. a-refusal _ (responseNumber (c .before .before .before .before .args .command) (c .before .before .before .before .args .r)) (itemFrame (responseItem (c .before .before .before .before .args .r))) (c .before .before .before .before .args .out .now) _ (c .before .before .response-number .ensures) (c .before .if1 .taken) (c .refused .ensures))
     (λ c κs. search needs) (λ c. search needs)
-    (λ c. no-refusal _ (responseNumber (c .before .before .before .before .before .before .before .args .command) (c .before .before .before .before .before .before .before .args .r)) (itemFrame (responseItem (c .before .before .before .before .before .before .before .args .r))) (c .before .before .before .before .before .before .before .args .out .now) _ _ (c .before .before .before .before .before .response-number .ensures) (c .before .before .before .before .if1 .left) (c .before .before .send-response .ensures)))
+    (λ c. no-refusal _ (responseNumber (c .before .before .before .before .before .before .before .args .command) (c .before .before .before .before .before .before .before .args .r)) (itemFrame (responseItem (c .before .before .before .before .before .before .before .args .r))) (c .before .before .before .before .before .before .before .args .out .now) _ _ (c .before .before .before .before .before .response-number .ensures) (c .before .before .before .before .if1 .left) (c .before .before .frame-response .ensures)))

@@ -12,4 +12,4 @@ write-status-spec =
     (λ c κs. search needs) (λ c κs. search needs)
     (λ c. a-refusal _ (statusNumber (c .before .before .before .before .args .id) (c .before .before .before .before .args .status)) (itemFrame (responseItem (statusAlone (c .before .before .before .before .args .id) (c .before .before .before .before .args .status)))) (c .before .before .before .before .args .out .now) _ (c .before .before .status-number .ensures) (c .before .if1 .taken) (c .refused .ensures))
     (λ c κs. search needs) (λ c. search needs)
-    (λ c. no-refusal _ (statusNumber (c .before .before .before .before .before .before .before .args .id) (c .before .before .before .before .before .before .before .args .status)) (itemFrame (responseItem (statusAlone (c .before .before .before .before .before .before .before .args .id) (c .before .before .before .before .before .before .before .args .status)))) (c .before .before .before .before .before .before .before .args .out .now) _ _ (c .before .before .before .before .before .status-number .ensures) (c .before .before .before .before .if1 .left) (c .before .before .send-response .ensures)))
+    (λ c. no-refusal _ (statusNumber (c .before .before .before .before .before .before .before .args .id) (c .before .before .before .before .before .before .before .args .status)) (itemFrame (responseItem (statusAlone (c .before .before .before .before .before .before .before .args .id) (c .before .before .before .before .before .before .before .args .status)))) (c .before .before .before .before .before .before .before .args .out .now) _ _ (c .before .before .before .before .before .status-number .ensures) (c .before .before .before .before .if1 .left) (c .before .before .frame-response .ensures)))

@@ -1,0 +1,10 @@
+use Rattle.frames.proofs.BySight.{success-reads}
+use borrow.Author.Needs.{needs}
+use Rattle.frames.proofs.fields.is_success.Statement.{statement}
+use Rattle.frames.proofs.fields.is_success.Tie as tie
+
+pub is-success-spec : {M : Type 1} → statement M
+is-success-spec =
+    tie.close
+    (tie.spec
+    (λ c κs. search needs) (λ c. success-reads _ _ (c .both .ensures)))

@@ -1,0 +1,13 @@
+use Rattle.frames.proofs.Requested.{envelope-reads}
+use borrow.Author.Needs.{needs}
+use Rattle.frames.proofs.requests.is_envelope.Statement.{statement}
+use Rattle.frames.proofs.requests.is_envelope.Tie as tie
+
+pub is-envelope-spec : {M : Type 1} → statement M
+is-envelope-spec =
+    tie.close
+    (tie.spec
+    (λ c κs. search needs) (λ c κs. search needs) (λ c κs. search needs) (λ c κs. search needs) (λ c κs. search needs)
+    (λ c κs. search needs) (λ c κs. search needs) (λ c κs. search needs) (λ c κs. search needs) (λ c κs. search needs)
+    (λ c κs. search needs)
+    (λ c. envelope-reads (c .before .before .before .before .before .before .before .before .before .before .before .args .sights .now) _ _ _ _ _ (c .before .before .before .before .before .before .before .before .before .before .sight-at .ensures) (c .before .before .before .before .before .before .before .before .sight-at2 .ensures) (c .before .before .before .before .before .before .sight-at3 .ensures) (c .before .before .before .before .sight-at4 .ensures) (c .before .before .sight-at5 .ensures) _ _ _ _ _ (c .before .before .before .before .before .before .before .before .before .is-uint .ensures) (c .before .before .before .before .before .before .before .is-uint2 .ensures) (c .before .before .before .before .before .is-uint3 .ensures) (c .before .before .before .is-uint4 .ensures) (c .before .is-map .ensures) _ (c .all5 .ensures)))
