@@ -15,7 +15,7 @@ use Rattle.device.specs.declared.Zone.{Zone}
 use Rattle.device.specs.declared.Settings.{Settings}
 use Rattle.device.specs.declared.Change.{Change}
 use Rattle.device.specs.Sizes.{slots, helds, words}
-use Rattle.device.specs.Zones.{freeZone, newZone, linked, slotOf, zoneOf, anyUp}
+use Rattle.device.specs.Zones.{idOf, freeZone, newZone, linked, slotOf, zoneOf, anyUp}
 use Rattle.device.specs.Words.{clockOf, sinceOf, overrideOf, settingsOf, zonesOf, applied, after}
 use Rattle.device.specs.Holds.{situationOf, valuesAt}
 use Rattle.device.specs.Calls.{sinceAfter, zoneChange, headChange}
@@ -27,7 +27,7 @@ use Rattle.demands.specs.Accepted.{kept}
 use Rattle.demands.proofs.Lists.{never}
 use Rattle.demands.proofs.Says.{joined-other, record-other, joined-join, record-join, joined-leave, joined-link, record-link, joined-command, record-command, record-size}
 use Rattle.demands.proofs.Claims.{anyUp-same, values-same}
-use Rattle.demands.proofs.Same.{Same, Moves, Found, found, slot-mine, same-set, same-log, slots-within, history-within, slots-one}
+use Rattle.demands.proofs.Same.{at, id-high, Same, Moves, Found, found, slot-mine, same-set, same-log, slots-within, history-within, slots-one}
 
 pub record Agree (s : Settings) (ws : List ℕ) (h : Log) : Type 0 where
   pub size : length ws ≡ words
@@ -142,13 +142,13 @@ module _ (s : Settings) (ws : List ℕ) (h : Log) (z t : ℕ) (a : Agree s ws h)
   f = found s (zonesOf ws) h (a .zones) z j
 
   agree-own : (e : Told) (x : Zone) → saysOverride t e ≡ none → length (x .held) ≡ helds → ((y : ℕ) → y ≢ z → about y e ≡ false)
-      → ((x .id ≡ 0) × (joinedBy ((t, e) ∷ h) z ≡ false)) ⊎ ((joinedBy ((t, e) ∷ h) z ≡ true) × (x ≡ recordBy s ((t, e) ∷ h) z))
+      → ((idOf x ≡ 0) × (joinedBy ((t, e) ∷ h) z ≡ false)) ⊎ ((joinedBy ((t, e) ∷ h) z ≡ true) × (x ≡ recordBy s ((t, e) ∷ h) z))
       → Agree s (applied ws (zoneChange ws t (slotOf (zonesOf ws) z) x)) ((t, e) ∷ h)
   agree-own e x o size others new =
       agree-zone s ws h t e z (slotOf (zonesOf ws) z) x a o size
       (record {
         low = f .low;
-        high = omega (arith, f .mine, a .zones .there (slotOf (zonesOf ws) z) (f .place) (omega (arith, f .mine, f .low)) .low);
+        high = omega (arith, f .mine, id-high (at (zonesOf ws) (slotOf (zonesOf ws) z)));
         place = f .place;
         mine = inr (f .mine);
         alone = λ i q e. a .zones .one i (slotOf (zonesOf ws) z) q (f .place) (omega (arith, f .low)) (e ∙ sym (f .mine));
@@ -156,9 +156,13 @@ module _ (s : Settings) (ws : List ℕ) (h : Log) (z t : ℕ) (a : Agree s ws h)
         new = new;
       })
 
+  free-id : idOf freeZone ≡ 0
+  unfolding idOf
+  free-id = refl
+
   pub agree-leave : Agree s (applied ws (zoneChange ws t (slotOf (zonesOf ws) z) freeZone)) ((t, leaves z) ∷ h)
   unfolding about saysOverride
-  agree-leave = agree-own (leaves z) freeZone refl refl (λ y n. ne-eqb z y (λ e. n (sym e))) (inl (refl, joined-leave h z t))
+  agree-leave = agree-own (leaves z) freeZone refl refl (λ y n. ne-eqb z y (λ e. n (sym e))) (inl (free-id, joined-leave h z t))
 
   pub agree-link : (u : Bool) → Agree s (applied ws (zoneChange ws t (slotOf (zonesOf ws) z) (linked (zoneOf (zonesOf ws) z) u))) ((t, links z u) ∷ h)
   unfolding about saysOverride

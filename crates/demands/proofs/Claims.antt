@@ -9,10 +9,9 @@ use lib.ListN.{length, getD}
 use borrow.Author.Tests.{ltb-false}
 use Rattle.messages.specs.declared.Amount.the-variants.{Absent, Is}
 use Rattle.device.specs.declared.Zone.{Zone}
-use Rattle.device.specs.declared.Claim.{Claim}
 use Rattle.device.specs.Sizes.{helds}
-use Rattle.device.specs.Zones.{any, freeZone, isJoined, isUp, anyJoined, anyUp}
-use Rattle.device.specs.Holds.{isLimit, claimOf, goesBefore, winner, amountOf, Situation, inFailsafe, failsafeValue, valueAt, stateAt, shown, valuesAt}
+use Rattle.device.specs.Zones.{idOf, any, freeZone, isJoined, isUp, anyJoined, anyUp}
+use Rattle.device.specs.Holds.{isLimit, Claim, claimOf, goesBefore, winner, amountOf, Situation, inFailsafe, failsafeValue, valueAt, stateAt, shown, valuesAt}
 use Rattle.device.specs.Table.{Unexpired}
 use Rattle.device.proofs.Before.{not-earlier}
 use Rattle.device.proofs.Winner.{claim-there, wins}
@@ -24,7 +23,7 @@ pub record Within (l m : List Zone) : Type 0 where
   pub has : (x : Zone) → isJoined x ≡ true → List·Memᴰ x l → List·Memᴰ x m
 
 unfoldable pub OneId : List Zone → Type 0
-OneId l = (x y : Zone) → List·Memᴰ x l → List·Memᴰ y l → isJoined x ≡ true → x .id ≡ y .id → x ≡ y
+OneId l = (x y : Zone) → List·Memᴰ x l → List·Memᴰ y l → isJoined x ≡ true → idOf x ≡ idOf y → x ≡ y
 
 -- THE WINNER
 -- a winner that stands is some joined zone's claim
@@ -66,7 +65,7 @@ winner-same t q l m there back one = go (winner t q l .there) refl (winner t q m
     d : Claim
     d = winner t q m
 
-    claim-id : (x : Zone) → Unexpired t q x → x .id ≡ claimOf t q x .id
+    claim-id : (x : Zone) → Unexpired t q x → idOf x ≡ claimOf t q x .id
     claim-id x u = sym (ap (λ (k : Claim). k .id) (claim-there t q x u))
 
     both : c .there ≡ true → d .there ≡ true → (b : Bool) → isLimit q ≡ b → c .value ≡ d .value
@@ -75,7 +74,7 @@ winner-same t q l m there back one = go (winner t q l .there) refl (winner t q m
         let x = standing t q l p in
         let y = standing t q m r in
         let i : c .id ≡ d .id = equal-ids q c d e (beaten t q l m there p .1) (beaten t q m l back r .1) in
-        let ids : x .0 .id ≡ y .0 .id = claim-id (x .0) (x .2) ∙ ap (λ (k : Claim). k .id) (x .3) ∙ i ∙ ap (λ (k : Claim). k .id) (sym (y .3)) ∙ sym (claim-id (y .0) (y .2)) in
+        let ids : idOf (x .0) ≡ idOf (y .0) = claim-id (x .0) (x .2) ∙ ap (λ (k : Claim). k .id) (x .3) ∙ i ∙ ap (λ (k : Claim). k .id) (sym (y .3)) ∙ sym (claim-id (y .0) (y .2)) in
         let same : x .0 ≡ y .0 = one (x .0) (y .0) (x .1) (back .has (y .0) (y .2 .0) (y .1)) (x .2 .0) ids in
         ap (λ (k : Claim). k .value) (sym (x .3) ∙ ap (claimOf t q) same ∙ y .3)
 

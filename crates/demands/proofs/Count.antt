@@ -12,7 +12,7 @@ use borrow.Author.Tests.{eqb-true, eqb-false, lt-leb}
 use Rattle.device.specs.declared.Zone.{Zone}
 use Rattle.device.specs.declared.Settings.{Settings}
 use Rattle.device.specs.Sizes.{slots}
-use Rattle.device.specs.Zones.{freeZone, first, isJoined, slotOf}
+use Rattle.device.specs.Zones.{idOf, freeZone, first, isJoined, slotOf}
 use Rattle.demands.specs.History.{Log, joinedBy, recordBy, zonesTo, zonesBy}
 use Rattle.demands.proofs.Lists.{mem-getD}
 use Rattle.demands.proofs.Same.{at, Same, mem-listed, record-id, isJoined-low, listed-joined, slots-within, history-within}
@@ -20,34 +20,34 @@ use Rattle.demands.proofs.Same.{at, Same, mem-listed, record-id, isJoin
 -- a list without the zones of one id is shorter than one that has such a zone
 without : ℕ → List Zone → List Zone
 without z [] = []
-without z (x ∷ l) = cond (eqb (x .id) z) (without z l) (x ∷ without z l)
+without z (x ∷ l) = cond (eqb (idOf x) z) (without z l) (x ∷ without z l)
 
 without-le : (z : ℕ) (l : List Zone) → length (without z l) ≤ length l
 unfolding without
 without-le z [] = omega arith
-without-le z (x ∷ l) = go (eqb (x .id) z) (without-le z l)
+without-le z (x ∷ l) = go (eqb (idOf x) z) (without-le z l)
   where
     go : (b : Bool) → length (without z l) ≤ length l → length (cond b (without z l) (x ∷ without z l)) ≤ suc (length l)
     go true h = omega arith
     go false h = omega arith
 
-without-lt : (l : List Zone) (x : Zone) → List·Memᴰ x l → length (without (x .id) l) < length l
+without-lt : (l : List Zone) (x : Zone) → List·Memᴰ x l → length (without (idOf x) l) < length l
 unfolding without
 without-lt [] x m = absurd (List·Memᴰ·not-nil m)
-without-lt (y ∷ l) x m = go (eqb (y .id) (x .id)) refl (⊎-elim inl (λ k. inr (without-lt l x k)) (List·Memᴰ·cases-cons m))
+without-lt (y ∷ l) x m = go (eqb (idOf y) (idOf x)) refl (⊎-elim inl (λ k. inr (without-lt l x k)) (List·Memᴰ·cases-cons m))
   where
-    go : (b : Bool) → eqb (y .id) (x .id) ≡ b → (x ≡ y) ⊎ (length (without (x .id) l) < length l) → length (cond b (without (x .id) l) (y ∷ without (x .id) l)) < suc (length l)
-    go true p q = omega (arith, without-le (x .id) l)
-    go false p (inl q) = absurd (eqb-false (y .id) (x .id) p (ap (λ (v : Zone). v .id) (sym q)))
+    go : (b : Bool) → eqb (idOf y) (idOf x) ≡ b → (x ≡ y) ⊎ (length (without (idOf x) l) < length l) → length (cond b (without (idOf x) l) (y ∷ without (idOf x) l)) < suc (length l)
+    go true p q = omega (arith, without-le (idOf x) l)
+    go false p (inl q) = absurd (eqb-false (idOf y) (idOf x) p (ap idOf (sym q)))
     go false p (inr k) = omega arith
 
-without-mem : (z : ℕ) (l : List Zone) (x : Zone) → List·Memᴰ x l → x .id ≢ z → List·Memᴰ x (without z l)
+without-mem : (z : ℕ) (l : List Zone) (x : Zone) → List·Memᴰ x l → idOf x ≢ z → List·Memᴰ x (without z l)
 unfolding without
 without-mem z [] x m n = m
-without-mem z (y ∷ l) x m n = go (eqb (y .id) z) refl (⊎-elim inl (λ k. inr (without-mem z l x k n)) (List·Memᴰ·cases-cons m))
+without-mem z (y ∷ l) x m n = go (eqb (idOf y) z) refl (⊎-elim inl (λ k. inr (without-mem z l x k n)) (List·Memᴰ·cases-cons m))
   where
-    go : (b : Bool) → eqb (y .id) z ≡ b → (x ≡ y) ⊎ List·Memᴰ x (without z l) → List·Memᴰ x (cond b (without z l) (y ∷ without z l))
-    go true p (inl q) = absurd (n (ap (λ (v : Zone). v .id) q ∙ eqb-true (y .id) z p))
+    go : (b : Bool) → eqb (idOf y) z ≡ b → (x ≡ y) ⊎ List·Memᴰ x (without z l) → List·Memᴰ x (cond b (without z l) (y ∷ without z l))
+    go true p (inl q) = absurd (n (ap idOf q ∙ eqb-true (idOf y) z p))
     go true p (inr k) = k
     go false p (inl q) = List·Memᴰ·head q
     go false p (inr k) = List·Memᴰ·tail k
@@ -55,14 +55,14 @@ without-mem z (y ∷ l) x m n = go (eqb (y .id) z) refl (⊎-elim inl (λ k. inr
 -- zones of different ids that are all in a list are no more than it has
 Distinct : List Zone → Type 0
 Distinct [] = Unit {0}
-Distinct (x ∷ l) = ((y : Zone) → List·Memᴰ y l → y .id ≢ x .id) × Distinct l
+Distinct (x ∷ l) = ((y : Zone) → List·Memᴰ y l → idOf y ≢ idOf x) × Distinct l
 
 fits : (l m : List Zone) → Distinct l → ((x : Zone) → List·Memᴰ x l → List·Memᴰ x m) → length l ≤ length m
 unfolding Distinct
 fits [] m d t = omega arith
 fits (x ∷ l) m d t =
     let less = without-lt m x (t x (List·Memᴰ·head refl)) in
-    let rest = fits l (without (x .id) m) (d .1) (λ y k. without-mem (x .id) m y (t y (List·Memᴰ·tail k)) (d .0 y k)) in
+    let rest = fits l (without (idOf x) m) (d .1) (λ y k. without-mem (idOf x) m y (t y (List·Memᴰ·tail k)) (d .0 y k)) in
     omega arith
 
 -- the joined zones of the slots
@@ -103,7 +103,7 @@ live-le (x ∷ l) = go (isJoined x) (live-le l)
 full-live : (l : List Zone) → leb (length l) (slotOf l 0) ≡ leb (length l) (length (live l))
 unfolding live slotOf first isJoined
 full-live [] = refl
-full-live (x ∷ l) = go (eqb (x .id) 0) (full-live l)
+full-live (x ∷ l) = go (eqb (idOf x) 0) (full-live l)
   where
     go : (b : Bool) → leb (length l) (slotOf l 0) ≡ leb (length l) (length (live l))
         → leb (suc (length l)) (cond b 0 (suc (slotOf l 0))) ≡ leb (suc (length l)) (length (cond (not b) (x ∷ live l) (live l)))
@@ -111,28 +111,28 @@ full-live (x ∷ l) = go (eqb (x .id) 0) (full-live l)
     go false ih = leb·suc-suc (length l) (slotOf l 0) ∙ ih ∙ sym (leb·suc-suc (length l) (length (live l)))
 
 -- each zone has one slot, so the joined zones of the slots have different ids
-distinct-live : (l : List Zone) → ((i j : ℕ) → i < length l → j < length l → 1 ≤ at l i .id → at l i .id ≡ at l j .id → i ≡ j) → Distinct (live l)
+distinct-live : (l : List Zone) → ((i j : ℕ) → i < length l → j < length l → 1 ≤ idOf (at l i) → idOf (at l i) ≡ idOf (at l j) → i ≡ j) → Distinct (live l)
 unfolding live Distinct
 distinct-live [] one = tt
 distinct-live (x ∷ l) one = go (isJoined x) refl (distinct-live l (λ i j a b c d. let e = one (suc i) (suc j) (omega arith) (omega arith) c d in omega arith))
   where
-    apart : isJoined x ≡ true → (y : Zone) → List·Memᴰ y (live l) → y .id ≢ x .id
+    apart : isJoined x ≡ true → (y : Zone) → List·Memᴰ y (live l) → idOf y ≢ idOf x
     apart j y m e =
         let r = mem-getD l y freeZone (live-mem l y m .0) in
-        let w = one 0 (suc (r .0)) (omega arith) (omega (arith, r .1)) (isJoined-low x j) (sym e ∙ ap (λ (v : Zone). v .id) (sym (r .2))) in
+        let w = one 0 (suc (r .0)) (omega arith) (omega (arith, r .1)) (isJoined-low x j) (sym e ∙ ap idOf (sym (r .2))) in
         omega arith
 
     go : (b : Bool) → isJoined x ≡ b → Distinct (live l) → Distinct (cond b (x ∷ live l) (live l))
     go true p d = (apart p, d)
     go false p d = d
 
-distinct-listed : (s : Settings) (h : Log) (n : ℕ) → Distinct (zonesTo s h n)
+distinct-listed : (s : Settings) (h : Log) (n : ℕ) → n ≤ 255 → Distinct (zonesTo s h n)
 unfolding zonesTo Distinct
-distinct-listed s h zero = tt
-distinct-listed s h (suc n) = go (joinedBy h (suc n)) (distinct-listed s h n)
+distinct-listed s h zero p = tt
+distinct-listed s h (suc n) p = go (joinedBy h (suc n)) (distinct-listed s h n (omega arith))
   where
     go : (b : Bool) → Distinct (zonesTo s h n) → Distinct (cond b (recordBy s h (suc n) ∷ zonesTo s h n) (zonesTo s h n))
-    go true d = (λ y m e. omega (arith, mem-listed s h n y m .high, record-id s h (suc n)), d)
+    go true d = (λ y m e. omega (arith, mem-listed s h n (omega arith) y m .high, record-id s h (suc n) p), d)
     go false d = d
 
 module _ (s : Settings) (zs : List Zone) (h : Log) (k : Same s zs h) where
@@ -140,7 +140,7 @@ module _ (s : Settings) (zs : List Zone) (h : Log) (k : Same s zs h) where
   count-same =
       le-antisymm
       (fits (live zs) (zonesBy s h) (distinct-live zs (rw (k .size) (k .one))) (λ x m. let r = live-mem zs x m in slots-within s zs h k .has x (r .1) (r .0)))
-      (fits (zonesBy s h) (live zs) (distinct-listed s h 255) (λ x m. let j = listed-joined s h 255 x m in mem-live zs x (history-within s zs h k .has x j m) j))
+      (fits (zonesBy s h) (live zs) (distinct-listed s h 255 (omega arith)) (λ x m. let j = listed-joined s h 255 (omega arith) x m in mem-live zs x (history-within s zs h k .has x j m) j))
 
   -- eight zones joined
   pub full-same : leb slots (slotOf zs 0) ≡ leb slots (length (zonesBy s h))

@@ -1,21 +1,21 @@
 -- The marked examples, computed.
 use Prim.Native.Nat.{zero, suc}
 use native.Mathlib.Nat.{le-of-suc-le-suc, not-suc-le-zero}
-use Rattle.device.specs.Zones.{upTo, first, any, isJoined, isUp, slotOf, joined, zoneOf, heldOf, anyJoined, anyUp}
+use Rattle.device.specs.Zones.{upTo, first, any, idOf, rankOf, isJoined, isUp, slotOf, joined, zoneOf, heldOf, anyJoined, anyUp}
 use Rattle.device.specs.Words.{settingsOf, heldIn, zoneAt, zonesOf, bit, heldWords, putZone, applied, after, settingWords, fresh}
 use Rattle.device.specs.Holds.{supports, claimOf, goesBefore, better, winner, inFailsafe, failsafeValue, valueAt, present, stateAt, shown, valuesAt}
+use Rattle.device.specs.Dues.{zoneDues, heldDues, dues, nearer, nearest}
 use Rattle.device.specs.Refusals.{firstOf, late}
 use Rattle.device.specs.Calls.{sinceAfter, zoneChange, headChange, badJoin, joinNumber, joinAfter, leaveNumber, leaveAfter, same, linkNumber, linkAfter}
 use Rattle.device.specs.Commands.{unsupported, invalid, tooLow, belowTheMinimum, commandNumber, fieldAction, targetAction, aimAction, action, untilOf, done, obeyed, commandAfter, isCapped, reasonOf, outcomeWith, commandAnswer}
 use Rattle.device.specs.Start.{badMaximum, badSettings, startAfter}
-use Rattle.device.proofs.Steady.{dues, heldDues, zoneDues}
 use Rattle.planner.specs.Plan.{numbersOf}
-use Rattle.planner.specs.Walk.{nearer, nearest, sameNumber, alike, step, walk}
+use Rattle.planner.specs.Walk.{sameNumber, alike, step, walk}
 use Rattle.planner.proofs.Walk.{planOf-walk}
 use Rattle.demands.specs.Examples.{reached, found, table, Marked}
 
 pub marked : Marked
-unfolding found reached table numbersOf walk step nearest nearer alike sameNumber dues heldDues zoneDues upTo first any isJoined isUp slotOf
+unfolding found reached table numbersOf walk step nearest nearer alike sameNumber dues heldDues zoneDues upTo first any idOf rankOf isJoined isUp slotOf
     joined zoneOf heldOf anyJoined anyUp settingsOf heldIn zoneAt zonesOf bit heldWords putZone applied after settingWords fresh supports
     claimOf goesBefore better winner inFailsafe failsafeValue valueAt present stateAt shown valuesAt firstOf late sinceAfter zoneChange
     headChange badJoin joinNumber joinAfter leaveNumber leaveAfter same linkNumber linkAfter unsupported invalid tooLow belowTheMinimum

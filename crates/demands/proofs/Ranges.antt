@@ -15,11 +15,10 @@ use Rattle.frames.specs.Requests.{readRequest}
 use Rattle.frames.specs.declared.requests.Reading.{Reading}
 use Rattle.device.specs.declared.Held.{Held}
 use Rattle.device.specs.declared.Zone.{Zone}
-use Rattle.device.specs.declared.Claim.{Claim}
 use Rattle.device.specs.declared.Settings.{Settings}
 use Rattle.device.specs.Sizes.{helds, valueEnd}
-use Rattle.device.specs.Zones.{heldOf, anyUp}
-use Rattle.device.specs.Holds.{isLimit, directionOf, supports, winner, amountOf, inFailsafe, failsafeValue, valueAt}
+use Rattle.device.specs.Zones.{idOf, heldOf, anyUp}
+use Rattle.device.specs.Holds.{isLimit, directionOf, supports, Claim, winner, amountOf, inFailsafe, failsafeValue, valueAt}
 use Rattle.device.specs.Start.{badMaximum, badSettings, refusedSettings}
 use Rattle.device.proofs.Winner.{claim-there}
 use Rattle.demands.specs.Run.{Call, join, leave, lost, back, override, clear, ask, plan, frame}
@@ -73,9 +72,9 @@ held-small s h k z q =
 
 zone-small : (s : Settings) (h : Log) → Small h → (q : ℕ) → q < helds → (x : Zone) → List·Memᴰ x (zonesBy s h) → heldOf x q .value < valueEnd
 zone-small s h k q l x m =
-    let e = mem-listed s h 255 x m .whole in
-    let v : heldOf x q .value ≡ heldBy s h (x .id) q .value = ap (λ (y : Held). y .value) (ap (λ (y : Zone). heldOf y q) e ∙ held-of s h (x .id) q l) in
-    let n = held-small s h k (x .id) q in
+    let e = mem-listed s h 255 (omega arith) x m .whole in
+    let v : heldOf x q .value ≡ heldBy s h (idOf x) q .value = ap (λ (y : Held). y .value) (ap (λ (y : Zone). heldOf y q) e ∙ held-of s h (idOf x) q l) in
+    let n = held-small s h k (idOf x) q in
     omega arith
 
 -- THE SETTINGS

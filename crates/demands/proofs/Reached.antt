@@ -8,7 +8,7 @@ use lib.ListN.{replicate, getD-replicate}
 use Rattle.device.specs.declared.Zone.{Zone}
 use Rattle.device.specs.declared.Settings.{Settings}
 use Rattle.device.specs.Sizes.{slots}
-use Rattle.device.specs.Zones.{freeZone}
+use Rattle.device.specs.Zones.{idOf, freeZone}
 use Rattle.device.specs.Words.{fresh}
 use Rattle.device.specs.Start.{badSettings, refusedSettings, startAfter}
 use Rattle.device.proofs.Effects.{fresh-length, fresh-settings, fresh-clock, fresh-since, fresh-override, fresh-zones}
@@ -19,8 +19,9 @@ use Rattle.demands.proofs.Same.{at, Same}
 use Rattle.demands.proofs.Agree.{Agree}
 use Rattle.demands.proofs.Steps.{agree-next}
 
-free : (i : ℕ) → i < slots → at (replicate slots freeZone) i .id ≡ 0
-free i p = ap (λ (x : Zone). x .id) (getD-replicate slots i freeZone freeZone p)
+free : (i : ℕ) → i < slots → idOf (at (replicate slots freeZone) i) ≡ 0
+unfolding idOf
+free i p = ap idOf (getD-replicate slots i freeZone freeZone p)
 
 same-fresh : (s : Settings) → Same s (replicate slots freeZone) []
 unfolding joinedBy newest

@@ -13,7 +13,7 @@ use borrow.Author.Tests.{ltb-true, ltb-false, eq-eqb, ne-eqb}
 use Rattle.device.specs.declared.Zone.{Zone}
 use Rattle.device.specs.declared.Settings.{Settings}
 use Rattle.device.specs.Sizes.{slots}
-use Rattle.device.specs.Zones.{freeZone, isJoined, slotOf, joined, zoneOf}
+use Rattle.device.specs.Zones.{idOf, freeZone, isJoined, slotOf, joined, zoneOf}
 use Rattle.demands.specs.History.{Log, joinedBy, recordBy, zonesTo, zonesBy}
 use Rattle.device.proofs.Slots.{slot-id}
 use Rattle.demands.proofs.Lists.{never, first-least, getD-mem, mem-getD}
@@ -23,33 +23,37 @@ use Rattle.demands.proofs.Claims.{Within, OneId}
 abbrev pub at : List Zone → ℕ → Zone
 at zs i = getD zs i freeZone
 
+-- "id 1 to 255": no seat has a larger one
+pub id-high : (x : Zone) → idOf x ≤ 255
+unfolding idOf
+id-high x = omega arith
+
 -- a slot's record, where a zone has it, is the history's record of that zone
 pub record There (s : Settings) (h : Log) (x : Zone) : Type 0 where
-  pub told : joinedBy h (x .id) ≡ true
-  pub whole : x ≡ recordBy s h (x .id)
-  pub low : x .id ≤ 255
+  pub told : joinedBy h (idOf x) ≡ true
+  pub whole : x ≡ recordBy s h (idOf x)
 
 -- the slots and the history have the same zones, each zone in one slot
 pub record Same (s : Settings) (zs : List Zone) (h : Log) : Type 0 where
   pub size : length zs ≡ slots
-  pub there : (i : ℕ) → i < slots → 1 ≤ at zs i .id → There s h (at zs i)
-  pub back : (z : ℕ) → joinedBy h z ≡ true → (1 ≤ z) × (i : ℕ) × (i < slots) × (at zs i .id ≡ z)
-  pub one : (i j : ℕ) → i < slots → j < slots → 1 ≤ at zs i .id → at zs i .id ≡ at zs j .id → i ≡ j
+  pub there : (i : ℕ) → i < slots → 1 ≤ idOf (at zs i) → There s h (at zs i)
+  pub back : (z : ℕ) → joinedBy h z ≡ true → (1 ≤ z) × (i : ℕ) × (i < slots) × (idOf (at zs i) ≡ z)
+  pub one : (i j : ℕ) → i < slots → j < slots → 1 ≤ idOf (at zs i) → idOf (at zs i) ≡ idOf (at zs j) → i ≡ j
 
 -- WHAT THE DEVICE FINDS
 pub record Found (s : Settings) (zs : List Zone) (h : Log) (z : ℕ) : Type 0 where
   pub low : 1 ≤ z
   pub place : slotOf zs z < slots
-  pub mine : at zs (slotOf zs z) .id ≡ z
+  pub mine : idOf (at zs (slotOf zs z)) ≡ z
   pub whole : zoneOf zs z ≡ recordBy s h z
 
 module _ (s : Settings) (zs : List Zone) (h : Log) (k : Same s zs h) where
-  pub slot-mine : (z : ℕ) → slotOf zs z < slots → at zs (slotOf zs z) .id ≡ z
+  pub slot-mine : (z : ℕ) → slotOf zs z < slots → idOf (at zs (slotOf zs z)) ≡ z
   slot-mine z p = slot-id zs z (omega (arith, k .size))
 
-  slot-least : (z i : ℕ) → i < slots → at zs i .id ≡ z → slotOf zs z ≤ i
+  slot-least : (z i : ℕ) → i < slots → idOf (at zs i) ≡ z → slotOf zs z ≤ i
   unfolding slotOf
-  slot-least z i p e = first-least (λ x. eqb (x .id) z) zs i freeZone (omega (arith, k .size)) (eq-eqb _ z e)
+  slot-least z i p e = first-least (λ x. eqb (idOf x) z) zs i freeZone (omega (arith, k .size)) (eq-eqb _ z e)
 
   pub found : (z : ℕ) → joinedBy h z ≡ true → Found s zs h z
   unfolding zoneOf
@@ -82,14 +86,14 @@ pub record Moves (s : Settings) (zs : List Zone) (h h′ : Log) (z i : ℕ) (x :
   pub low : 1 ≤ z
   pub high : z ≤ 255
   pub place : i < slots
-  pub mine : (at zs i .id ≡ 0) ⊎ (at zs i .id ≡ z)
-  pub alone : (j : ℕ) → j < slots → at zs j .id ≡ z → j ≡ i
+  pub mine : (idOf (at zs i) ≡ 0) ⊎ (idOf (at zs i) ≡ z)
+  pub alone : (j : ℕ) → j < slots → idOf (at zs j) ≡ z → j ≡ i
   pub others : (y : ℕ) → y ≢ z → (joinedBy h′ y ≡ joinedBy h y) × (recordBy s h′ y ≡ recordBy s h y)
-  pub new : ((x .id ≡ 0) × (joinedBy h′ z ≡ false)) ⊎ ((joinedBy h′ z ≡ true) × (x ≡ recordBy s h′ z))
+  pub new : ((idOf x ≡ 0) × (joinedBy h′ z ≡ false)) ⊎ ((joinedBy h′ z ≡ true) × (x ≡ recordBy s h′ z))
 
-pub record-id : (s : Settings) (h : Log) (z : ℕ) → recordBy s h z .id ≡ z
-unfolding recordBy
-record-id s h z = refl
+pub record-id : (s : Settings) (h : Log) (z : ℕ) → z ≤ 255 → idOf (recordBy s h z) ≡ z
+unfolding recordBy idOf
+record-id s h z p = omega arith
 
 module _ (s : Settings) (zs : List Zone) (h h′ : Log) (z i : ℕ) (x : Zone) (k : Same s zs h) (m : Moves s zs h h′ z i x) where
   at-set : at (set zs i x) i ≡ x
@@ -99,44 +103,44 @@ module _ (s : Settings) (zs : List Zone) (h h′ : Log) (z i : ℕ) (x : Zone) (
   at-other j n = getD-set-other zs i j x freeZone n
 
   -- the new record is zone z's, where it is any zone's
-  new-id : 1 ≤ x .id → x .id ≡ z
-  new-id p = ⊎-elim (λ q. absurd (omega (arith, q .0))) (λ q. ap (λ (v : Zone). v .id) (q .1) ∙ record-id s h′ z) (m .new)
+  new-id : 1 ≤ idOf x → idOf x ≡ z
+  new-id p = ⊎-elim (λ q. absurd (omega (arith, q .0))) (λ q. ap idOf (q .1) ∙ record-id s h′ z (m .high)) (m .new)
 
-  new-there : 1 ≤ x .id → There s h′ x
+  new-there : 1 ≤ idOf x → There s h′ x
   new-there p =
       let e = new-id p in
       ⊎-elim (λ q. absurd (omega (arith, q .0)))
-      (λ q. record { told = subst (λ (y : ℕ). joinedBy h′ y ≡ true) (sym e) (q .0); whole = subst (λ (y : ℕ). x ≡ recordBy s h′ y) (sym e) (q .1); low = omega (arith, m .high) })
+      (λ q. record { told = subst (λ (y : ℕ). joinedBy h′ y ≡ true) (sym e) (q .0); whole = subst (λ (y : ℕ). x ≡ recordBy s h′ y) (sym e) (q .1) })
       (m .new)
 
-  old-there : (y : Zone) → y .id ≢ z → There s h y → There s h′ y
-  old-there y n t = let o = m .others (y .id) n in record { told = o .0 ∙ t .told; whole = t .whole ∙ sym (o .1); low = t .low }
+  old-there : (y : Zone) → idOf y ≢ z → There s h y → There s h′ y
+  old-there y n t = let o = m .others (idOf y) n in record { told = o .0 ∙ t .told; whole = t .whole ∙ sym (o .1) }
 
-  set-there : (j : ℕ) → j < slots → 1 ≤ at (set zs i x) j .id → There s h′ (at (set zs i x) j)
+  set-there : (j : ℕ) → j < slots → 1 ≤ idOf (at (set zs i x) j) → There s h′ (at (set zs i x) j)
   set-there j p = go (ℕ-discrete j i)
     where
-      go : Dec (j ≡ i) → 1 ≤ at (set zs i x) j .id → There s h′ (at (set zs i x) j)
+      go : Dec (j ≡ i) → 1 ≤ idOf (at (set zs i x) j) → There s h′ (at (set zs i x) j)
       go (yes e) = rw (e, at-set) new-there
       go (no n) = rw (at-other j n) (λ q. old-there (at zs j) (λ e. n (m .alone j p e)) (k .there j p q))
 
-  set-back : (y : ℕ) → joinedBy h′ y ≡ true → (1 ≤ y) × (j : ℕ) × (j < slots) × (at (set zs i x) j .id ≡ y)
+  set-back : (y : ℕ) → joinedBy h′ y ≡ true → (1 ≤ y) × (j : ℕ) × (j < slots) × (idOf (at (set zs i x) j) ≡ y)
   set-back y e = go (ℕ-discrete y z)
     where
-      here : ((x .id ≡ 0) × (joinedBy h′ z ≡ false)) ⊎ ((joinedBy h′ z ≡ true) × (x ≡ recordBy s h′ z)) → joinedBy h′ z ≡ true → at (set zs i x) i .id ≡ z
+      here : ((idOf x ≡ 0) × (joinedBy h′ z ≡ false)) ⊎ ((joinedBy h′ z ≡ true) × (x ≡ recordBy s h′ z)) → joinedBy h′ z ≡ true → idOf (at (set zs i x) i) ≡ z
       here (inl q) e = never (sym (q .1) ∙ e)
-      here (inr q) e = ap (λ (v : Zone). v .id) (at-set ∙ q .1) ∙ record-id s h′ z
+      here (inr q) e = ap idOf (at-set ∙ q .1) ∙ record-id s h′ z (m .high)
 
-      go : Dec (y ≡ z) → (1 ≤ y) × (j : ℕ) × (j < slots) × (at (set zs i x) j .id ≡ y)
+      go : Dec (y ≡ z) → (1 ≤ y) × (j : ℕ) × (j < slots) × (idOf (at (set zs i x) j) ≡ y)
       go (yes q) = (omega (arith, m .low), i, m .place, here (m .new) (subst (λ (w : ℕ). joinedBy h′ w ≡ true) q e) ∙ sym q)
       go (no n) =
           let b = k .back y (sym (m .others y n .0) ∙ e) in
-          let apart : b .1 ≢ i = λ q. let f = subst (λ (w : ℕ). at zs w .id ≡ y) q (b .3) in ⊎-elim (λ o. absurd (omega (arith, b .0))) (λ o. n (sym f ∙ o)) (m .mine) in
-          (b .0, b .1, b .2, ap (λ (v : Zone). v .id) (at-other (b .1) apart) ∙ b .3)
+          let apart : b .1 ≢ i = λ q. let f = subst (λ (w : ℕ). idOf (at zs w) ≡ y) q (b .3) in ⊎-elim (λ o. absurd (omega (arith, b .0))) (λ o. n (sym f ∙ o)) (m .mine) in
+          (b .0, b .1, b .2, ap idOf (at-other (b .1) apart) ∙ b .3)
 
-  set-one : (a b : ℕ) → a < slots → b < slots → 1 ≤ at (set zs i x) a .id → at (set zs i x) a .id ≡ at (set zs i x) b .id → a ≡ b
+  set-one : (a b : ℕ) → a < slots → b < slots → 1 ≤ idOf (at (set zs i x) a) → idOf (at (set zs i x) a) ≡ idOf (at (set zs i x) b) → a ≡ b
   set-one a b p q = go (ℕ-discrete a i) (ℕ-discrete b i)
     where
-      go : Dec (a ≡ i) → Dec (b ≡ i) → 1 ≤ at (set zs i x) a .id → at (set zs i x) a .id ≡ at (set zs i x) b .id → a ≡ b
+      go : Dec (a ≡ i) → Dec (b ≡ i) → 1 ≤ idOf (at (set zs i x) a) → idOf (at (set zs i x) a) ≡ idOf (at (set zs i x) b) → a ≡ b
       go (yes e) (yes f) = λ l g. e ∙ sym f
       go (no e) (no f) = rw (at-other a e, at-other b f) (k .one a b p q)
       go (yes e) (no f) = rw (e, at-set, at-other b f) (λ l g. absurd (f (m .alone b q (sym g ∙ new-id l))))
@@ -150,29 +154,29 @@ pub same-log : (s : Settings) (zs : List Zone) (h h′ : Log) → ((y : ℕ) →
 same-log s zs h h′ o k =
     record {
       size = k .size;
-      there = λ i p q. let t = k .there i p q in let w = o (at zs i .id) in record { told = w .0 ∙ t .told; whole = t .whole ∙ sym (w .1); low = t .low };
+      there = λ i p q. let t = k .there i p q in let w = o (idOf (at zs i)) in record { told = w .0 ∙ t .told; whole = t .whole ∙ sym (w .1) };
       back = λ z e. k .back z (sym (o z .0) ∙ e);
       one = k .one;
     }
 
 -- THE HISTORY'S LIST OF ZONES
 pub record Listed (s : Settings) (h : Log) (n : ℕ) (x : Zone) : Type 0 where
-  pub low : 1 ≤ x .id
-  pub high : x .id ≤ n
-  pub told : joinedBy h (x .id) ≡ true
-  pub whole : x ≡ recordBy s h (x .id)
+  pub low : 1 ≤ idOf x
+  pub high : idOf x ≤ n
+  pub told : joinedBy h (idOf x) ≡ true
+  pub whole : x ≡ recordBy s h (idOf x)
 
-pub mem-listed : (s : Settings) (h : Log) (n : ℕ) (x : Zone) → List·Memᴰ x (zonesTo s h n) → Listed s h n x
+pub mem-listed : (s : Settings) (h : Log) (n : ℕ) → n ≤ 255 → (x : Zone) → List·Memᴰ x (zonesTo s h n) → Listed s h n x
 unfolding zonesTo
-mem-listed s h zero x m = absurd (List·Memᴰ·not-nil m)
-mem-listed s h (suc n) x m = go (joinedBy h (suc n)) refl m (mem-listed s h n x)
+mem-listed s h zero b x m = absurd (List·Memᴰ·not-nil m)
+mem-listed s h (suc n) b x m = go (joinedBy h (suc n)) refl m (mem-listed s h n (omega arith) x)
   where
     wider : Listed s h n x → Listed s h (suc n) x
     wider l = record { low = l .low; high = omega (arith, l .high); told = l .told; whole = l .whole }
 
     here : joinedBy h (suc n) ≡ true → x ≡ recordBy s h (suc n) → Listed s h (suc n) x
     here j e =
-        let i : x .id ≡ suc n = ap (λ (v : Zone). v .id) e ∙ record-id s h (suc n) in
+        let i : idOf x ≡ suc n = ap idOf e ∙ record-id s h (suc n) b in
         record { low = omega arith; high = omega arith; told = subst (λ (y : ℕ). joinedBy h y ≡ true) (sym i) j; whole = subst (λ (y : ℕ). x ≡ recordBy s h y) (sym i) e }
 
     go : (b : Bool) → joinedBy h (suc n) ≡ b → List·Memᴰ x (cond b (recordBy s h (suc n) ∷ zonesTo s h n) (zonesTo s h n)) → (List·Memᴰ x (zonesTo s h n) → Listed s h n x) → Listed s h (suc n) x
@@ -191,35 +195,35 @@ listed-mem s h (suc n) z e a b = go (joinedBy h (suc n)) refl (ℕ-discrete z (s
     go false j (yes q) ih = never (sym j ∙ subst (λ (y : ℕ). joinedBy h y ≡ true) q e)
     go false j (no q) ih = ih (omega arith)
 
-pub isJoined-low : (x : Zone) → isJoined x ≡ true → 1 ≤ x .id
+pub isJoined-low : (x : Zone) → isJoined x ≡ true → 1 ≤ idOf x
 unfolding isJoined
-isJoined-low x e = go (x .id) e
+isJoined-low x e = go (idOf x) e
   where
     go : (n : ℕ) → mathlib.Core.Bool.not (eqb n 0) ≡ true → 1 ≤ n
     go zero e = never e
     go (suc n) e = omega arith
 
-low-isJoined : (x : Zone) → 1 ≤ x .id → isJoined x ≡ true
+low-isJoined : (x : Zone) → 1 ≤ idOf x → isJoined x ≡ true
 unfolding isJoined
-low-isJoined x p = rw (ne-eqb (x .id) 0 (λ e. omega arith))
+low-isJoined x p = rw (ne-eqb (idOf x) 0 (λ e. omega arith))
 
-pub listed-joined : (s : Settings) (h : Log) (n : ℕ) (x : Zone) → List·Memᴰ x (zonesTo s h n) → isJoined x ≡ true
-listed-joined s h n x m = low-isJoined x (mem-listed s h n x m .low)
+pub listed-joined : (s : Settings) (h : Log) (n : ℕ) → n ≤ 255 → (x : Zone) → List·Memᴰ x (zonesTo s h n) → isJoined x ≡ true
+listed-joined s h n b x m = low-isJoined x (mem-listed s h n b x m .low)
 
 -- the slots' zones and the history's are the same
 module _ (s : Settings) (zs : List Zone) (h : Log) (k : Same s zs h) where
   pub slots-within : Within zs (zonesBy s h)
   slots-within = record { has = λ x j m. let r = mem-getD zs x freeZone m in go x (r .2) (k .there (r .0) (omega (arith, r .1, k .size))) (isJoined-low x j) }
     where
-      go : (x : Zone) {y : Zone} → y ≡ x → (1 ≤ y .id → There s h y) → 1 ≤ x .id → List·Memᴰ x (zonesBy s h)
+      go : (x : Zone) {y : Zone} → y ≡ x → (1 ≤ idOf y → There s h y) → 1 ≤ idOf x → List·Memᴰ x (zonesBy s h)
       go x e t l =
-          let q = subst (λ (v : Zone). There s h v) e (t (omega (arith, ap (λ (v : Zone). v .id) e))) in
-          Memᴰ·cast (q .whole) (listed-mem s h 255 (x .id) (q .told) l (q .low))
+          let q = subst (λ (v : Zone). There s h v) e (t (omega (arith, ap idOf e))) in
+          Memᴰ·cast (q .whole) (listed-mem s h 255 (idOf x) (q .told) l (id-high x))
 
   pub history-within : Within (zonesBy s h) zs
-  history-within = record { has = λ x j m. let l = mem-listed s h 255 x m in let b = k .back (x .id) (l .told) in go x l (b .1) (b .2) (b .3) }
+  history-within = record { has = λ x j m. let l = mem-listed s h 255 (omega arith) x m in let b = k .back (idOf x) (l .told) in go x l (b .1) (b .2) (b .3) }
     where
-      go : (x : Zone) → Listed s h 255 x → (i : ℕ) → i < slots → at zs i .id ≡ x .id → List·Memᴰ x zs
+      go : (x : Zone) → Listed s h 255 x → (i : ℕ) → i < slots → idOf (at zs i) ≡ idOf x → List·Memᴰ x zs
       go x l i p e =
           let t = k .there i p (omega (arith, l .low)) in
           Memᴰ·cast (l .whole ∙ ap (recordBy s h) (sym e) ∙ sym (t .whole)) (getD-mem zs i freeZone (omega (arith, k .size)))
@@ -229,7 +233,7 @@ module _ (s : Settings) (zs : List Zone) (h : Log) (k : Same s zs h) where
   slots-one x y m n j e =
       let a = mem-getD zs x freeZone m in
       let b = mem-getD zs y freeZone n in
-      let ai : at zs (a .0) .id ≡ x .id = ap (λ (v : Zone). v .id) (a .2) in
-      let bi : at zs (b .0) .id ≡ y .id = ap (λ (v : Zone). v .id) (b .2) in
+      let ai : idOf (at zs (a .0)) ≡ idOf x = ap idOf (a .2) in
+      let bi : idOf (at zs (b .0)) ≡ idOf y = ap idOf (b .2) in
       let i = k .one (a .0) (b .0) (omega (arith, a .1, k .size)) (omega (arith, b .1, k .size)) (omega (arith, isJoined-low x j)) (ai ∙ e ∙ sym bi) in
       sym (a .2) ∙ ap (at zs) i ∙ b .2

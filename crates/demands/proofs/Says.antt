@@ -11,7 +11,7 @@ use Rattle.device.specs.declared.Held.{Held}
 use Rattle.device.specs.declared.Settings.{Settings}
 use Rattle.device.specs.declared.Action.{Action}
 use Rattle.device.specs.Sizes.{helds}
-use Rattle.device.specs.Zones.{upTo, nothing, newZone, linked, heldOf}
+use Rattle.device.specs.Zones.{upTo, nothing, seatOf, newZone, linked, heldOf}
 use Rattle.device.specs.Commands.{action, untilOf, durationOf, done, obeyed}
 use Rattle.demands.specs.History.{Told, joins, leaves, links, commands, overrides, passes, Log, newest, of, saysJoined, saysRank, saysUp, said, saysHeld, joinedBy, upBy, heldBy, recordBy, about}
 use Rattle.device.proofs.Runs.{length-upTo, getD-upTo, upTo-cong}
@@ -47,7 +47,7 @@ record-other s h z t e p =
     let r = passed-over (saysRank z) 0 h t e (n .rank) in
     let u = passed-over (saysUp z) false h t e (n .up) in
     let l = upTo-cong (λ q. newest (saysHeld s z q) nothing ((t, e) ∷ h)) (λ q. newest (saysHeld s z q) nothing h) helds (λ q k. passed-over (saysHeld s z q) nothing h t e (n .held s q)) in
-    λ i. record { id = z; rank = r i; up = u i; held = l i }
+    λ i. record { seat = seatOf z (r i); up = u i; held = l i }
 
 -- a call of zone z
 pub joined-join : (h : Log) (z t k : ℕ) → joinedBy ((t, joins z k) ∷ h) z ≡ true
@@ -93,7 +93,7 @@ unfolding recordBy upBy newest of saysRank saysUp obeyed
 record-command s h z t c =
     let l = upTo-cong (heldBy s ((t, commands z c) ∷ h) z) (λ q. done (action s c q) (untilOf t (durationOf c)) (heldOf (recordBy s h z) q)) helds
     (λ q k. held-command s h z t q c ∙ ap (done (action s c q) (untilOf t (durationOf c))) (sym (held-of s h z q k))) in
-    λ i. record { id = z; rank = newest (saysRank z) 0 h; up = newest (saysUp z) false h; held = l i }
+    λ i. record { seat = seatOf z (newest (saysRank z) 0 h); up = newest (saysUp z) false h; held = l i }
 
 pub record-size : (s : Settings) (h : Log) (z : ℕ) → length (recordBy s h z .held) ≡ helds
 unfolding recordBy

@@ -10,7 +10,7 @@ use Rattle.device.specs.declared.Zone.{Zone}
 use Rattle.device.specs.declared.Settings.{Settings}
 use Rattle.device.specs.declared.Action.{Action}
 use Rattle.device.specs.Sizes.{helds}
-use Rattle.device.specs.Zones.{upTo, nothing}
+use Rattle.device.specs.Zones.{upTo, nothing, seatOf}
 use Rattle.device.specs.Holds.{Situation}
 use Rattle.device.specs.Calls.{sinceAfter}
 use Rattle.device.specs.Commands.{action, untilOf, durationOf}
@@ -121,7 +121,7 @@ unfoldable pub heldBy : Settings → Log → ℕ → ℕ → Held
 heldBy s h z q = newest (saysHeld s z q) nothing h
 
 unfoldable pub recordBy : Settings → Log → ℕ → Zone
-recordBy s h z = record { id = z; rank = newest (saysRank z) 0 h; up = upBy h z; held = upTo (heldBy s h z) helds }
+recordBy s h z = record { seat = seatOf z (newest (saysRank z) 0 h); up = upBy h z; held = upTo (heldBy s h z) helds }
 
 -- the joined zones of ids 1 to n, "id 1 to 255"
 unfoldable pub zonesTo : Settings → Log → ℕ → List Zone

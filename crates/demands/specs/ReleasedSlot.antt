@@ -10,7 +10,7 @@ use Rattle.device.specs.declared.Zone.{Zone}
 use Rattle.device.specs.declared.Settings.{Settings}
 use Rattle.device.specs.declared.Action.{Action}
 use Rattle.device.specs.Sizes.{slots, helds}
-use Rattle.device.specs.Zones.{nothing, isJoined, heldOf}
+use Rattle.device.specs.Zones.{idOf, nothing, isJoined, heldOf}
 use Rattle.device.specs.Words.{zoneAt}
 use Rattle.device.specs.Commands.{action, untilOf, durationOf}
 use Rattle.demands.specs.Run.{Call, run}
@@ -43,10 +43,10 @@ pub record SetTogether (s : Settings) (h : Log) (z q : ℕ) (x : Held) : Type 0 
 pub record ReleasedSlot (s : Settings) (calls : List Call) : Type 0 where
   -- the whole record in a slot that a zone has (rank, link, each value with its end) is said by that zone's own calls since it last joined
   pub own : (i : ℕ) → i < slots → (x : Zone) → x ≡ zoneAt (run s calls) i → isJoined x ≡ true
-      → x ≡ recordBy (startedWith s) (ownSince (x .id) (history s calls)) (x .id)
+      → x ≡ recordBy (startedWith s) (ownSince (idOf x) (history s calls)) (idOf x)
   -- a value stands beside the end that the same command of the same zone gave it
   pub together : (i q : ℕ) → i < slots → q < helds → (x : Zone) → x ≡ zoneAt (run s calls) i → isJoined x ≡ true
-      → (heldOf x q ≡ nothing) ⊎ SetTogether (startedWith s) (ownSince (x .id) (history s calls)) (x .id) q (heldOf x q)
+      → (heldOf x q ≡ nothing) ⊎ SetTogether (startedWith s) (ownSince (idOf x) (history s calls)) (idOf x) q (heldOf x q)
   -- whatever other zones did, and whichever slot was free: after any other calls that have the same ones of zone z, its record is the same
-  pub alike : (others : List Call) (i j z : ℕ) → i < slots → j < slots → 0 < z → zoneAt (run s calls) i .id ≡ z → zoneAt (run s others) j .id ≡ z
+  pub alike : (others : List Call) (i j z : ℕ) → i < slots → j < slots → 0 < z → idOf (zoneAt (run s calls) i) ≡ z → idOf (zoneAt (run s others) j) ≡ z
       → ownSince z (history s calls) ≡ ownSince z (history s others) → zoneAt (run s calls) i ≡ zoneAt (run s others) j

@@ -1,12 +1,11 @@
--- "Goes before" is an order: no claim goes before itself, and what goes before the former goes before the latter.
+-- "Goes before" is an order: no claim goes before itself, of two at most one goes before the other, and "not before" is transitive.
 use Prim.Native.Nat.{ℕ, _<_, _≤_}
 use mathlib.Core.Bool.{Bool, true, false, cond, _&&_, _||_}
 use mathlib.Core.Path.{_≡_, refl, sym}
 use native.Mathlib.Omega.{arith}
 use borrow.Author.Tests.{le-ltb, ltb-true, ltb-false, eqb-true, eqb-false}
 use lib.Dec.{ltb, eqb}
-use Rattle.device.specs.Holds.{isLimit, goesBefore}
-use Rattle.device.specs.declared.Claim.{Claim}
+use Rattle.device.specs.Holds.{isLimit, Claim, goesBefore}
 
 pub never : true ≡ false → ⊥
 never e = let z : _≡_ {A = ℕ} 0 1 = cc in omega arith
@@ -57,18 +56,29 @@ module _ (q : ℕ) where
       go true = le-ltb (a .value) (a .value) (omega arith)
       go false = earlier-self (a .rank) (a .id)
 
-  -- b goes before a: what does not go before a does not go before b
-  pub before-trans : (y a b : Claim) → goesBefore q b a ≡ true → goesBefore q y a ≡ false → goesBefore q y b ≡ false
+  -- of two claims at most one goes before the other
+  pub before-asym : (a b : Claim) → goesBefore q a b ≡ true → goesBefore q b a ≡ false
   unfolding goesBefore
-  before-trans y a b = go (isLimit q)
+  before-asym a b = go (isLimit q)
     where
-      go : (l : Bool) → cond l (ltb (b .value) (a .value)) (earlier (b .rank) (b .id) (a .rank) (a .id)) ≡ true → cond l (ltb (y .value) (a .value)) (earlier (y .rank) (y .id) (a .rank) (a .id)) ≡ false → cond l (ltb (y .value) (b .value)) (earlier (y .rank) (y .id) (b .rank) (b .id)) ≡ false
-      go true e f = le-ltb (y .value) (b .value) (omega (arith, ltb-true (b .value) (a .value) e, ltb-false (y .value) (a .value) f))
+      go : (l : Bool) → cond l (ltb (a .value) (b .value)) (earlier (a .rank) (a .id) (b .rank) (b .id)) ≡ true → cond l (ltb (b .value) (a .value)) (earlier (b .rank) (b .id) (a .rank) (a .id)) ≡ false
+      go true e = le-ltb (b .value) (a .value) (omega (arith, ltb-true (a .value) (b .value) e))
+      go false e =
+          let p : (a .rank ≤ b .rank) × (a .rank ≡ b .rank → a .id < b .id) = is-earlier (a .rank) (a .id) (b .rank) (b .id) e in
+          is-not-earlier (b .rank) (b .id) (a .rank) (a .id) (p .0) (λ h. let u : a .id < b .id = p .1 (sym h) in omega arith)
+
+  -- y does not go before a, nor a before b: y does not go before b
+  pub not-before-trans : (y a b : Claim) → goesBefore q y a ≡ false → goesBefore q a b ≡ false → goesBefore q y b ≡ false
+  unfolding goesBefore
+  not-before-trans y a b = go (isLimit q)
+    where
+      go : (l : Bool) → cond l (ltb (y .value) (a .value)) (earlier (y .rank) (y .id) (a .rank) (a .id)) ≡ false → cond l (ltb (a .value) (b .value)) (earlier (a .rank) (a .id) (b .rank) (b .id)) ≡ false → cond l (ltb (y .value) (b .value)) (earlier (y .rank) (y .id) (b .rank) (b .id)) ≡ false
+      go true e f = le-ltb (y .value) (b .value) (omega (arith, ltb-false (y .value) (a .value) e, ltb-false (a .value) (b .value) f))
       go false e f =
-          let p : (b .rank ≤ a .rank) × (b .rank ≡ a .rank → b .id < a .id) = is-earlier (b .rank) (b .id) (a .rank) (a .id) e in
-          let r : (a .rank ≤ y .rank) × (y .rank ≡ a .rank → a .id ≤ y .id) = not-earlier (y .rank) (y .id) (a .rank) (a .id) f in
+          let p : (a .rank ≤ y .rank) × (y .rank ≡ a .rank → a .id ≤ y .id) = not-earlier (y .rank) (y .id) (a .rank) (a .id) e in
+          let r : (b .rank ≤ a .rank) × (a .rank ≡ b .rank → b .id ≤ a .id) = not-earlier (a .rank) (a .id) (b .rank) (b .id) f in
           is-not-earlier (y .rank) (y .id) (b .rank) (b .id) (omega arith)
           (λ h.
-          let u : b .id < a .id = p .1 (omega arith) in
-          let w : a .id ≤ y .id = r .1 (omega arith) in
+          let u : a .id ≤ y .id = p .1 (omega arith) in
+          let w : b .id ≤ a .id = r .1 (omega arith) in
           omega arith)

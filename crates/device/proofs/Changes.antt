@@ -1,19 +1,20 @@
 -- The change of a call, as the code makes it: the second since which no link is up is moved only where the last one goes.
 use Prim.Native.Nat.{ℕ, _<_}
-use mathlib.Core.Bool.{Bool, true, false, cond}
-use mathlib.Core.Path.{_≡_}
+use mathlib.Core.Bool.{Bool, true, false, cond, not, _&&_, _||_}
+use mathlib.Core.Path.{_≡_, refl}
 use mathlib.Core.List.{List}
-use native.Mathlib.Decide.{decLt}
 use native.Mathlib.Omega.{arith}
-use borrow.Author.Tests.{lt-leb, ne-eqb}
+use borrow.Author.Tests.{leb-true, ne-eqb}
+use lib.Dec.{leb}
 use lib.ListN.{getD, set}
 use Rattle.device.specs.Sizes.{slots}
-use Rattle.device.specs.Zones.{freeZone, newZone, linked, isJoined, isUp, slotOf, joined}
+use Rattle.device.specs.Zones.{idOf, freeZone, newZone, linked, isJoined, isUp, slotOf, joined}
 use Rattle.device.specs.Words.{sinceOf, overrideOf, zonesOf}
 use Rattle.device.specs.Calls.{sinceAfter, zoneChange, badJoin}
 use Rattle.device.specs.declared.Zone.{Zone}
+use Rattle.device.proofs.Before.{never}
 use Rattle.device.proofs.Since.{since-up, since-down}
-use Rattle.device.proofs.Slots.{slot-id, joined-above, joined-below}
+use Rattle.device.proofs.Slots.{new-id, slot-id, joined-above, joined-below}
 use Rattle.device.proofs.Lens.{zones-length}
 
 -- a change of a zone that is up afterwards, and of one that is down
@@ -26,22 +27,28 @@ module _ (ws : List ℕ) (t i : ℕ) (x : Zone) where
   unfolding zoneChange
   down-change e = rw (since-down (zonesOf ws) i t (sinceOf ws) x e)
 
--- a zone that may join has a number, and is up once it has joined
-pub join-above : (z k : ℕ) → badJoin z k ≡ false → 0 < z
+-- a zone that may join has an id and a rank in range, and is up once it has joined
+pub join-range : (z k : ℕ) → badJoin z k ≡ false → (0 < z) × (z < 256) × (k < 5)
 unfolding badJoin
-join-above z k e = elim (decLt 0 z) [ yes h ↦ h | no h ↦ absurd (apart (rw (lt-leb 1 z (omega arith)) at e)) ]
+join-range z k = go (leb 1 z) (leb z 255) (leb 1 k) (leb k 4) refl refl refl
   where
-    apart : true ≡ false → ⊥
-    apart q = let n : _≡_ {A = ℕ} 0 1 = cc in omega arith
+    go : (a b c d : Bool) → leb 1 z ≡ a → leb z 255 ≡ b → leb k 4 ≡ d → (not (a && b) || not (c && d)) ≡ false → (0 < z) × (z < 256) × (k < 5)
+    go true true true true e f g n = (omega (arith, leb-true 1 z e), omega (arith, leb-true z 255 f), omega (arith, leb-true k 4 g))
+    go true true true false e f g n = absurd (never n)
+    go true true false d e f g n = absurd (never n)
+    go true false c d e f g n = absurd (never n)
+    go false b c d e f g n = absurd (never n)
 
 pub join-up : (z k : ℕ) → badJoin z k ≡ false → isUp (newZone z k) ≡ true
 unfolding isUp isJoined
-join-up z k e = let h : 0 < z = join-above z k e in rw (ne-eqb z 0 (λ q. omega arith))
+join-up z k e =
+    let r : (0 < z) × (z < 256) × (k < 5) = join-range z k e in
+    rw (new-id z k (r .1), ne-eqb z 0 (λ q. omega (arith, r .0)))
 
 -- a joined zone's link, told: x is the record of its slot i
 module _ (ws : List ℕ) (t i : ℕ) (x : Zone) (j : isJoined x ≡ true) where
   pub link-change : (u : Bool) → zoneChange ws t i (linked x u) ≡ record { time = t; slot = i; zone = linked x u; since = cond u (sinceOf ws) (sinceAfter (zonesOf ws) (set (zonesOf ws) i freeZone) t (sinceOf ws)); overridden = overrideOf ws }
-  unfolding isUp isJoined
+  unfolding isUp isJoined idOf
   link-change true = up-change ws t i (linked x true) (rw j)
   link-change false = down-change ws t i (linked x false) (rw j)
 

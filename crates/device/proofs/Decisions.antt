@@ -7,12 +7,13 @@ use native.Mathlib.Omega.{arith}
 use borrow.Author.Tests.{ltb-true, eq-eqb, ne-eqb, eqb-true, eqb-false}
 use lib.Dec.{ltb, eqb}
 use lib.ListN.{length, getD}
+use lib.Seq.{set-out}
 use Rattle.messages.specs.declared.Command.{Command}
 use Rattle.messages.specs.declared.Outcome.{Outcome}
 use Rattle.device.specs.Sizes.{helds, slots, words}
-use Rattle.device.specs.Zones.{freeZone, isJoined, isUp, slotOf, joined, zoneOf}
+use Rattle.device.specs.Zones.{idOf, freeZone, isJoined, isUp, slotOf, joined, zoneOf}
 use Rattle.device.specs.Words.{clockOf, sinceOf, overrideOf, settingsOf, zonesOf, applied, after}
-use Rattle.device.specs.Holds.{situationOf, withZone}
+use Rattle.device.specs.Holds.{situationOf, withZone, valuesAt}
 use Rattle.device.specs.Refusals.{firstOf, late}
 use Rattle.device.specs.Calls.{zoneChange}
 use Rattle.device.specs.Commands.{isUnserved, commandTests, commandNumber, obeyed, commandAfter, commandAnswer, decisionOf, outcomeFor, enacted}
@@ -20,11 +21,15 @@ use Rattle.device.specs.declared.Zone.{Zone}
 use Rattle.device.specs.declared.Change.{Change}
 use Rattle.device.specs.declared.Decision.{Decision}
 use Rattle.device.proofs.Runs.{length-upTo}
+use Rattle.device.proofs.Lens.{zones-length}
 use Rattle.device.proofs.Effects.{applied-settings, applied-zones, applied-since, applied-override}
 use Rattle.device.proofs.Slots.{seat, seat-joined, seat-slot}
 use Rattle.device.proofs.Answered.{refusal-keeps}
 use Rattle.device.proofs.Changes.{up-change, joined-there}
-use Rattle.device.proofs.Gather.{with-none}
+
+-- no slot: as it stands
+with-none : (ws : List ℕ) (x : Zone) (t : ℕ) → valuesAt (withZone (situationOf ws) slots x) t ≡ valuesAt (situationOf ws) t
+with-none ws x t = rw (set-out (zonesOf ws) slots x (omega (arith, zones-length ws)))
 
 -- what a zone may command is up: the third and fourth tests
 passed : (a b there up : Bool) (n : ℕ) → cond a 4 (cond b 5 (cond (not there) 9 (cond (not up) 10 n))) ≡ 0 → (there ≡ true) × (up ≡ true)
@@ -78,7 +83,7 @@ module _ (ws : List ℕ) (z t : ℕ) (c : Command) where
 
   -- its link is up before and after, so the second since which none is up stays
   same-change : commandNumber ws z t c ≡ 0 → zoneChange ws t (slotOf (zonesOf ws) z) obeying ≡ stored
-  unfolding isUp isJoined zoneOf obeyed
+  unfolding isUp isJoined idOf zoneOf obeyed
   same-change m =
       up-change ws t (slotOf (zonesOf ws) z) obeying (rw (joined-there ws z (may-command m .0)) (may-command m .1))
 

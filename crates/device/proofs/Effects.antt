@@ -9,6 +9,8 @@ use lib.Seq.{getD-set-same, getD-set-other, ext-getD}
 use Rattle.device.specs.Sizes.{helds, slots, headSize, words}
 use Rattle.device.specs.Zones.{upTo, freeZone}
 use Rattle.device.specs.Words.{clockOf, sinceOf, overrideOf, settingsOf, heldIn, zoneAt, zonesOf, putZone, applied, settingWords, fresh}
+use Rattle.device.specs.Holds.{situationOf, withZone}
+use Rattle.device.specs.declared.Zone.{Zone}
 use Rattle.device.specs.declared.Settings.{Settings}
 use Rattle.device.specs.declared.Change.{Change}
 use Rattle.device.proofs.HeldWords.{bit-back}
@@ -47,22 +49,26 @@ applied-rest : (ws : List ℕ) (c : Change) (k : ℕ) → 3 ≤ k → k < headSi
 unfolding applied
 applied-rest ws c k lo hi = head-rest (putZone ws (c .slot) (c .zone)) (c .since) (c .overridden) (c .time) k lo ∙ head-kept ws (c .slot) (c .zone) k hi
 
+-- settings hang on the rest of the head alone
+settings-cong : (vs ws : List ℕ) → ((k : ℕ) → 3 ≤ k → k < headSize → getD vs k 0 ≡ getD ws k 0) → settingsOf vs ≡ settingsOf ws
+unfolding settingsOf
+settings-cong vs ws same =
+    rw (
+      same 3 (omega arith) (omega arith),
+      same 4 (omega arith) (omega arith),
+      same 5 (omega arith) (omega arith),
+      same 6 (omega arith) (omega arith),
+      same 7 (omega arith) (omega arith),
+      same 8 (omega arith) (omega arith),
+      same 9 (omega arith) (omega arith),
+      same 10 (omega arith) (omega arith),
+      same 11 (omega arith) (omega arith),
+      same 12 (omega arith) (omega arith),
+    )
+
 -- "settings that then stay"
 pub applied-settings : (ws : List ℕ) (c : Change) → settingsOf (applied ws c) ≡ settingsOf ws
-unfolding settingsOf
-applied-settings ws c =
-    rw (
-      applied-rest ws c 3 (omega arith) (omega arith),
-      applied-rest ws c 4 (omega arith) (omega arith),
-      applied-rest ws c 5 (omega arith) (omega arith),
-      applied-rest ws c 6 (omega arith) (omega arith),
-      applied-rest ws c 7 (omega arith) (omega arith),
-      applied-rest ws c 8 (omega arith) (omega arith),
-      applied-rest ws c 9 (omega arith) (omega arith),
-      applied-rest ws c 10 (omega arith) (omega arith),
-      applied-rest ws c 11 (omega arith) (omega arith),
-      applied-rest ws c 12 (omega arith) (omega arith),
-    )
+applied-settings ws c = settings-cong (applied ws c) ws (applied-rest ws c)
 
 module _ (ws : List ℕ) (c : Change) (n : length ws ≡ words) where
   three : 3 ≤ length (putZone ws (c .slot) (c .zone))

@@ -5,7 +5,7 @@ use native.Mathlib.Nat.{min-eq-left}
 use lib.ListN.{getD}
 use Rattle.messages.specs.declared.Command.{Command}
 use Rattle.device.specs.Sizes.{helds, most}
-use Rattle.device.specs.Zones.{nothing, isJoined, heldOf}
+use Rattle.device.specs.Zones.{idOf, rankOf, nothing, isJoined, heldOf}
 use Rattle.device.specs.Holds.{claimOf}
 use Rattle.device.specs.Commands.{action, durationOf, untilOf, done, obeyed}
 use Rattle.device.specs.Table.{endOf, Expiry}
@@ -24,8 +24,8 @@ module _ (s : Settings) (c : Command) (x : Zone) where
   obeyed-held n q h = getD-upTo (λ k. done (action s c k) (untilOf n (durationOf c)) (getD (x .held) k nothing)) helds q nothing h
 
   -- and nothing else of its record is moved
-  kept : (n : ℕ) → (isJoined (obeyed s c n x) ≡ isJoined x) × (obeyed s c n x .rank ≡ x .rank) × (obeyed s c n x .id ≡ x .id)
-  unfolding obeyed isJoined
+  kept : (n : ℕ) → (isJoined (obeyed s c n x) ≡ isJoined x) × (rankOf (obeyed s c n x) ≡ rankOf x) × (idOf (obeyed s c n x) ≡ idOf x)
+  unfolding obeyed isJoined rankOf idOf
   kept n = (refl, refl, refl)
 
   pub expiry : Expiry s c x

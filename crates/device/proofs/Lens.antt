@@ -36,9 +36,8 @@ zone-cong vs ws j same =
     rw (
       same (base j) (omega arith) (omega arith),
       same (base j + 1) (omega arith) (omega arith),
-      same (base j + 2) (omega arith) (omega arith),
-      upTo-cong (heldIn vs (base j + 3)) (heldIn ws (base j + 3)) helds
-          (λ q h. rw (same (base j + 3 + 2 * q) (omega arith) (omega arith), same (base j + 3 + 2 * q + 1) (omega arith) (omega arith))),
+      upTo-cong (heldIn vs (base j + 2)) (heldIn ws (base j + 2)) helds
+          (λ q h. rw (same (base j + 2 + 2 * q) (omega arith) (omega arith), same (base j + 2 + 2 * q + 1) (omega arith) (omega arith))),
     )
 
 pub put-length : (ws : List ℕ) (i : ℕ) (x : Zone) → length (putZone ws i x) ≡ length ws
@@ -81,13 +80,12 @@ module _ (ws : List ℕ) (i : ℕ) (x : Zone) (n : length ws ≡ words) (full : 
       rw (
         sets-in (zoneWords x) ws (base i) 0 (base i) 0 (omega arith) (omega arith) (omega arith),
         sets-in (zoneWords x) ws (base i) 1 (base i + 1) 0 (omega arith) (omega arith) (omega arith),
-        sets-in (zoneWords x) ws (base i) 2 (base i + 2) 0 (omega arith) (omega arith) (omega arith),
         bit-back (x .up),
-        upTo-list (heldIn (sets ws (base i) (zoneWords x)) (base i + 3)) helds (x .held) nothing full
+        upTo-list (heldIn (sets ws (base i) (zoneWords x)) (base i + 2)) helds (x .held) nothing full
             (λ q k.
             rw (
-              sets-in (zoneWords x) ws (base i) (suc (suc (suc (2 * q)))) (base i + 3 + 2 * q) 0 (omega arith) (omega arith) (omega arith),
-              sets-in (zoneWords x) ws (base i) (suc (suc (suc (2 * q + 1)))) (base i + 3 + 2 * q + 1) 0 (omega arith) (omega arith) (omega arith),
+              sets-in (zoneWords x) ws (base i) (suc (suc (2 * q))) (base i + 2 + 2 * q) 0 (omega arith) (omega arith) (omega arith),
+              sets-in (zoneWords x) ws (base i) (suc (suc (2 * q + 1))) (base i + 2 + 2 * q + 1) 0 (omega arith) (omega arith) (omega arith),
               held-value (x .held) q (2 * q) refl,
               held-until (x .held) q (2 * q + 1) refl,
             )),

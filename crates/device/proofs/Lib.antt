@@ -7,6 +7,7 @@ pub mod Lens
 pub mod Stores
 pub mod Effects
 pub mod Since
+pub mod LinkRow
 pub mod Slots
 pub mod Answered
 pub mod Changes
@@ -14,10 +15,12 @@ pub mod FirstOf
 pub mod Rooms
 pub mod Fills
 pub mod Ends
-pub mod Gather
 pub mod Signs
 pub mod Decisions
 pub mod Before
 pub mod Winner
 pub mod Rows
 pub mod Expiry
+pub mod Claims
+pub mod Shows
+pub mod Placed

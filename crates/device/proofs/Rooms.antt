@@ -19,8 +19,8 @@ use Rattle.device.specs.declared.Zone.{Zone}
 use Rattle.device.proofs.Runs.{length-upTo}
 use Rattle.device.proofs.Lens.{zones-length}
 use Rattle.device.proofs.Effects.{applied-zones}
-use Rattle.device.proofs.Slots.{joined-below, unjoined, slot-new}
-use Rattle.device.proofs.Changes.{join-above}
+use Rattle.device.proofs.Slots.{new-id, joined-below, unjoined, slot-new}
+use Rattle.device.proofs.Changes.{join-range}
 use Rattle.device.proofs.FirstOf.{accepted-exactly}
 
 module _ (ws : List ℕ) (size : length ws ≡ words) where
@@ -61,8 +61,8 @@ module _ (ws : List ℕ) (size : length ws ≡ words) where
   unfolding joinAfter after zoneChange
   joiner-slot z k t e =
       rw (e, applied-zones ws (zoneChange ws t (slotOf (zonesOf ws) 0) (newZone z k)) size refl)
-      (slot-new (zonesOf ws) z (slotOf (zonesOf ws) 0) (newZone z k) (rw (zones-length ws) (join-passed z k t e .2)) refl
-      (rw (zones-length ws) (unjoined (zonesOf ws) z (join-above z k (join-passed z k t e .0)) (join-passed z k t e .1))))
+      (slot-new (zonesOf ws) z (slotOf (zonesOf ws) 0) (newZone z k) (rw (zones-length ws) (join-passed z k t e .2)) (new-id z k (join-range z k (join-passed z k t e .0) .1))
+      (rw (zones-length ws) (unjoined (zonesOf ws) z (join-range z k (join-passed z k t e .0) .0) (join-passed z k t e .1))))
 
   pub joiner-new : (z k t : ℕ) → joinNumber ws z k t ≡ 0 → zoneOf (zonesOf (joinAfter ws z k t)) z ≡ newZone z k
   unfolding zoneOf

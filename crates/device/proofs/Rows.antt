@@ -11,12 +11,11 @@ use lib.Dec.{ltb, eqb}
 use lib.ListN.{getD}
 use Rattle.messages.specs.Numbers.{AUTONOMOUS, CONTROLLED, LIMITED, FAILSAFE, OVERRIDE}
 use Rattle.messages.specs.declared.Amount.the-variants.{Absent, Is}
-use Rattle.device.specs.Zones.{freeZone, any, isJoined, isUp, anyJoined, anyUp, heldOf}
-use Rattle.device.specs.Holds.{isLimit, directionOf, supports, claimOf, goesBefore, winner, amountOf, Situation, inFailsafe, failsafeValue, valueAt, present, stateAt}
+use Rattle.device.specs.Zones.{idOf, rankOf, freeZone, any, isJoined, isUp, anyJoined, anyUp, heldOf}
+use Rattle.device.specs.Holds.{isLimit, directionOf, supports, Claim, claimOf, goesBefore, winner, amountOf, Situation, inFailsafe, failsafeValue, valueAt, present, stateAt}
 use Rattle.device.specs.Refusals.{firstOf}
 use Rattle.device.specs.Table.{Unexpired, Some, SmallestLimit, NoBetter, BestSetpoint, SomeUp, NoneUp, StateOrder, Table}
 use Rattle.device.specs.declared.Zone.{Zone}
-use Rattle.device.specs.declared.Claim.{Claim}
 use Rattle.device.proofs.Before.{never, not-earlier}
 use Rattle.device.proofs.Winner.{claim-there, wins}
 
@@ -78,11 +77,11 @@ module _ (s : Situation) (t : ℕ) where
           (λ i h u. rw (← b .1) (ltb-false _ _ (rw (l, claim-there t q (getD (s .zones) i freeZone) u) at (wins t q (s .zones) .first i h u)))),
         )
 
-    no-better : (x y : Zone) → (x .rank ≤ y .rank) → (y .rank ≡ x .rank → x .id ≤ y .id) → NoBetter x y
+    no-better : (x y : Zone) → (rankOf x ≤ rankOf y) → (rankOf y ≡ rankOf x → idOf x ≤ idOf y) → NoBetter x y
     no-better x y h f =
-        elim (decLt (x .rank) (y .rank)) [
+        elim (decLt (rankOf x) (rankOf y)) [
           | yes k ↦ inl k
-          | no k ↦ let e : y .rank ≡ x .rank = omega arith in inr (sym e, f e)
+          | no k ↦ let e : rankOf y ≡ rankOf x = omega arith in inr (sym e, f e)
         ]
 
     best-setpoint : isLimit q ≡ false → BestSetpoint s t q
@@ -91,8 +90,8 @@ module _ (s : Situation) (t : ℕ) where
         let b : (best .there ≡ true) × (best .value ≡ v) = value-there v e in
         let w : Some t q (s .zones) (λ x. claimOf t q x ≡ best) = wins t q (s .zones) .held (b .0) in
         let x : Zone = getD (s .zones) (w .0) freeZone in
-        let r : x .rank ≡ best .rank = ap (λ (c : Claim). c .rank) (sym (claim-there t q x (w .2)) ∙ w .3) in
-        let j : x .id ≡ best .id = ap (λ (c : Claim). c .id) (sym (claim-there t q x (w .2)) ∙ w .3) in (
+        let r : rankOf x ≡ best .rank = ap (λ (c : Claim). c .rank) (sym (claim-there t q x (w .2)) ∙ w .3) in
+        let j : idOf x ≡ best .id = ap (λ (c : Claim). c .id) (sym (claim-there t q x (w .2)) ∙ w .3) in (
           w .0,
           w .1,
           w .2,
@@ -100,7 +99,7 @@ module _ (s : Situation) (t : ℕ) where
             same-value x (w .2) (w .3) ∙ b .1,
             λ i h u.
                 let y : Zone = getD (s .zones) i freeZone in
-                let n : (best .rank ≤ y .rank) × (y .rank ≡ best .rank → best .id ≤ y .id) = not-earlier (y .rank) (y .id) (best .rank) (best .id) (rw (l, claim-there t q y u) at (wins t q (s .zones) .first i h u)) in
+                let n : (best .rank ≤ rankOf y) × (rankOf y ≡ best .rank → best .id ≤ idOf y) = not-earlier (rankOf y) (idOf y) (best .rank) (best .id) (rw (l, claim-there t q y u) at (wins t q (s .zones) .first i h u)) in
                 no-better x y (rw r (n .0)) (λ k. rw j (n .1 (k ∙ r))),
           ),
         )

@@ -8,7 +8,7 @@ use native.Mathlib.Nat.{le-of-suc-le-suc, not-suc-le-zero}
 use native.Mathlib.Omega.{arith}
 use lib.ListN.{length, getD, set, length-set, List·getD-eq-default}
 use lib.Seq.{set-out, getD-set-same}
-use Rattle.device.specs.Zones.{freeZone, any, isJoined, isUp, anyUp}
+use Rattle.device.specs.Zones.{idOf, freeZone, any, isJoined, isUp, anyUp}
 use Rattle.device.specs.Calls.{sinceAfter}
 use Rattle.device.specs.declared.Zone.{Zone}
 
@@ -71,12 +71,12 @@ module _ (zs : List Zone) (i t s : ℕ) where
 
   -- a zone that is down counts as a free slot
   pub since-down : (x : Zone) → isUp x ≡ false → sinceAfter zs (set zs i x) t s ≡ sinceAfter zs (set zs i freeZone) t s
-  unfolding sinceAfter anyUp isUp isJoined
+  unfolding sinceAfter anyUp isUp isJoined idOf
   since-down x e = rw (any-alike isUp zs i x freeZone e)
 
   -- the last up zone goes: that second
   pub since-free : sinceAfter zs (set zs i freeZone) t s ≡ cond (isUp (getD zs i freeZone)) (cond (anyUp (set zs i freeZone)) s t) s
-  unfolding sinceAfter anyUp isUp isJoined
+  unfolding sinceAfter anyUp isUp isJoined idOf
   since-free = rw (any-split isUp zs i freeZone refl) (go (isUp (getD zs i freeZone)) (any isUp (set zs i freeZone)))
     where
       go : (a b : Bool) → cond ((a || b) && not b) t s ≡ cond a (cond b s t) s

@@ -9,7 +9,7 @@ use borrow.Author.Tests.{ltb-true, ltb-false, le-ltb, lt-ltb, eqb-true, eq-eqb}
 use lib.Dec.{ltb, eqb}
 use lib.ListN.{length, getD, set}
 use Rattle.device.specs.Sizes.{slots}
-use Rattle.device.specs.Zones.{freeZone, first, slotOf, joined}
+use Rattle.device.specs.Zones.{idOf, rankOf, freeZone, newZone, first, slotOf, joined}
 use Rattle.device.specs.declared.Zone.{Zone}
 
 module _ {A : Type 0} (p : A → Bool) where
@@ -34,15 +34,24 @@ module _ {A : Type 0} (p : A → Bool) where
   first-new (y ∷ l) zero x h e n = rw e
   first-new (y ∷ l) (suc i) x h e n = new-at y l i x (first-new l i x (le-of-suc-le-suc h) e) (p y) refl n
 
+-- a new zone's id and rank, from its seat
+pub new-id : (z k : ℕ) → z < 256 → idOf (newZone z k) ≡ z
+unfolding idOf
+new-id z k h = omega arith
+
+pub new-rank : (z k : ℕ) → z < 256 → rankOf (newZone z k) ≡ k
+unfolding rankOf
+new-rank z k h = omega arith
+
 -- the slot that is found is the zone's
-pub slot-id : (zs : List Zone) (z : ℕ) → slotOf zs z < length zs → getD zs (slotOf zs z) freeZone .id ≡ z
+pub slot-id : (zs : List Zone) (z : ℕ) → slotOf zs z < length zs → idOf (getD zs (slotOf zs z) freeZone) ≡ z
 unfolding slotOf
-slot-id zs z h = eqb-true _ _ (first-passes (λ x. eqb (x .id) z) zs freeZone h)
+slot-id zs z h = eqb-true _ _ (first-passes (λ x. eqb (idOf x) z) zs freeZone h)
 
 -- a zone that was nowhere is found in the slot where it was stored
-pub slot-new : (zs : List Zone) (z i : ℕ) (x : Zone) → i < length zs → x .id ≡ z → length zs ≤ slotOf zs z → slotOf (set zs i x) z ≡ i
+pub slot-new : (zs : List Zone) (z i : ℕ) (x : Zone) → i < length zs → idOf x ≡ z → length zs ≤ slotOf zs z → slotOf (set zs i x) z ≡ i
 unfolding slotOf
-slot-new zs z i x h e n = first-new (λ y. eqb (y .id) z) zs i x h (eq-eqb (x .id) z e) n
+slot-new zs z i x h e n = first-new (λ y. eqb (idOf y) z) zs i x h (eq-eqb (idOf x) z e) n
 
 -- a joined zone's number is above 0 and its slot is below the last
 module _ (zs : List Zone) (z : ℕ) where

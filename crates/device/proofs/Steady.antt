@@ -1,8 +1,8 @@
--- Between two expiries nothing moves: the seconds at which what holds can change, and that it changes at no other.
+-- Between two expiries nothing moves: what holds changes at no second but the due ones.
 use Prim.Native.Nat.{ℕ, zero, suc, _+_, _*_, _<_, _≤_}
 use mathlib.Core.Bool.{Bool, true, false, cond, not, _&&_}
 use mathlib.Core.Path.{_≡_, refl, ap}
-use mathlib.Core.List.{List, [], _∷_, _++_, foldl, List·Memᴰ, List·Memᴰ·head, Memᴰ·append-left, Memᴰ·append-right, Memᴰ·cast}
+use mathlib.Core.List.{List, [], _∷_, foldl, List·Memᴰ, List·Memᴰ·head, Memᴰ·append-left, Memᴰ·append-right, Memᴰ·cast}
 use native.Mathlib.Decide.{ℕ-discrete}
 use native.Mathlib.Omega.{arith}
 use lib.Dec.{ltb}
@@ -10,28 +10,14 @@ use lib.IntN.{ℤ, pos}
 use lib.ListN.{length, length-append}
 use borrow.Author.Tests.{ltb-true, ltb-false}
 use Rattle.device.specs.Sizes.{helds, slots}
-use Rattle.device.specs.Zones.{upTo, heldOf, isJoined, anyJoined, anyUp}
+use Rattle.device.specs.Zones.{upTo, idOf, rankOf, heldOf, isJoined, anyJoined, anyUp}
 use Rattle.device.specs.Words.{zonesOf, sinceOf, settingsOf}
-use Rattle.device.specs.Holds.{Situation, situationOf, noClaim, claimOf, better, winner, amountOf, inFailsafe, failsafeValue, valueAt, stateAt, shown, valuesAt}
+use Rattle.device.specs.Holds.{Claim, Situation, situationOf, noClaim, claimOf, better, winner, amountOf, inFailsafe, failsafeValue, valueAt, stateAt, shown, valuesAt}
+use Rattle.device.specs.Dues.{zoneDues, heldDues, dues}
 use Rattle.messages.specs.declared.Amount.the-variants.{Absent}
 use Rattle.device.specs.declared.Zone.{Zone}
-use Rattle.device.specs.declared.Claim.{Claim}
 use Rattle.device.proofs.Runs.{length-upTo, upTo-cong}
 use Rattle.device.proofs.Lens.{zones-length}
-
--- the seconds at which a joined zone's values end
-unfoldable pub zoneDues : Zone → List ℕ
-zoneDues x = cond (isJoined x) (upTo (λ q. heldOf x q .until) helds) []
-
-unfoldable pub heldDues : List Zone → List ℕ
-heldDues [] = []
-heldDues (x ∷ xs) = zoneDues x ++ heldDues xs
-
--- the seconds at which what holds can change, links and override unmoved
-unfoldable pub dues : Situation → List ℕ
-dues s =
-    cond (anyUp (s .zones)) (heldDues (s .zones))
-    (cond (anyJoined (s .zones)) ((s .since + s .settings .duration) ∷ []) [])
 
 -- nothing is due at a second
 abbrev pub Idle : ℕ → List ℕ → Type 0
@@ -62,7 +48,7 @@ module _ (t q : ℕ) (known : q < helds) where
   claim-steady x idle = go (isJoined x) idle
     where
       held : Bool → Bool → Claim
-      held b c = cond (b && c) (record { there = true; value = heldOf x q .value; rank = x .rank; id = x .id }) noClaim
+      held b c = cond (b && c) (record { there = true; value = heldOf x q .value; rank = rankOf x; id = idOf x }) noClaim
 
       go : (b : Bool) → Idle (suc t) (cond b (upTo (λ q. heldOf x q .until) helds) []) → held b (ltb (suc t) (heldOf x q .until)) ≡ held b (ltb t (heldOf x q .until))
       go false h = refl

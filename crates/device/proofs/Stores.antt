@@ -1,5 +1,5 @@
 -- What the functions of `store` leave, as the definitions say it: single words of a record, and the stores of a whole one.
-use Prim.Native.Nat.{ℕ, suc, _+_, _*_, _<_, _≤_}
+use Prim.Native.Nat.{ℕ, suc, _+_, _<_, _≤_}
 use mathlib.Core.Bool.{cond}
 use mathlib.Core.Path.{_≡_, sym, ap}
 use mathlib.Core.List.{List}
@@ -8,15 +8,13 @@ use native.Mathlib.Numerals.{add-one}
 use native.Mathlib.Omega.{arith}
 use borrow.Author.Tests.{lt-ltb, le-ltb}
 use lib.Dec.{ltb}
-use lib.ListN.{getD, set, drop, length, replicate, getD-replicate, drop-of-length-le, List·getD-eq-default}
+use lib.ListN.{getD, set, drop, length, drop-of-length-le}
 use lib.Seq.{sets, set-getD, drop-cons}
-use Rattle.device.specs.Sizes.{helds, slots}
-use Rattle.device.specs.Zones.{freeZone, nothing, heldOf}
-use Rattle.device.specs.Words.{base, heldIn, zoneAt, zonesOf, bit, heldWords, putZone, applied}
+use Rattle.device.specs.Sizes.{slots}
+use Rattle.device.specs.Zones.{freeZone}
+use Rattle.device.specs.Words.{base, zoneAt, zonesOf, bit, heldWords, putZone, applied}
 use Rattle.device.specs.Calls.{headChange}
-use Rattle.device.specs.declared.Held.{Held}
 use Rattle.device.specs.declared.Zone.{Zone}
-use Rattle.device.proofs.Runs.{getD-upTo, length-upTo}
 use Rattle.device.proofs.Lens.{zones-at, zones-past}
 
 -- word k of slot i, 0 past the last slot
@@ -32,43 +30,12 @@ module _ {A : Type 0} (ws : List ℕ) (i : ℕ) (get : Zone → A) (f : ℕ → 
         | no h ↦ let l : slots ≤ i = omega arith in rw (le-ltb i slots l, zones-past ws i l) (sym past)
       ]
 
--- a held value past the last is nothing
-pub held-past : (ws : List ℕ) (i q : ℕ) → helds ≤ q → heldOf (getD (zonesOf ws) i freeZone) q ≡ nothing
-unfolding heldOf zoneAt
-held-past ws i q h =
-    elim (decLt i slots) [
-      | yes k ↦ rw (zones-at ws i freeZone k) (List·getD-eq-default (zoneAt ws i .held) nothing {n = q} (rw (length-upTo (heldIn ws (base i + 3)) helds) h))
-      | no k ↦ rw (zones-past ws i (omega arith)) (List·getD-eq-default (replicate helds nothing) nothing {n = q} h)
-    ]
-
-module _ (ws : List ℕ) (i q : ℕ) (h : q < helds) where
-  here : heldOf (zoneAt ws i) q ≡ heldIn ws (base i + 3) q
-  unfolding heldOf zoneAt
-  here = getD-upTo (heldIn ws (base i + 3)) helds q nothing h
-
-  there : heldOf freeZone q ≡ nothing
-  unfolding heldOf
-  there = getD-replicate helds q nothing nothing h
-
-  pub value-is : partOf ws i (3 + 2 * q) ≡ heldOf (getD (zonesOf ws) i freeZone) q .value
-  unfolding heldIn
-  value-is =
-      let e : base i + (3 + 2 * q) ≡ base i + 3 + 2 * q = omega arith in
-      part-is ws i (λ x. heldOf x q .value) (λ v. v) (3 + 2 * q) (rw (here, e)) (ap (λ (y : Held). y .value) there)
-
-  pub until-is : partOf ws i (3 + 2 * q + 1) ≡ heldOf (getD (zonesOf ws) i freeZone) q .until
-  unfolding heldIn
-  until-is =
-      let e : base i + (3 + 2 * q + 1) ≡ base i + 3 + 2 * q + 1 = omega arith in
-      part-is ws i (λ x. heldOf x q .until) (λ v. v) (3 + 2 * q + 1) (rw (here, e)) (ap (λ (y : Held). y .until) there)
-
 -- what the stores of a record leave
-pub stored : (ws s₁ s₂ s₃ s₄ : List ℕ) (i b : ℕ) (x : Zone) → i < slots → s₁ ≡ set ws (base i) (x .id) → s₂ ≡ set s₁ (base i + 1) (x .rank) → b ≡ bit (x .up) → s₃ ≡ set s₂ (base i + 2) b → s₄ ≡ sets s₃ (base i + 3) (heldWords (x .held)) → s₄ ≡ putZone ws i x
+pub stored : (ws s₁ s₂ s₃ : List ℕ) (i b : ℕ) (x : Zone) → i < slots → s₁ ≡ set ws (base i) (x .seat) → b ≡ bit (x .up) → s₂ ≡ set s₁ (base i + 1) b → s₃ ≡ sets s₂ (base i + 2) (heldWords (x .held)) → s₃ ≡ putZone ws i x
 unfolding putZone
-stored ws s₁ s₂ s₃ s₄ i b x h e₁ e₂ eb e₃ e₄ =
+stored ws s₁ s₂ s₃ i b x h e₁ eb e₂ e₃ =
     let two : base i + 2 ≡ suc (suc (base i)) = omega arith in
-    let three : base i + 3 ≡ suc (suc (suc (base i))) = omega arith in
-    rw (e₄, e₃, eb, e₂, e₁, lt-ltb i slots h, add-one (base i), two, three)
+    rw (e₃, e₂, eb, e₁, lt-ltb i slots h, add-one (base i), two)
 
 pub not-stored : (ws : List ℕ) (i : ℕ) (x : Zone) → slots ≤ i → ws ≡ putZone ws i x
 unfolding putZone

@@ -1,6 +1,6 @@
 -- The winning claim, for every quantity: an unexpired one of a joined zone, and none goes before it.
 use Prim.Native.Nat.{ℕ, zero, suc, _<_}
-use mathlib.Core.Bool.{Bool, true, false, cond, not, _&&_, _||_}
+use mathlib.Core.Bool.{Bool, true, false, cond, not, _&&_}
 use mathlib.Core.Logic.{_⊎_, inl, inr, ⊎-elim}
 use mathlib.Core.Path.{_≡_, refl, sym, ap, _∙_}
 use mathlib.Core.List.{List, [], _∷_, foldl}
@@ -9,16 +9,15 @@ use native.Mathlib.Omega.{arith}
 use borrow.Author.Tests.{lt-ltb, ltb-true}
 use lib.Dec.{ltb}
 use lib.ListN.{length, getD}
-use Rattle.device.specs.Zones.{freeZone, isJoined, heldOf}
-use Rattle.device.specs.Holds.{noClaim, claimOf, goesBefore, better, winner}
+use Rattle.device.specs.Zones.{idOf, rankOf, freeZone, isJoined, heldOf}
+use Rattle.device.specs.Holds.{Claim, noClaim, claimOf, goesBefore, better, winner}
 use Rattle.device.specs.Table.{Unexpired, Some, Each, Wins}
 use Rattle.device.specs.declared.Zone.{Zone}
-use Rattle.device.specs.declared.Claim.{Claim}
-use Rattle.device.proofs.Before.{never, before-self, before-trans}
+use Rattle.device.proofs.Before.{never, before-self, before-asym, not-before-trans}
 
 -- a claim is there exactly where the zone is joined and its value unexpired
 module _ (t q : ℕ) (x : Zone) where
-  pub claim-there : Unexpired t q x → claimOf t q x ≡ record { there = true; value = heldOf x q .value; rank = x .rank; id = x .id }
+  pub claim-there : Unexpired t q x → claimOf t q x ≡ record { there = true; value = heldOf x q .value; rank = rankOf x; id = idOf x }
   unfolding claimOf
   claim-there u = rw (u .0, lt-ltb t (heldOf x q .until) (u .1))
 
@@ -26,7 +25,7 @@ module _ (t q : ℕ) (x : Zone) where
   unfolding claimOf
   there-claims = go (isJoined x) (ltb t (heldOf x q .until)) refl refl
     where
-      go : (a b : Bool) → isJoined x ≡ a → ltb t (heldOf x q .until) ≡ b → cond (a && b) (record { there = true; value = heldOf x q .value; rank = x .rank; id = x .id }) noClaim .there ≡ true → Unexpired t q x
+      go : (a b : Bool) → isJoined x ≡ a → ltb t (heldOf x q .until) ≡ b → cond (a && b) (record { there = true; value = heldOf x q .value; rank = rankOf x; id = idOf x }) noClaim .there ≡ true → Unexpired t q x
       go true true p r e = (p, ltb-true t (heldOf x q .until) r)
       go true false p r e = absurd (never (sym e))
       go false b p r e = absurd (never (sym e))
@@ -39,27 +38,27 @@ Stands q r y = (r .there ≡ true) × (goesBefore q y r ≡ false)
 module _ (q : ℕ) (a b : Claim) where
   better-keeps : (y : Claim) → Stands q a y → Stands q (better q a b) y
   unfolding better
-  better-keeps y s = go (b .there) (a .there) (goesBefore q b a) refl refl refl
+  better-keeps y s = go (b .there) (a .there) (goesBefore q a b) refl refl refl
     where
-      go : (u w v : Bool) → b .there ≡ u → a .there ≡ w → goesBefore q b a ≡ v → Stands q (cond (u && (not w || v)) b a) y
-      go true true true e d f = (e, before-trans q y a b f (s .1))
-      go true true false e d f = s
+      go : (u w v : Bool) → b .there ≡ u → a .there ≡ w → goesBefore q a b ≡ v → Stands q (cond (u && not (w && v)) b a) y
+      go true true true e d f = s
+      go true true false e d f = (e, not-before-trans q y a b (s .1) f)
       go true false v e d f = absurd (never (sym (s .0) ∙ d))
       go false w v e d f = s
 
   better-takes : b .there ≡ true → Stands q (better q a b) b
   unfolding better
-  better-takes e = go (b .there) (a .there) (goesBefore q b a) refl refl refl
+  better-takes e = go (b .there) (a .there) (goesBefore q a b) refl refl refl
     where
-      go : (u w v : Bool) → b .there ≡ u → a .there ≡ w → goesBefore q b a ≡ v → Stands q (cond (u && (not w || v)) b a) b
-      go true true true d f g = (e, before-self q b)
-      go true true false d f g = (f, g)
+      go : (u w v : Bool) → b .there ≡ u → a .there ≡ w → goesBefore q a b ≡ v → Stands q (cond (u && not (w && v)) b a) b
+      go true true true d f g = (f, before-asym q a b g)
+      go true true false d f g = (e, before-self q b)
       go true false v d f g = (e, before-self q b)
       go false w v d f g = absurd (never (sym e ∙ d))
 
   better-one : (better q a b ≡ a) ⊎ ((better q a b ≡ b) × (b .there ≡ true))
   unfolding better
-  better-one = go (b .there) (not (a .there) || goesBefore q b a) refl
+  better-one = go (b .there) (not (a .there && goesBefore q a b)) refl
     where
       go : (u v : Bool) → b .there ≡ u → (cond (u && v) b a ≡ a) ⊎ ((cond (u && v) b a ≡ b) × (b .there ≡ true))
       go true true e = inr (refl, e)

@@ -9,11 +9,10 @@ use Rattle.messages.specs.Numbers.{AUTONOMOUS, CONTROLLED, LIMITED, FAILSAFE, O
 use Rattle.messages.specs.declared.Amount.{Amount}
 use Rattle.messages.specs.declared.Amount.the-variants.{Absent, Is}
 use Rattle.device.specs.Sizes.{helds, valueEnd}
-use Rattle.device.specs.Zones.{upTo, isJoined, anyJoined, anyUp, heldOf}
+use Rattle.device.specs.Zones.{upTo, idOf, rankOf, isJoined, anyJoined, anyUp, heldOf}
 use Rattle.device.specs.Words.{settingsOf, zonesOf, sinceOf, overrideOf}
 use Rattle.device.specs.declared.Zone.{Zone}
 use Rattle.device.specs.declared.Settings.{Settings}
-use Rattle.device.specs.declared.Claim.{Claim}
 
 -- A quantity is an index: 0 and 1 are the limits of consumption and production, 2 and 3 the setpoints.
 abbrev pub isLimit : ℕ → Bool
@@ -26,6 +25,13 @@ directionOf q = q % 2
 unfoldable pub supports : ℕ → ℕ → Bool
 supports has d = ltb d 2 && (eqb has 2 || eqb has d)
 
+-- what a zone claims for a quantity at a second
+pub record Claim : Type 0 where
+  pub there : Bool
+  pub value : ℕ
+  pub rank : ℕ
+  pub id : ℕ
+
 -- "holds while t < n + d": what a zone claims for quantity q at second t
 abbrev pub noClaim : Claim
 noClaim = record { there = false; value = 0; rank = 0; id = 0 }
@@ -33,7 +39,7 @@ noClaim = record { there = false; value = 0; rank = 0; id = 0 }
 unfoldable pub claimOf : ℕ → ℕ → Zone → Claim
 claimOf t q x =
     cond (isJoined x && ltb t (heldOf x q .until))
-    (record { there = true; value = heldOf x q .value; rank = x .rank; id = x .id })
+    (record { there = true; value = heldOf x q .value; rank = rankOf x; id = idOf x })
     noClaim
 
 -- of two limits the smaller; of two setpoints "the best rank that has one; equal rank, smaller id"
@@ -42,9 +48,9 @@ goesBefore q a b =
     cond (isLimit q) (ltb (a .value) (b .value))
     (ltb (a .rank) (b .rank) || (eqb (a .rank) (b .rank) && ltb (a .id) (b .id)))
 
--- the winner so far, and one claim more
+-- the winner so far, and one claim more; of two that neither goes before, as no history makes of setpoints, the later
 unfoldable pub better : ℕ → Claim → Claim → Claim
-better q a b = cond (b .there && (not (a .there) || goesBefore q b a)) b a
+better q a b = cond (b .there && not (a .there && goesBefore q a b)) b a
 
 -- the claim that wins among all joined zones
 unfoldable pub winner : ℕ → ℕ → List Zone → Claim
@@ -83,9 +89,10 @@ valueAt s t q =
     (cond (inFailsafe s t) (failsafeValue (s .settings) q) Absent))
     Absent
 
+-- a number past the largest value, which no history stores, is none
 unfoldable pub present : Amount → Bool
 present Absent = false
-present (Is v) = true
+present (Is v) = ltb v valueEnd
 
 -- "FAILSAFE in the second row; else OVERRIDE if set; else LIMITED if a limit is present; else CONTROLLED if a zone is up; else AUTONOMOUS"
 unfoldable pub stateAt : Situation → ℕ → ℕ
@@ -95,7 +102,7 @@ stateAt s t =
     (cond (present (valueAt s t 0) || present (valueAt s t 1)) LIMITED
     (cond (anyUp (s .zones)) CONTROLLED AUTONOMOUS)))
 
--- "-1 is absent"; a number past the largest value, which no history stores, shows as absent too
+-- "-1 is absent"; what is not present shows as absent
 unfoldable pub shown : Amount → ℤ
 shown Absent = negsuc 0
 shown (Is v) = cond (ltb v valueEnd) (pos v) (negsuc 0)

@@ -10,7 +10,7 @@ abbrev pub slots : ℕ
 slots = 8
 
 abbrev pub zoneSize : ℕ
-zoneSize = 3 + 2 * helds
+zoneSize = 2 + 2 * helds
 
 abbrev pub headSize : ℕ
 headSize = 13

@@ -9,7 +9,7 @@ use lib.ListN.{length, getD}
 use Rattle.messages.specs.Numbers.{CONTROLLED, LIMITED, FAILSAFE, OVERRIDE}
 use Rattle.messages.specs.declared.Amount.the-variants.{Absent, Is}
 use Rattle.device.specs.Sizes.{helds, most}
-use Rattle.device.specs.Zones.{freeZone, isJoined, anyJoined, anyUp, heldOf}
+use Rattle.device.specs.Zones.{idOf, rankOf, freeZone, isJoined, anyJoined, anyUp, heldOf}
 use Rattle.device.specs.Holds.{isLimit, directionOf, supports, noClaim, claimOf, goesBefore, winner, Situation, inFailsafe, failsafeValue, valueAt, present, stateAt}
 use Rattle.device.specs.Refusals.{firstOf}
 use Rattle.device.specs.Commands.{action, durationOf, obeyed}
@@ -42,7 +42,7 @@ SmallestLimit s t q =
 
 -- "from the best rank that has one; equal rank, smaller id"
 abbrev pub NoBetter : Zone → Zone → Type 0
-NoBetter x y = (x .rank < y .rank) ⊎ ((x .rank ≡ y .rank) × (x .id ≤ y .id))
+NoBetter x y = (rankOf x < rankOf y) ⊎ ((rankOf x ≡ rankOf y) × (idOf x ≤ idOf y))
 
 abbrev pub BestSetpoint : Situation → ℕ → ℕ → Type 0
 BestSetpoint s t q =
@@ -87,5 +87,5 @@ Expiry s c x =
     (n t q v : ℕ) → isJoined x ≡ true → q < helds → n + durationOf c ≤ most → action s c q ≡ Action.Put v
     → claimOf t q (obeyed s c n x)
     ≡ cond (ltb t (endOf n (durationOf c)))
-    (record { there = true; value = v; rank = x .rank; id = x .id })
+    (record { there = true; value = v; rank = rankOf x; id = idOf x })
     noClaim

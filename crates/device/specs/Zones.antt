@@ -1,5 +1,5 @@
 -- A zone's record and the list of slots: which slot a zone has, what a slot holds.
-use Prim.Native.Nat.{ℕ, zero, suc}
+use Prim.Native.Nat.{ℕ, zero, suc, _+_, _*_, _/_, _%_}
 use mathlib.Core.Bool.{Bool, true, false, cond, not, _&&_, _||_}
 use mathlib.Core.List.{List, [], _∷_, _++_}
 use lib.Dec.{ltb, eqb}
@@ -27,32 +27,42 @@ any p (x ∷ xs) = p x || any p xs
 abbrev pub nothing : Held
 nothing = record { value = 0; until = 0 }
 
+-- a zone's id and rank in one number, its seat: the better rank, then the smaller id, is the smaller seat
+abbrev pub seatOf : ℕ → ℕ → ℕ
+seatOf z k = k * 256 + z
+
+unfoldable pub idOf : Zone → ℕ
+idOf x = x .seat % 256
+
+unfoldable pub rankOf : Zone → ℕ
+rankOf x = x .seat / 256
+
 -- a slot that no zone has
 abbrev pub freeZone : Zone
-freeZone = record { id = 0; rank = 0; up = false; held = replicate helds nothing }
+freeZone = record { seat = 0; up = false; held = replicate helds nothing }
 
 -- "Joining brings the link up"; a new zone holds nothing
 abbrev pub newZone : ℕ → ℕ → Zone
-newZone z k = record { id = z; rank = k; up = true; held = replicate helds nothing }
+newZone z k = record { seat = seatOf z k; up = true; held = replicate helds nothing }
 
 -- a zone with its link told to be u
 abbrev pub linked : Zone → Bool → Zone
-linked x u = record { id = x .id; rank = x .rank; up = u; held = x .held }
+linked x u = record { seat = x .seat; up = u; held = x .held }
 
 -- a zone with other held values
 abbrev pub holding : Zone → List Held → Zone
-holding x hs = record { id = x .id; rank = x .rank; up = x .up; held = hs }
+holding x hs = record { seat = x .seat; up = x .up; held = hs }
 
 -- a slot is a zone's, and that zone's link is up
 unfoldable pub isJoined : Zone → Bool
-isJoined x = not (eqb (x .id) 0)
+isJoined x = not (eqb (idOf x) 0)
 
 unfoldable pub isUp : Zone → Bool
 isUp x = isJoined x && x .up
 
 -- the first slot whose id is z, `slots` where there is none; of id 0, the first free one
 unfoldable pub slotOf : List Zone → ℕ → ℕ
-slotOf zs z = first (λ x. eqb (x .id) z) zs
+slotOf zs z = first (λ x. eqb (idOf x) z) zs
 
 -- zone z is joined: 0 is no zone
 unfoldable pub joined : List Zone → ℕ → Bool
@@ -71,3 +81,7 @@ anyJoined zs = any isJoined zs
 
 unfoldable pub anyUp : List Zone → Bool
 anyUp zs = any isUp zs
+
+-- the row of the table of links: 2 some zone up, 1 zones joined and none up, 0 none joined
+unfoldable pub rowOf : List Zone → ℕ
+rowOf zs = cond (anyUp zs) 2 (cond (anyJoined zs) 1 0)

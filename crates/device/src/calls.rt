@@ -39,7 +39,8 @@ fn refused_settings() -> Settings
 
 // A new device in the lent words, whatever stood there.
 pub fn start(d: &mut State, s: Settings) -> u64
-    ensures { λ r. ⌜ (r ≡ startNumber s) × (now (d .exit) ≡ startAfter s) ⌝ }
+    ensures { λ r. ⌜ r ≡ startNumber s ⌝ }
+    ensures { λ _. ⌜ now (d .exit) ≡ startAfter s ⌝ }
 {
     if refusals::is_bad_settings(s) {
         store::fresh(d, refused_settings());
@@ -50,18 +51,19 @@ pub fn start(d: &mut State, s: Settings) -> u64
 }
 
 fn new_zone(zone: u64, rank: u64) -> Zone
+    requires { ⌜ (zone < 256) × (rank < 5) ⌝ }
     ensures { λ r. ⌜ r ≡ newZone zone rank ⌝ }
 {
     Zone {
-        id: zone,
-        rank: rank,
+        seat: rank * 256 + zone,
         up: true,
         held: [Held { value: 0, until: 0 }; HELDS],
     }
 }
 
 pub fn join(d: &mut State, zone: u64, rank: u64, t: u64) -> u64
-    ensures { λ r. ⌜ (r ≡ joinNumber (now (d .entry)) zone rank t) × (now (d .exit) ≡ joinAfter (now (d .entry)) zone rank t) ⌝ }
+    ensures { λ r. ⌜ r ≡ joinNumber (now (d .entry)) zone rank t ⌝ }
+    ensures { λ _. ⌜ now (d .exit) ≡ joinAfter (now (d .entry)) zone rank t ⌝ }
 {
     if refusals::is_late(store::clock(d), t) {
         return 5;
@@ -88,7 +90,8 @@ pub fn join(d: &mut State, zone: u64, rank: u64, t: u64) -> u64
 }
 
 pub fn leave(d: &mut State, zone: u64, t: u64) -> u64
-    ensures { λ r. ⌜ (r ≡ leaveNumber (now (d .entry)) zone t) × (now (d .exit) ≡ leaveAfter (now (d .entry)) zone t) ⌝ }
+    ensures { λ r. ⌜ r ≡ leaveNumber (now (d .entry)) zone t ⌝ }
+    ensures { λ _. ⌜ now (d .exit) ≡ leaveAfter (now (d .entry)) zone t ⌝ }
 {
     if refusals::is_late(store::clock(d), t) {
         return 5;
@@ -121,8 +124,7 @@ fn told(d: &State, slot: usize, up: bool) -> Zone
     let x = store::zone_at(d, slot);
     let held = x.held;
     Zone {
-        id: x.id,
-        rank: x.rank,
+        seat: x.seat,
         up: up,
         held: held,
     }
@@ -140,7 +142,8 @@ fn since_told(d: &State, slot: usize, up: bool, t: u64) -> u64
 
 // A link is lost or back.
 fn link(d: &mut State, zone: u64, up: bool, t: u64) -> u64
-    ensures { λ r. ⌜ (r ≡ linkNumber (now (d .entry)) zone up t) × (now (d .exit) ≡ linkAfter (now (d .entry)) zone up t) ⌝ }
+    ensures { λ r. ⌜ r ≡ linkNumber (now (d .entry)) zone up t ⌝ }
+    ensures { λ _. ⌜ now (d .exit) ≡ linkAfter (now (d .entry)) zone up t ⌝ }
 {
     if refusals::is_late(store::clock(d), t) {
         return 5;
@@ -164,13 +167,15 @@ fn link(d: &mut State, zone: u64, up: bool, t: u64) -> u64
 }
 
 pub fn lost(d: &mut State, zone: u64, t: u64) -> u64
-    ensures { λ r. ⌜ (r ≡ linkNumber (now (d .entry)) zone false t) × (now (d .exit) ≡ linkAfter (now (d .entry)) zone false t) ⌝ }
+    ensures { λ r. ⌜ r ≡ linkNumber (now (d .entry)) zone false t ⌝ }
+    ensures { λ _. ⌜ now (d .exit) ≡ linkAfter (now (d .entry)) zone false t ⌝ }
 {
     link(d, zone, false, t)
 }
 
 pub fn back(d: &mut State, zone: u64, t: u64) -> u64
-    ensures { λ r. ⌜ (r ≡ linkNumber (now (d .entry)) zone true t) × (now (d .exit) ≡ linkAfter (now (d .entry)) zone true t) ⌝ }
+    ensures { λ r. ⌜ r ≡ linkNumber (now (d .entry)) zone true t ⌝ }
+    ensures { λ _. ⌜ now (d .exit) ≡ linkAfter (now (d .entry)) zone true t ⌝ }
 {
     link(d, zone, true, t)
 }
@@ -183,7 +188,8 @@ fn override_word(reason: u64, direction: u64) -> u64
 }
 
 pub fn set_override(d: &mut State, reason: u64, direction: u64, t: u64) -> u64
-    ensures { λ r. ⌜ (r ≡ overrideNumber (now (d .entry)) reason direction t) × (now (d .exit) ≡ overrideAfter (now (d .entry)) reason direction t) ⌝ }
+    ensures { λ r. ⌜ r ≡ overrideNumber (now (d .entry)) reason direction t ⌝ }
+    ensures { λ _. ⌜ now (d .exit) ≡ overrideAfter (now (d .entry)) reason direction t ⌝ }
 {
     if refusals::is_late(store::clock(d), t) {
         return 5;
@@ -196,7 +202,8 @@ pub fn set_override(d: &mut State, reason: u64, direction: u64, t: u64) -> u64
 }
 
 pub fn clear_override(d: &mut State, t: u64) -> u64
-    ensures { λ r. ⌜ (r ≡ clearNumber (now (d .entry)) t) × (now (d .exit) ≡ clearAfter (now (d .entry)) t) ⌝ }
+    ensures { λ r. ⌜ r ≡ clearNumber (now (d .entry)) t ⌝ }
+    ensures { λ _. ⌜ now (d .exit) ≡ clearAfter (now (d .entry)) t ⌝ }
 {
     if refusals::is_late(store::clock(d), t) {
         return 5;
@@ -209,7 +216,8 @@ pub fn clear_override(d: &mut State, t: u64) -> u64
 }
 
 pub fn ask(d: &mut State, t: u64) -> Asked
-    ensures { λ r. ⌜ (r ≡ askAnswer (now (d .entry)) t) × (now (d .exit) ≡ askAfter (now (d .entry)) t) ⌝ }
+    ensures { λ r. ⌜ r ≡ askAnswer (now (d .entry)) t ⌝ }
+    ensures { λ _. ⌜ now (d .exit) ≡ askAfter (now (d .entry)) t ⌝ }
 {
     if refusals::is_late(store::clock(d), t) {
         return Asked {

@@ -1,11 +1,11 @@
 // What is asked of a command itself, whatever zone it comes from.
 use crate::Settings;
-use crate::claims::supports;
 use crate::fields::field_names;
 use crate::fields::field_negative;
 use crate::fields::field_too_low;
 use crate::fields::target_names;
 use crate::fields::target_negative;
+use crate::holds::supports;
 use messages::Aim;
 use messages::Command;
 ghost use mathlib.Core.Path.{_≡_};

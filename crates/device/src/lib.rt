@@ -1,7 +1,6 @@
 // The device: settings, zones, and what they hold, as words that the driver lends.
 // A call decides first and then applies one whole change; a refusal stores nothing.
 pub mod calls;
-pub mod claims;
 pub mod commands;
 pub mod content;
 pub mod fields;
@@ -11,6 +10,7 @@ pub mod obey;
 pub mod outcomes;
 pub mod refusals;
 pub mod store;
+pub mod tops;
 
 // How many values a zone holds, how many zones there are, and the words of a zone, of the head and of the whole device.
 pub const HELDS: usize = 4;
@@ -20,7 +20,7 @@ pub const SLOTS: usize = 8;
 // The control state and each quantity: what holds at a second.
 pub const VALUES: usize = 1 + HELDS;
 
-pub const ZONE: usize = 3 + 2 * HELDS;
+pub const ZONE: usize = 2 + 2 * HELDS;
 
 pub const HEAD: usize = 13;
 
@@ -42,10 +42,9 @@ pub struct Held {
     pub until: u64,
 }
 
-// A slot's whole record; id 0 is a free slot.
+// A slot's whole record. The seat is rank * 256 + id, so that setpoints are told apart by one number; id 0 is a free slot.
 pub struct Zone {
-    pub id: u64,
-    pub rank: u64,
+    pub seat: u64,
     pub up: bool,
     pub held: [Held; HELDS],
 }
@@ -63,14 +62,6 @@ pub struct Settings {
     pub manager: bool,
 }
 
-// What a zone claims for a quantity at a second.
-pub struct Claim {
-    pub there: bool,
-    pub value: u64,
-    pub rank: u64,
-    pub id: u64,
-}
-
 // One whole change of the device: a slot's new record (none where slot is SLOTS), since when no link is up, override, clock.
 pub struct Change {
     pub time: u64,
@@ -85,6 +76,12 @@ pub struct Change {
 pub struct Asked {
     pub number: u64,
     pub values: [i64; VALUES],
+}
+
+// What holds at a second, and the next second at which it can change.
+pub struct View {
+    pub values: [i64; VALUES],
+    pub next: u64,
 }
 
 // What a command does to one quantity of its zone.

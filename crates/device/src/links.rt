@@ -1,12 +1,14 @@
 // Which links are up, and since when none is.
 ghost use mathlib.Core.Path.{_≡_};
-ghost use mathlib.Core.Bool.{cond};
 ghost use lib.ListN.{getD, set};
-ghost use Rattle.device.specs.Zones.{freeZone, isUp, anyUp};
+ghost use Prim.Native.Nat.{_<_};
+ghost use Rattle.device.specs.Sizes.{slots};
+ghost use Rattle.device.specs.Zones.{idOf, freeZone, isUp, anyUp, rowOf};
 ghost use Rattle.device.specs.Words.{sinceOf, zonesOf};
 ghost use Rattle.device.specs.Calls.{sinceAfter};
 use crate::SLOTS;
 use crate::State;
+use crate::Zone;
 use crate::store;
 
 fn is_up(d: &State, slot: usize) -> bool
@@ -16,6 +18,63 @@ fn is_up(d: &State, slot: usize) -> bool
         return false;
     }
     store::up_at(d, slot)
+}
+
+// The row of the table of links: 2 where a link is up, 1 where zones are joined and none is up, 0 where none is joined.
+pub fn row(d: &State) -> u64
+    ensures { λ r. ⌜ r ≡ rowOf (zonesOf (now (d .entry))) ⌝ }
+{
+    let mut r = 0;
+    let mut i = 0;
+    while i < SLOTS {
+        if store::id_at(d, i) != 0 {
+            if store::up_at(d, i) {
+                return 2;
+            }
+            r = 1;
+        }
+        i += 1;
+    }
+    r
+}
+
+// The id in slot i, and its link, the given record in its slot's place.
+fn id_with(d: &State, slot: usize, zone: Zone, i: usize) -> u64
+    requires { ⌜ i < slots ⌝ }
+    ensures { λ r. ⌜ r ≡ idOf (getD (set (zonesOf (now (d .entry))) slot zone) i freeZone) ⌝ }
+{
+    if i == slot {
+        return zone.seat % 256;
+    }
+    store::id_at(d, i)
+}
+
+fn up_with(d: &State, slot: usize, zone: Zone, i: usize) -> bool
+    requires { ⌜ i < slots ⌝ }
+    ensures { λ r. ⌜ r ≡ getD (set (zonesOf (now (d .entry))) slot zone) i freeZone .up ⌝ }
+{
+    if i == slot {
+        return zone.up;
+    }
+    store::up_at(d, i)
+}
+
+// The row of the table of links with the given record in its slot's place.
+pub fn row_with(d: &State, slot: usize, zone: Zone) -> u64
+    ensures { λ r. ⌜ r ≡ rowOf (set (zonesOf (now (d .entry))) slot zone) ⌝ }
+{
+    let mut r = 0;
+    let mut i = 0;
+    while i < SLOTS {
+        if id_with(d, slot, zone, i) != 0 {
+            if up_with(d, slot, zone, i) {
+                return 2;
+            }
+            r = 1;
+        }
+        i += 1;
+    }
+    r
 }
 
 // Slot i, as it stands once `slot` is free.

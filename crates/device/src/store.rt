@@ -6,7 +6,7 @@ ghost use lib.Dec.{ltb};
 ghost use lib.ListN.{getD, set};
 ghost use lib.Seq.{sets};
 ghost use Rattle.device.specs.Sizes.{helds, slots, zoneSize, words};
-ghost use Rattle.device.specs.Zones.{upTo, freeZone, isUp, slotOf, joined, heldOf, anyUp};
+ghost use Rattle.device.specs.Zones.{upTo, idOf, freeZone, slotOf, joined};
 ghost use Rattle.device.specs.Words.{clockOf, sinceOf, overrideOf, settingsOf, base, heldIn, zonesOf, bit, heldWords, putZone, applied, settingWords, fresh};
 ghost use Rattle.device.specs.Calls.{headChange};
 use crate::Change;
@@ -20,8 +20,8 @@ use crate::WORDS;
 use crate::ZONE;
 use crate::Zone;
 
-// A copy: an array by value, whose length the proof knows. Only called where an index is past the end.
-fn all(d: &State) -> State
+// A copy: an array by value, whose length the proof knows. Where nothing reads it, it leaves no code.
+pub fn all(d: &State) -> State
     ensures { λ r. ⌜ r ≡ now (d .entry) ⌝ }
 {
     *d
@@ -118,8 +118,7 @@ pub fn free_zone() -> Zone
     ensures { λ r. ⌜ r ≡ freeZone ⌝ }
 {
     Zone {
-        id: 0,
-        rank: 0,
+        seat: 0,
         up: false,
         held: [Held { value: 0, until: 0 }; HELDS],
     }
@@ -132,10 +131,9 @@ pub fn zone_at(d: &State, slot: usize) -> Zone
     if slot < SLOTS {
         let at = HEAD + slot * ZONE;
         return Zone {
-            id: word(d, at),
-            rank: word(d, at + 1),
-            up: 0 < word(d, at + 2),
-            held: helds_in(d, at + 3),
+            seat: word(d, at),
+            up: 0 < word(d, at + 1),
+            held: helds_in(d, at + 2),
         };
     }
     free_zone()
@@ -153,39 +151,15 @@ fn part(d: &State, slot: usize, k: usize) -> u64
 }
 
 pub fn id_at(d: &State, slot: usize) -> u64
-    ensures { λ r. ⌜ r ≡ getD (zonesOf (now (d .entry))) slot freeZone .id ⌝ }
+    ensures { λ r. ⌜ r ≡ idOf (getD (zonesOf (now (d .entry))) slot freeZone) ⌝ }
 {
-    part(d, slot, 0)
-}
-
-pub fn rank_at(d: &State, slot: usize) -> u64
-    ensures { λ r. ⌜ r ≡ getD (zonesOf (now (d .entry))) slot freeZone .rank ⌝ }
-{
-    part(d, slot, 1)
+    part(d, slot, 0) % 256
 }
 
 pub fn up_at(d: &State, slot: usize) -> bool
     ensures { λ r. ⌜ r ≡ getD (zonesOf (now (d .entry))) slot freeZone .up ⌝ }
 {
-    0 < part(d, slot, 2)
-}
-
-pub fn value_at(d: &State, slot: usize, q: usize) -> u64
-    ensures { λ r. ⌜ r ≡ heldOf (getD (zonesOf (now (d .entry))) slot freeZone) q .value ⌝ }
-{
-    if q < HELDS {
-        return part(d, slot, 3 + 2 * q);
-    }
-    0
-}
-
-pub fn until_at(d: &State, slot: usize, q: usize) -> u64
-    ensures { λ r. ⌜ r ≡ heldOf (getD (zonesOf (now (d .entry))) slot freeZone) q .until ⌝ }
-{
-    if q < HELDS {
-        return part(d, slot, 3 + 2 * q + 1);
-    }
-    0
+    0 < part(d, slot, 1)
 }
 
 // The search reads the ids alone.
@@ -250,10 +224,9 @@ fn put_zone(d: &mut State, slot: usize, zone: Zone)
     if slot < SLOTS {
         let at = HEAD + slot * ZONE;
         let hs = zone.held;
-        put_word(d, at, zone.id);
-        put_word(d, at + 1, zone.rank);
-        put_word(d, at + 2, bit_of(zone.up));
-        put_helds(d, at + 3, hs);
+        put_word(d, at, zone.seat);
+        put_word(d, at + 1, bit_of(zone.up));
+        put_helds(d, at + 2, hs);
     }
 }
 

@@ -4,6 +4,7 @@ use mathlib.Core.Bool.{true, false}
 use mathlib.Core.Path.{_≡_, refl, ap, _∙_}
 use mathlib.Core.Logic.{ite}
 use mathlib.Core.List.{List, _∷_, _++_, List-discrete}
+use native.Mathlib.Nat.{zero-add}
 use native.Mathlib.Omega.{arith}
 use lib.IntN.{ℤ, ℤ-discrete}
 use lib.ListN.{length, take, drop, length-append}
@@ -57,17 +58,22 @@ module _ (ws : List ℕ) (t : ℕ) (old : List ℤ) where
       let m : length old < length (numbersOf rows) = omega (arith, numbers-length (situationOf ws) t) in
       refused 15 (rw (l, lt-ltb (length old) (length (numbersOf rows)) m)) (λ z. omega arith)
 
-  -- what a copy of the rows found, from the front of any numbers that have the room, leaves in the slice
-  written : (z found new : List ℤ) (k : ℕ) → k ≡ length (numbersOf rows) → k ≤ length z → found ≡ sets z 0 (numbersOf rows) → new ≡ take k found ++ drop k old → new ≡ front (numbersOf rows) old
-  unfolding front
-  written z found new k e h f w = w ∙ rw (e, f, sets-eq (numbersOf rows) z 0 (omega arith), take-append-seam (numbersOf rows))
+  module _ (n : ℕ) (counted : n ≡ length rows) where
+    size : n * rowSize ≡ length (numbersOf rows)
+    size = omega (arith, numbers-length (situationOf ws) t)
 
-  pub ends : (us : List ℕ) (z found new : List ℤ) (n o : ℕ) → late (clockOf ws) t ≡ false → n ≡ length rows → n * rowSize ≤ length old → n * rowSize ≤ length z
-      → found ≡ sets z 0 (numbersOf rows) → new ≡ take (n * rowSize) found ++ drop (n * rowSize) old → o ≡ overrideOf ws → us ≡ applied ws (headChange ws t o)
-      → Ends (record { number = 0; count = n }) us new
-  unfolding planNumber firstOf planAnswer planAfter planSlice after
-  ends us z found new n o l e h g f w p q =
-      let k : n * rowSize ≡ length (numbersOf rows) = omega (arith, numbers-length (situationOf ws) t) in
-      let m : length (numbersOf rows) ≤ length old = omega arith in
-      rw (l, le-ltb (length old) (length (numbersOf rows)) m)
-      (ap (λ (c : ℕ). record { number = 0; count = c }) e, (rw p at q, written z found new (n * rowSize) k g f w))
+    -- what rows written in place leave in the slice, and what a copy of them from the front of other numbers does
+    pub placed : (new : List ℤ) → n * rowSize ≤ length old → new ≡ sets old 0 (numbersOf rows) → new ≡ front (numbersOf rows) old
+    unfolding front
+    placed new h w = w ∙ rw (sets-eq (numbersOf rows) old 0 (omega (arith, size)), zero-add)
+
+    pub copied : (z found new : List ℤ) → n * rowSize ≤ length z → found ≡ sets z 0 (numbersOf rows) → new ≡ take (n * rowSize) found ++ drop (n * rowSize) old → new ≡ front (numbersOf rows) old
+    unfolding front
+    copied z found new h f w = w ∙ rw (size, f, sets-eq (numbersOf rows) z 0 (omega (arith, size)), take-append-seam (numbersOf rows))
+
+    pub ends : (us : List ℕ) (new : List ℤ) → late (clockOf ws) t ≡ false → n * rowSize ≤ length old → new ≡ front (numbersOf rows) old → us ≡ applied ws (headChange ws t (overrideOf ws))
+        → Ends (record { number = 0; count = n }) us new
+    unfolding planNumber firstOf planAnswer planAfter planSlice after
+    ends us new l h w q =
+        let m : length (numbersOf rows) ≤ length old = omega (arith, size) in
+        rw (l, le-ltb (length old) (length (numbersOf rows)) m) (ap (λ (c : ℕ). record { number = 0; count = c }) counted, (q, w))

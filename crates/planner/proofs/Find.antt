@@ -7,14 +7,16 @@ use native.Mathlib.Nat.{add-zero}
 use native.Mathlib.Omega.{arith}
 use lib.IntN.{ℤ, pos}
 use lib.ListN.{length, set}
-use lib.Seq.{sets}
+use lib.Seq.{sets, length-sets}
 use borrow.Author.Tests.{lt-ltb, le-ltb}
 use Rattle.device.specs.Sizes.{end, slots, helds}
 use Rattle.device.specs.Holds.{Situation, situationOf, valueAt, shown, valuesAt}
 use Rattle.device.proofs.Runs.{length-upTo}
-use Rattle.device.proofs.Steady.{dues}
+use Rattle.device.specs.Dues.{dues, viewAt}
 use Rattle.planner.specs.Plan.{planOf, rowSize, numbersOf}
-use Rattle.planner.specs.Walk.{nearest, alike, step}
+use Rattle.planner.specs.Walk.{alike, step}
+use Rattle.device.specs.declared.View.{View}
+use Rattle.planner.proofs.Due.{nearest-later}
 use Rattle.planner.proofs.Walk.{planOf-step, planOf-few}
 
 -- a run of stores in two parts
@@ -43,44 +45,58 @@ module _ (s : Situation) (last : List ℤ) (due : ℕ) where
   unfolding step
   left-new h e = rw (lt-ltb due end h, e)
 
--- the loop's invariant: `count` rows are counted and written
-pub record Finding (ws : List ℕ) (t : ℕ) (out₀ out : List ℤ) (count : ℕ) (last : List ℤ) (due : ℕ) : Type 0 where
-  pub counted : count + length (left (situationOf ws) last due) ≡ length (planOf (situationOf ws) t)
-  pub written : sets out (count * rowSize) (numbersOf (left (situationOf ws) last due)) ≡ sets out₀ 0 (numbersOf (planOf (situationOf ws) t))
+-- the loop's invariant: `count` rows are counted and written, and v is what holds at the last second looked at
+pub record Finding (ws : List ℕ) (t : ℕ) (out₀ out : List ℤ) (count : ℕ) (v : View) : Type 0 where
+  pub counted : count + length (left (situationOf ws) (v .values) (v .next)) ≡ length (planOf (situationOf ws) t)
+  pub written : sets out (count * rowSize) (numbersOf (left (situationOf ws) (v .values) (v .next))) ≡ sets out₀ 0 (numbersOf (planOf (situationOf ws) t))
 
-pub finding-start : (ws : List ℕ) (t : ℕ) (out₀ : List ℤ) {values : List ℤ} {due : ℕ} → values ≡ valuesAt (situationOf ws) t → due ≡ nearest t (dues (situationOf ws)) → Finding ws t out₀ out₀ 0 values due
-finding-start ws t out₀ {values} {due} e f =
-    let p : left (situationOf ws) values due ≡ planOf (situationOf ws) t = rw (e, f) (sym (planOf-step (situationOf ws) t)) in
+-- what is left after a second at which v was looked at
+left-of : (s : Situation) (t : ℕ) {v : View} → v ≡ viewAt s t → left s (v .values) (v .next) ≡ planOf s t
+left-of s t e = rw e (sym (planOf-step s t))
+
+pub finding-start : (ws : List ℕ) (t : ℕ) (out₀ : List ℤ) {v : View} → v ≡ viewAt (situationOf ws) t → Finding ws t out₀ out₀ 0 v
+finding-start ws t out₀ {v} e =
+    let p : left (situationOf ws) (v .values) (v .next) ≡ planOf (situationOf ws) t = left-of (situationOf ws) t e in
     record { counted = rw p (omega arith); written = rw p }
 
-module _ {ws : List ℕ} {t : ℕ} {out₀ out : List ℤ} {count : ℕ} {last : List ℤ} {due : ℕ} (so-far : Finding ws t out₀ out count last due) where
-  pub finding-end : end ≤ due → (count ≡ length (planOf (situationOf ws) t)) × (out ≡ sets out₀ 0 (numbersOf (planOf (situationOf ws) t)))
+module _ {ws : List ℕ} {t : ℕ} {out₀ out : List ℤ} {count : ℕ} {v : View} (so-far : Finding ws t out₀ out count v) where
+  abbrev s : Situation
+  s = situationOf ws
+
+  pub finding-length : length out ≡ length out₀
+  finding-length =
+      sym (length-sets out (count * rowSize) (numbersOf (left s (v .values) (v .next))))
+      ∙ ap length (so-far .written) ∙ length-sets out₀ 0 (numbersOf (planOf s t))
+
+  pub finding-end : end ≤ v .next → (count ≡ length (planOf s t)) × (out ≡ sets out₀ 0 (numbersOf (planOf s t)))
   unfolding numbersOf
   finding-end h =
-      let e = left-end (situationOf ws) last due h in
+      let e = left-end s (v .values) (v .next) h in
       (omega (arith, so-far .counted, ap length e), rw e at (so-far .written))
 
-  module _ {values : List ℤ} (here : values ≡ valuesAt (situationOf ws) due) (low : due < end) where
-    pub finding-room : alike values last ≡ false → count < slots * helds
+  module _ {w : View} (here : w ≡ viewAt s (v .next)) (low : v .next < end) where
+    values-here : w .values ≡ valuesAt s (v .next)
+    values-here = ap (λ (x : View). x .values) here
+
+    pub finding-later : v .next < w .next
+    finding-later = rw here (nearest-later (v .next) (dues s) low)
+
+    pub finding-room : alike (w .values) (v .values) ≡ false → count < slots * helds
     finding-room e =
-        let p = left-new (situationOf ws) last due low (rw here at e) in
+        let p = left-new s (v .values) (v .next) low (rw values-here at e) in
         omega (arith, so-far .counted, ap length p, planOf-few ws t)
 
-    module _ {next : ℕ} (near : next ≡ nearest due (dues (situationOf ws))) where
-      rest : left (situationOf ws) values next ≡ planOf (situationOf ws) due
-      rest = rw (here, near) (sym (planOf-step (situationOf ws) due))
+    pub finding-same : alike (w .values) (v .values) ≡ true → Finding ws t out₀ out count w
+    finding-same e =
+        let p : left s (v .values) (v .next) ≡ left s (w .values) (w .next) = left-same s (v .values) (v .next) low (rw values-here at e) ∙ sym (left-of s (v .next) here) in
+        record { counted = rw p at (so-far .counted); written = rw p at (so-far .written) }
 
-      pub finding-same : alike values last ≡ true → Finding ws t out₀ out count values next
-      finding-same e =
-          let p : left (situationOf ws) last due ≡ left (situationOf ws) values next = left-same (situationOf ws) last due low (rw here at e) ∙ sym rest in
-          record { counted = rw p at (so-far .counted); written = rw p at (so-far .written) }
-
-      pub finding-new : alike values last ≡ false → {out′ : List ℤ} → out′ ≡ sets out (count * rowSize) (pos due ∷ values) → Finding ws t out₀ out′ (count + 1) values next
-      unfolding numbersOf
-      finding-new e {out′} w =
-          let p : left (situationOf ws) last due ≡ (due, values) ∷ left (situationOf ws) values next = left-new (situationOf ws) last due low (rw here at e) ∙ rw (rest, here) in
-          let k : (count + 1) * rowSize ≡ count * rowSize + length (pos due ∷ values) = omega (arith, ap length here, values-length (situationOf ws) due) in
-          record {
-            counted = omega (arith, so-far .counted, ap length p);
-            written = rw (w, k, ← sets-append out (pos due ∷ values) (numbersOf (left (situationOf ws) values next)) (count * rowSize)) (rw p at (so-far .written));
-          }
+    pub finding-new : alike (w .values) (v .values) ≡ false → {out′ : List ℤ} → out′ ≡ sets out (count * rowSize) (pos (v .next) ∷ w .values) → Finding ws t out₀ out′ (count + 1) w
+    unfolding numbersOf
+    finding-new e {out′} put =
+        let p : left s (v .values) (v .next) ≡ (v .next, w .values) ∷ left s (w .values) (w .next) = left-new s (v .values) (v .next) low (rw values-here at e) ∙ rw (left-of s (v .next) here, values-here) in
+        let k : (count + 1) * rowSize ≡ count * rowSize + length (pos (v .next) ∷ w .values) = omega (arith, ap length values-here, values-length s (v .next)) in
+        record {
+          counted = omega (arith, so-far .counted, ap length p);
+          written = rw (put, k, ← sets-append out (pos (v .next) ∷ w .values) (numbersOf (left s (w .values) (w .next))) (count * rowSize)) (rw p at (so-far .written));
+        }

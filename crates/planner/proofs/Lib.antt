@@ -3,7 +3,6 @@ pub mod Alike
 pub mod Due
 pub mod Quiet
 pub mod Walk
-pub mod Nearest
 pub mod Written
 pub mod Find
 pub mod Answers

@@ -11,10 +11,11 @@ use lib.ListN.{length}
 use borrow.Author.Tests.{ltb-true, ltb-false, le-ltb}
 use Rattle.device.specs.Sizes.{end, slots, helds}
 use Rattle.device.specs.Holds.{Situation, situationOf, valuesAt}
-use Rattle.device.proofs.Steady.{dues, Idle, values-steady, dues-few}
+use Rattle.device.specs.Dues.{dues, nearest}
+use Rattle.device.proofs.Steady.{Idle, values-steady, dues-few}
 use Rattle.planner.specs.Rows.{plan}
 use Rattle.planner.specs.Plan.{planOf}
-use Rattle.planner.specs.Walk.{nearest, alike, step, walk}
+use Rattle.planner.specs.Walk.{alike, step, walk}
 use Rattle.planner.proofs.Due.{Least, nearest-is, above, above-all, above-less}
 use Rattle.planner.proofs.Quiet.{plan-over, plan-next}
 

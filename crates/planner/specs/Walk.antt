@@ -1,18 +1,11 @@
 -- How the plan is found: from one due second to the next. It computes, and proofs/Walk.antt shows that it is the plan.
 use Prim.Native.Nat.{ℕ, zero, suc}
 use mathlib.Core.Bool.{Bool, true, false, cond, _&&_}
-use mathlib.Core.List.{List, [], _∷_, foldl}
+use mathlib.Core.List.{List, [], _∷_}
 use lib.Dec.{ltb, eqb}
 use lib.IntN.{ℤ, pos, negsuc}
 use Rattle.device.specs.Sizes.{end}
-
--- the nearer of r and, where it lies past cur, e
-unfoldable pub nearer : ℕ → ℕ → ℕ → ℕ
-nearer cur r e = cond (ltb cur e && ltb e r) e r
-
--- the next due second past cur, or the end where there is none before it
-unfoldable pub nearest : ℕ → List ℕ → ℕ
-nearest cur ds = foldl (nearer cur) end ds
+use Rattle.device.specs.Dues.{nearest}
 
 unfoldable pub sameNumber : ℤ → ℤ → Bool
 sameNumber (pos a) (pos b) = eqb a b

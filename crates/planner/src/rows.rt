@@ -1,11 +1,10 @@
 // The rows, six numbers each.
-use super::dues::next_due;
 use device::END;
 use device::HELDS;
 use device::SLOTS;
 use device::State;
 use device::VALUES;
-use device::holds::values_at;
+use device::holds::view;
 ghost use mathlib.Core.Path.{_≡_};
 ghost use mathlib.Core.List.{_∷_, _++_};
 ghost use Prim.Native.Nat.{_+_, _*_, _<_, _≤_};
@@ -41,8 +40,8 @@ fn alike(a: [i64; VALUES], b: [i64; VALUES]) -> bool
     true
 }
 
-fn put_row(out: &mut [i64; ROOM], at: usize, t: u64, values: [i64; VALUES])
-    requires { ⌜ at + rowSize ≤ slots * helds * rowSize ⌝ }
+fn put_row(out: &mut [i64], at: usize, t: u64, values: [i64; VALUES])
+    requires { ⌜ at + rowSize ≤ length (now out) ⌝ }
     requires { ⌜ t < end ⌝ }
     ensures { λ _. ⌜ now (out .exit) ≡ sets (now (out .entry)) at (pos t ∷ values) ⌝ }
 {
@@ -56,21 +55,22 @@ fn put_row(out: &mut [i64; ROOM], at: usize, t: u64, values: [i64; VALUES])
 }
 
 // Walks from due to due, and writes a row where the values differ from the last: how many rows stand at the front of `out`.
-pub fn find(d: &State, t: u64, out: &mut [i64; ROOM]) -> usize
+pub fn find(d: &State, t: u64, out: &mut [i64]) -> usize
+    requires { ⌜ slots * helds * rowSize ≤ length (now out) ⌝ }
     ensures { λ r. ⌜ r ≡ length (planOf (situationOf (now (d .entry))) t) ⌝ }
     ensures { λ _. ⌜ now (out .exit) ≡ sets (now (out .entry)) 0 (numbersOf (planOf (situationOf (now (d .entry))) t)) ⌝ }
 {
     let mut count = 0;
-    let mut last = values_at(d, t);
-    let mut due = next_due(d, t);
-    while due < END {
-        let values = values_at(d, due);
+    let mut v = view(d, t);
+    while v.next < END {
+        let due = v.next;
+        let last = v.values;
+        v = view(d, due);
+        let values = v.values;
         if !alike(values, last) {
             put_row(out, count * ROW, due, values);
             count += 1;
         }
-        last = values;
-        due = next_due(d, due);
     }
     count
 }

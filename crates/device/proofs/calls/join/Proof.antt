@@ -1,3 +1,4 @@
+use Prim.Native.Nat.{_<_}
 use mathlib.Core.Path.{sym}
 use native.Mathlib.Omega.{arith}
 use borrow.Author.Tests.{le-leb, lt-leb}
@@ -5,7 +6,7 @@ use Rattle.device.specs.Refusals.{firstOf}
 use Rattle.device.specs.Calls.{joinNumber, joinAfter}
 use Rattle.device.proofs.Tests.{via}
 use Rattle.device.proofs.Answered.{refused, accepted, timed}
-use Rattle.device.proofs.Changes.{up-change, join-up}
+use Rattle.device.proofs.Changes.{up-change, join-range, join-up}
 use Rattle.device.proofs.calls.join.Statement.{statement}
 use Rattle.device.proofs.calls.join.Tie as tie
 
@@ -22,5 +23,6 @@ join-spec =
     (λ c. refused _ 7 _ _ (rw (timed _ _ _ _ _ (c .before .before .before .before .before .before .before .clock .ensures) (c .before .before .before .before .before .before .is-late .ensures) (c .before .before .before .before .before .if1 .left), via (c .before .before .before .before .is-bad-join .ensures) (c .before .before .before .if2 .left), via (c .before .is-joined .ensures) (c .if3 .taken))) (λ e. omega arith))
     (λ c κs. tt)
     (λ c. refused _ 8 _ _ (rw (timed _ _ _ _ _ (c .before .before .before .before .before .before .before .before .before .before .clock .ensures) (c .before .before .before .before .before .before .before .before .before .is-late .ensures) (c .before .before .before .before .before .before .before .before .if1 .left), via (c .before .before .before .before .before .before .before .is-bad-join .ensures) (c .before .before .before .before .before .before .if2 .left), via (c .before .before .before .before .is-joined .ensures) (c .before .before .before .if3 .left), le-leb _ _ (rw (c .before .slot-of .ensures) at (c .if4 .taken)))) (λ e. omega arith))
-    (λ c κs. tt) (λ c κs. tt) (λ c κs. tt) (λ c κs. tt)
+    (λ c κs. let r : (0 < _) × (_ < 256) × (_ < 5) = join-range _ _ (via (c .before .before .before .before .before .before .before .is-bad-join .ensures) (c .before .before .before .before .before .before .if2 .left)) in (r .1, r .2))
+    (λ c κs. tt) (λ c κs. tt) (λ c κs. tt)
     (λ c. accepted _ _ _ _ _ (rw (timed _ _ _ _ _ (c .before .before .before .before .before .before .before .before .before .before .before .before .before .before .before .before .before .clock .ensures) (c .before .before .before .before .before .before .before .before .before .before .before .before .before .before .before .before .is-late .ensures) (c .before .before .before .before .before .before .before .before .before .before .before .before .before .before .before .if1 .left), via (c .before .before .before .before .before .before .before .before .before .before .before .before .before .before .is-bad-join .ensures) (c .before .before .before .before .before .before .before .before .before .before .before .before .before .if2 .left), via (c .before .before .before .before .before .before .before .before .before .before .before .is-joined .ensures) (c .before .before .before .before .before .before .before .before .before .before .if3 .left), lt-leb _ _ (rw (c .before .before .before .before .before .before .before .before .slot-of .ensures) at (c .before .before .before .before .before .before .before .if4 .left)))) (c .apply .ensures) (rw (c .before .before .before .before .before .before .new-zone .ensures, c .before .before .before .before .since .ensures, c .before .before .overridden .ensures, c .before .before .before .before .before .before .before .before .slot-of .ensures) (sym (up-change _ _ _ _ (join-up _ _ (via (c .before .before .before .before .before .before .before .before .before .before .before .before .before .before .is-bad-join .ensures) (c .before .before .before .before .before .before .before .before .before .before .before .before .before .if2 .left))))))))

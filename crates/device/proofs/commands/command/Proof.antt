@@ -11,4 +11,4 @@ command-spec =
     tie.close
     (tie.spec
     (λ c κs. search needs) (λ c κs. search needs) (λ c κs. search needs) (λ c κs. search needs)
-    (λ c. let l : length (c .before .before .before .before .before .before .whole .result) ≡ words = search needs in (answered (c .before .before .before .before .before .before .before .before .args .d .now) _ _ _ (sym (ap length (c .before .before .before .before .before .before .whole .ensures)) ∙ l) (c .before .before .before .before .decide .result) _ (c .before .before .before .before .decide .ensures) (c .before .before .outcome-of .ensures), c .enact .ensures ∙ rw (c .before .before .before .before .decide .ensures) (decision-enacted _ _ _ _))))
+    (λ c. let l : length (c .before .before .before .before .before .before .all .result) ≡ words = search needs in (answered (c .before .before .before .before .before .before .before .before .args .d .now) _ _ _ (sym (ap length (c .before .before .before .before .before .before .all .ensures)) ∙ l) (c .before .before .before .before .decide .result) _ (c .before .before .before .before .decide .ensures) (c .before .before .outcome-of .ensures), c .enact .ensures ∙ rw (c .before .before .before .before .decide .ensures) (decision-enacted _ _ _ _))))

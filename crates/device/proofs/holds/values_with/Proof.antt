@@ -1,6 +1,11 @@
-use mathlib.Core.Path.{_∙_}
+use mathlib.Core.Bool.{false}
+use mathlib.Core.Path.{_≡_, _∙_}
+use lib.ListN.{set}
+use Rattle.device.specs.Zones.{anyUp}
+use Rattle.device.specs.Words.{zonesOf}
 use Rattle.device.specs.Holds.{situationOf, withZone}
-use Rattle.device.proofs.Gather.{table-read}
+use Rattle.device.proofs.Tests.{via}
+use Rattle.device.proofs.Shows.{values-up, values-down, up-of, down-of, joined-of}
 use borrow.Author.Needs.{needs}
 use Rattle.device.proofs.holds.values_with.Statement.{statement}
 use Rattle.device.proofs.holds.values_with.Tie as tie
@@ -9,6 +14,9 @@ pub values-with-spec : {M : Type 1} → statement M
 values-with-spec =
     tie.close
     (tie.spec
-    (λ c κs. search needs) (λ c κs. search needs) (λ c κs. search needs) (λ c κs. search needs)
-    (λ c κs. search needs) (λ c κs. search needs)
-    (λ c. c .values-from .ensures ∙ table-read (withZone (situationOf (c .before .before .before .before .before .before .args .d .now)) (c .before .before .before .before .before .before .args .slot) (c .before .before .before .before .before .before .args .zone)) _ _ _ _ _ _ (c .before .before .before .before .before .settings-at .ensures) (c .before .before .before .before .gather .ensures) (c .before .before .before .since .ensures) (c .before .before .failsafe-from .ensures) (c .before .overridden .ensures)))
+    (λ c κs. search needs) (λ c κs. search needs) (λ c κs. search needs)
+    (λ c. c .values-up .ensures ∙ values-up (withZone (situationOf (c .before .before .before .before .args .d .now)) (c .before .before .before .before .args .slot) (c .before .before .before .before .args .zone)) (c .before .before .before .before .args .t) (up-of (withZone (situationOf (c .before .before .before .before .args .d .now)) (c .before .before .before .before .args .slot) (c .before .before .before .before .args .zone)) (via (c .before .before .before .row-with .ensures) (c .before .before .if1 .taken))) _ (c .before .tops-with .ensures .0))
+    (λ c κs. search needs)
+    (λ c.
+    let down : anyUp (set (zonesOf (c .before .before .before .args .d .now)) (c .before .before .before .args .slot) (c .before .before .before .args .zone)) ≡ false = down-of (withZone (situationOf (c .before .before .before .args .d .now)) (c .before .before .before .args .slot) (c .before .before .before .args .zone)) (rw (← c .before .before .row-with .ensures) (c .before .if1 .left)) in
+    c .values-down .ensures ∙ rw (c .before .before .row-with .ensures, joined-of (withZone (situationOf (c .before .before .before .args .d .now)) (c .before .before .before .args .slot) (c .before .before .before .args .zone)) down) (values-down (withZone (situationOf (c .before .before .before .args .d .now)) (c .before .before .before .args .slot) (c .before .before .before .args .zone)) (c .before .before .before .args .t) down)))

@@ -1,11 +1,11 @@
 use lib.Seq.{getD-set-other}
-use Rattle.device.specs.Zones.{isJoined, isUp}
+use Rattle.device.specs.Zones.{idOf, isJoined, isUp}
 use Rattle.device.proofs.Since.{freed}
 use Rattle.device.proofs.links.is_up_without.Statement.{statement}
 use Rattle.device.proofs.links.is_up_without.Tie as tie
 
 pub is-up-without-spec : {M : Type 1} → statement M
-unfolding isUp isJoined
+unfolding isUp isJoined idOf
 is-up-without-spec =
     tie.close
     (tie.spec

@@ -12,4 +12,4 @@ up-at-spec =
     tie.close
     (tie.spec
     (λ c κs. search needs)
-    (λ c. rw (c .part .ensures) (part-is _ _ (λ x. x .up) (λ v. ltb 0 v) 2 refl refl)))
+    (λ c. rw (c .part .ensures) (part-is _ _ (λ x. x .up) (λ v. ltb 0 v) 1 refl refl)))

@@ -12,7 +12,7 @@ zone-at-spec =
     tie.close
     (tie.spec
     (λ c. search needs) (λ c. search needs) (λ c κs. search needs) (λ c. search needs) (λ c κs. search needs)
-    (λ c. search needs) (λ c κs. search needs) (λ c. search needs) (λ c κs. search needs)
-    (λ c. rw (c .before .before .before .word .ensures, c .before .before .word2 .ensures, c .before .word3 .ensures, c .helds-in .ensures) (sym (zones-at _ _ freeZone (c .before .before .before .before .if1 .taken))))
+    (λ c. search needs) (λ c κs. search needs)
+    (λ c. rw (c .before .before .word .ensures, c .before .word2 .ensures, c .helds-in .ensures) (sym (zones-at _ _ freeZone (c .before .before .before .if1 .taken))))
     (λ c κs. search needs)
     (λ c. c .free-zone .ensures ∙ sym (zones-past _ _ (c .before .if1 .left))))
