@@ -15,35 +15,40 @@ ghost use Rattle.conformance.specs.Report.{reportOf, pairsAfter};
 
 #[no_mangle]
 pub extern "C" fn cekarum_start(device: &mut State, settings: Settings) -> u64
-    ensures { λ r. ⌜ (r ≡ startNumber settings) × (now (device .exit) ≡ startAfter settings) ⌝ }
+    ensures { λ r. ⌜ r ≡ startNumber settings ⌝ }
+    ensures { λ _. ⌜ now (device .exit) ≡ startAfter settings ⌝ }
 {
     device::calls::start(device, settings)
 }
 
 #[no_mangle]
 pub extern "C" fn cekarum_join(device: &mut State, zone: u64, rank: u64, time: u64) -> u64
-    ensures { λ r. ⌜ (r ≡ joinNumber (now (device .entry)) zone rank time) × (now (device .exit) ≡ joinAfter (now (device .entry)) zone rank time) ⌝ }
+    ensures { λ r. ⌜ r ≡ joinNumber (now (device .entry)) zone rank time ⌝ }
+    ensures { λ _. ⌜ now (device .exit) ≡ joinAfter (now (device .entry)) zone rank time ⌝ }
 {
     device::calls::join(device, zone, rank, time)
 }
 
 #[no_mangle]
 pub extern "C" fn cekarum_leave(device: &mut State, zone: u64, time: u64) -> u64
-    ensures { λ r. ⌜ (r ≡ leaveNumber (now (device .entry)) zone time) × (now (device .exit) ≡ leaveAfter (now (device .entry)) zone time) ⌝ }
+    ensures { λ r. ⌜ r ≡ leaveNumber (now (device .entry)) zone time ⌝ }
+    ensures { λ _. ⌜ now (device .exit) ≡ leaveAfter (now (device .entry)) zone time ⌝ }
 {
     device::calls::leave(device, zone, time)
 }
 
 #[no_mangle]
 pub extern "C" fn cekarum_lost(device: &mut State, zone: u64, time: u64) -> u64
-    ensures { λ r. ⌜ (r ≡ linkNumber (now (device .entry)) zone false time) × (now (device .exit) ≡ linkAfter (now (device .entry)) zone false time) ⌝ }
+    ensures { λ r. ⌜ r ≡ linkNumber (now (device .entry)) zone false time ⌝ }
+    ensures { λ _. ⌜ now (device .exit) ≡ linkAfter (now (device .entry)) zone false time ⌝ }
 {
     device::calls::lost(device, zone, time)
 }
 
 #[no_mangle]
 pub extern "C" fn cekarum_back(device: &mut State, zone: u64, time: u64) -> u64
-    ensures { λ r. ⌜ (r ≡ linkNumber (now (device .entry)) zone true time) × (now (device .exit) ≡ linkAfter (now (device .entry)) zone true time) ⌝ }
+    ensures { λ r. ⌜ r ≡ linkNumber (now (device .entry)) zone true time ⌝ }
+    ensures { λ _. ⌜ now (device .exit) ≡ linkAfter (now (device .entry)) zone true time ⌝ }
 {
     device::calls::back(device, zone, time)
 }
@@ -55,21 +60,24 @@ pub extern "C" fn cekarum_override(
     direction: u64,
     time: u64,
 ) -> u64
-    ensures { λ r. ⌜ (r ≡ overrideNumber (now (device .entry)) reason direction time) × (now (device .exit) ≡ overrideAfter (now (device .entry)) reason direction time) ⌝ }
+    ensures { λ r. ⌜ r ≡ overrideNumber (now (device .entry)) reason direction time ⌝ }
+    ensures { λ _. ⌜ now (device .exit) ≡ overrideAfter (now (device .entry)) reason direction time ⌝ }
 {
     device::calls::set_override(device, reason, direction, time)
 }
 
 #[no_mangle]
 pub extern "C" fn cekarum_clear(device: &mut State, time: u64) -> u64
-    ensures { λ r. ⌜ (r ≡ clearNumber (now (device .entry)) time) × (now (device .exit) ≡ clearAfter (now (device .entry)) time) ⌝ }
+    ensures { λ r. ⌜ r ≡ clearNumber (now (device .entry)) time ⌝ }
+    ensures { λ _. ⌜ now (device .exit) ≡ clearAfter (now (device .entry)) time ⌝ }
 {
     device::calls::clear_override(device, time)
 }
 
 #[no_mangle]
 pub extern "C" fn cekarum_ask(device: &mut State, time: u64) -> Asked
-    ensures { λ r. ⌜ (r ≡ askAnswer (now (device .entry)) time) × (now (device .exit) ≡ askAfter (now (device .entry)) time) ⌝ }
+    ensures { λ r. ⌜ r ≡ askAnswer (now (device .entry)) time ⌝ }
+    ensures { λ _. ⌜ now (device .exit) ≡ askAfter (now (device .entry)) time ⌝ }
 {
     device::calls::ask(device, time)
 }

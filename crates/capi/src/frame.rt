@@ -13,7 +13,9 @@ pub extern "C" fn cekarum_frame(
     bytes: &[u8],
     out: &mut [u8],
 ) -> Framed
-    ensures { λ r. ⌜ (r ≡ frameAnswer (now (device .entry)) zone time (now (bytes .entry)) (length (now (out .entry)))) × (now (device .exit) ≡ frameAfter (now (device .entry)) zone time (now (bytes .entry)) (length (now (out .entry)))) × (now (out .exit) ≡ frameOut (now (device .entry)) zone time (now (bytes .entry)) (now (out .entry))) ⌝ }
+    ensures { λ r. ⌜ r ≡ frameAnswer (now (device .entry)) zone time (now (bytes .entry)) (length (now (out .entry))) ⌝ }
+    ensures { λ _. ⌜ now (device .exit) ≡ frameAfter (now (device .entry)) zone time (now (bytes .entry)) (length (now (out .entry))) ⌝ }
+    ensures { λ _. ⌜ now (out .exit) ≡ frameOut (now (device .entry)) zone time (now (bytes .entry)) (now (out .entry)) ⌝ }
 {
     kernel::frame(device, zone, time, bytes, out)
 }

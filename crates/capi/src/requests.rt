@@ -307,7 +307,8 @@ pub extern "C" fn cekarum_read_request(frame: &[u8]) -> FlatReading
 
 #[no_mangle]
 pub extern "C" fn cekarum_write_request(request: FlatRequest, out: &mut [u8]) -> Written
-    ensures { λ w. ⌜ (w ≡ writtenOf (requestNumber (requestOf request)) (itemFrame (requestItem (requestOf request))) (length (now (out .entry)))) × (now (out .exit) ≡ leftBy (requestNumber (requestOf request)) (itemFrame (requestItem (requestOf request))) (now (out .entry))) ⌝ }
+    ensures { λ w. ⌜ w ≡ writtenOf (requestNumber (requestOf request)) (itemFrame (requestItem (requestOf request))) (length (now (out .entry))) ⌝ }
+    ensures { λ _. ⌜ now (out .exit) ≡ leftBy (requestNumber (requestOf request)) (itemFrame (requestItem (requestOf request))) (now (out .entry)) ⌝ }
 {
     frames::write_request(out, request_of(request))
 }

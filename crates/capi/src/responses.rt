@@ -211,7 +211,8 @@ pub extern "C" fn cekarum_write_response(
     response: FlatResponse,
     out: &mut [u8],
 ) -> Written
-    ensures { λ w. ⌜ (w ≡ writtenOf (responseNumber command (responseOf command response)) (itemFrame (responseItem (responseOf command response))) (length (now (out .entry)))) × (now (out .exit) ≡ leftBy (responseNumber command (responseOf command response)) (itemFrame (responseItem (responseOf command response))) (now (out .entry))) ⌝ }
+    ensures { λ w. ⌜ w ≡ writtenOf (responseNumber command (responseOf command response)) (itemFrame (responseItem (responseOf command response))) (length (now (out .entry))) ⌝ }
+    ensures { λ _. ⌜ now (out .exit) ≡ leftBy (responseNumber command (responseOf command response)) (itemFrame (responseItem (responseOf command response))) (now (out .entry)) ⌝ }
 {
     frames::write_response(out, command, response_of(command, response))
 }

@@ -4,20 +4,21 @@ use mathlib.Core.Bool.{Bool, true, false, cond, not}
 use mathlib.Core.Logic.{_≢_}
 use mathlib.Core.Path.{_≡_, refl, sym, ap, _∙_}
 use mathlib.Core.List.{List, [], _∷_}
+use mathlib.Core.Option.{Option}
 use native.Mathlib.Nat.{zero-add}
 use native.Mathlib.Omega.{arith}
 use lib.Dec.{leb, eqb}
 use lib.ListN.{length}
 use borrow.Author.Tests.{eq-eqb, ne-eqb}
 use Rattle.cbor.specs.Bytes.{put, putWhole}
-use Rattle.messages.specs.Numbers.{wireNumber}
 use Rattle.messages.specs.Refusals.{firstOf}
 use Rattle.messages.specs.declared.Outcome.{Outcome}
 use Rattle.messages.specs.declared.Request.{Request}
 use Rattle.messages.specs.declared.Response.{Response}
-use Rattle.frames.specs.Fields.{most32}
-use Rattle.frames.specs.Requests.{requestNumber, readRequest}
-use Rattle.frames.specs.Responses.{responseItem, responseNumber, statusAlone, statusNumber}
+use Rattle.cbor.specs.Item.{Item, payloadOf}
+use Rattle.frames.specs.Prefix.{framed, payloadIn}
+use Rattle.frames.specs.Requests.{fromPayload, readRequest}
+use Rattle.frames.specs.Responses.{responseItem, statusAlone}
 use Rattle.frames.specs.Writing.{itemFrame, writingNumber, writtenOf, leftBy}
 use Rattle.frames.specs.declared.prefix.Written.{Written}
 use Rattle.frames.specs.declared.requests.Reading.{Reading}
@@ -28,7 +29,6 @@ use Rattle.device.specs.declared.Decision.{Decision}
 use Rattle.device.proofs.Decisions.{answered, decision-enacted}
 use Rattle.kernel.specs.Frame.{responseTo, responseFrame, numberFrom, obeyedBy, answerFrom, afterFrom, outFrom, frameAnswer, frameAfter, frameOut}
 use Rattle.kernel.specs.declared.frame_call.Framed.{Framed}
-use Rattle.kernel.proofs.InRange.{response-writable, status-writable}
 
 -- a writer that refuses nothing but a lack of room
 module _ (frame : List ℕ) where
@@ -91,57 +91,60 @@ module _ (ws : List ℕ) (z t : ℕ) (r : Request) (out : List ℕ) where
   unfolding numberFrom
   crowded-after w e f h = rw (e, ← written-number frame (length out), ← f, ne-eqb (w .number) 0 h)
 
--- what the writer was handed is the response, and it refuses nothing but a lack of room
-pub handed : (ws : List ℕ) (z t : ℕ) (r : Request) (q : Response) (n : ℕ) → requestNumber r ≡ 0 → q ≡ responseTo ws z t r → n ≡ wireNumber (r .command)
-    → (responseNumber n q ≡ 0) × (itemFrame (responseItem q) ≡ responseFrame ws z t (Reading.Is r))
-unfolding responseFrame
-handed ws z t r q n sound e f = rw (e, f) (response-writable ws z t r sound, refl)
-
 -- all that the three steps before the store have shown
 pub record Ready (ws : List ℕ) (z t : ℕ) (r : Request) (x : Decision) (w : Written) (out left : List ℕ) : Type 0 where
   pub number : x .number ≡ commandNumber ws z t (r .command)
   pub written : w ≡ writtenOf 0 (responseFrame ws z t (Reading.Is r)) (length out)
   pub output : left ≡ outFrom ws z t (Reading.Is r) out
 
-pub ready : (ws : List ℕ) (z t : ℕ) (r : Request) (x : Decision) (o : Outcome) (n : ℕ) (w : Written) (out left : List ℕ) → length ws ≡ words → requestNumber r ≡ 0
-    → x ≡ decisionOf ws z t (r .command) → o ≡ outcomeFor ws t (r .command) x → n ≡ wireNumber (r .command)
-    → w ≡ writtenOf (responseNumber n (record { id = r .id; status = x .number; outcome = o })) (itemFrame (responseItem (record { id = r .id; status = x .number; outcome = o }))) (length out)
-    → left ≡ leftBy (responseNumber n (record { id = r .id; status = x .number; outcome = o })) (itemFrame (responseItem (record { id = r .id; status = x .number; outcome = o }))) out
+pub ready : (ws : List ℕ) (z t : ℕ) (r : Request) (x : Decision) (o : Outcome) (w : Written) (out left : List ℕ) → length ws ≡ words
+    → x ≡ decisionOf ws z t (r .command) → o ≡ outcomeFor ws t (r .command) x
+    → w ≡ writtenOf 0 (itemFrame (responseItem (record { id = r .id; status = x .number; outcome = o }))) (length out)
+    → left ≡ leftBy 0 (itemFrame (responseItem (record { id = r .id; status = x .number; outcome = o }))) out
     → Ready ws z t r x w out left
-unfolding responseTo
-ready ws z t r x o n w out left full sound e f g k l =
+unfolding responseTo responseFrame
+ready ws z t r x o w out left full e f k l =
     let q = responds ws z t r full x o e f in
-    let h = handed ws z t r _ n sound q g in
     record {
       number = ap (λ (y : Response). y .status) q;
-      written = k ∙ rw (h .0, h .1);
-      output = l ∙ rw (h .0, h .1) (left-whole (responseFrame ws z t (Reading.Is r)) out);
+      written = k ∙ rw q;
+      output = l ∙ rw q (left-whole (responseFrame ws z t (Reading.Is r)) out);
     }
 
 -- THE CALL, by what the frame reads as
 abbrev Answers : List ℕ → ℕ → ℕ → Reading → List ℕ → Framed → List ℕ → List ℕ → Type 0
 Answers ws z t reading out f device left =
-    (f ≡ answerFrom ws z t reading (length out)) × (device ≡ afterFrom ws z t reading (length out)) × (left ≡ outFrom ws z t reading out)
+    (f ≡ answerFrom ws z t reading (length out)) × ((device ≡ afterFrom ws z t reading (length out)) × (left ≡ outFrom ws z t reading out))
 
 either : {A : Type 0} (b : Bool) (x : A) → x ≡ cond b x x
 either true x = refl
 either false x = refl
 
 module _ (ws : List ℕ) (z t : ℕ) (out : List ℕ) where
-  pub as-read : (bytes : List ℕ) (reading : Reading) (f : Framed) (device left : List ℕ) → readRequest bytes ≡ reading → Answers ws z t reading out f device left
-      → (f ≡ frameAnswer ws z t bytes (length out)) × (device ≡ frameAfter ws z t bytes (length out)) × (left ≡ frameOut ws z t bytes out)
-  unfolding frameAnswer frameAfter frameOut
-  as-read bytes reading f device left e h = rw e h
+  -- what a payload reads as is answered
+  pub as-read : (o : Option Item) (reading : Reading) (f : Framed) (device left : List ℕ) → fromPayload o ≡ reading → Answers ws z t reading out f device left → Answers ws z t (fromPayload o) out f device left
+  as-read o reading f device left e h = rw e h
 
-  pub unserved-answer : (i : ℕ) (w : Written) (left : List ℕ) → leb i most32 ≡ true
-      → w ≡ writtenOf (statusNumber i 4) (itemFrame (responseItem (statusAlone i 4))) (length out) → left ≡ leftBy (statusNumber i 4) (itemFrame (responseItem (statusAlone i 4))) out
+  -- the frame's bytes are a payload behind its length, or not
+  pub as-framed : (bytes : List ℕ) (f : Framed) (device left : List ℕ) → framed bytes ≡ true → Answers ws z t (fromPayload (payloadOf (payloadIn bytes))) out f device left
+      → (f ≡ frameAnswer ws z t bytes (length out)) × ((device ≡ frameAfter ws z t bytes (length out)) × (left ≡ frameOut ws z t bytes out))
+  unfolding frameAnswer frameAfter frameOut readRequest
+  as-framed bytes f device left e h = rw e h
+
+  pub not-framed : (bytes : List ℕ) (f : Framed) (device left : List ℕ) → framed bytes ≡ false → Answers ws z t (Reading.Refused 1) out f device left
+      → (f ≡ frameAnswer ws z t bytes (length out)) × ((device ≡ frameAfter ws z t bytes (length out)) × (left ≡ frameOut ws z t bytes out))
+  unfolding frameAnswer frameAfter frameOut readRequest
+  not-framed bytes f device left e h = rw e h
+
+  pub unserved-answer : (i : ℕ) (w : Written) (left : List ℕ)
+      → w ≡ writtenOf 0 (itemFrame (responseItem (statusAlone i 4))) (length out) → left ≡ leftBy 0 (itemFrame (responseItem (statusAlone i 4))) out
       → Answers ws z t (Reading.Unserved i) out (record { number = 4; length = w .length }) ws left
   unfolding numberFrom responseFrame
-  unserved-answer i w left h e f =
-      rw (e, f, status-writable i h, written-length (itemFrame (responseItem (statusAlone i 4))) (length out))
-      (refl, refl, left-whole (itemFrame (responseItem (statusAlone i 4))) out)
+  unserved-answer i w left e f =
+      rw (e, f, written-length (itemFrame (responseItem (statusAlone i 4))) (length out))
+      (refl, (refl, left-whole (itemFrame (responseItem (statusAlone i 4))) out))
 
   pub refused-reading : (n : ℕ) → Answers ws z t (Reading.Refused n) out (record { number = n; length = 0 }) ws out
   unfolding numberFrom responseFrame obeyedBy putWhole put
   refused-reading n =
-      (ap (λ (l : ℕ). record { number = n; length = l }) (either (leb 0 (length out)) 0), either (eqb n 0) ws, either (leb (0 + 0) (length out)) out)
+      (ap (λ (l : ℕ). record { number = n; length = l }) (either (leb 0 (length out)) 0), (either (eqb n 0) ws, either (leb (0 + 0) (length out)) out))

@@ -3,12 +3,15 @@ use device::State;
 use device::commands::decide;
 use device::commands::enact;
 use device::commands::outcome_of;
+use device::store::all;
 use frames::Reading;
+use messages::Outcome;
 use messages::Request;
 use messages::Response;
 ghost use mathlib.Core.Path.{_≡_};
 ghost use lib.ListN.{length};
-ghost use Rattle.frames.specs.Requests.{requestNumber};
+ghost use Rattle.cbor.specs.Item.{payloadOf};
+ghost use Rattle.frames.specs.Requests.{fromPayload};
 ghost use Rattle.frames.specs.declared.requests.Reading.{Reading};
 ghost use Rattle.kernel.specs.Frame.{answerFrom, afterFrom, outFrom, frameAnswer, frameAfter, frameOut};
 
@@ -19,26 +22,19 @@ pub struct Framed {
     pub length: usize,
 }
 
-// A copy: an array by value, whose length the proof knows. Nothing reads it, so it leaves no code.
-fn whole(d: &State) -> State
-    ensures { λ r. ⌜ r ≡ now (d .entry) ⌝ }
-{
-    *d
-}
-
 // A request that was read, from a zone at t.
 fn answer(d: &mut State, zone: u64, t: u64, r: Request, out: &mut [u8]) -> Framed
-    requires { ⌜ requestNumber r ≡ 0 ⌝ }
-    ensures { λ f. ⌜ (f ≡ answerFrom (now (d .entry)) zone t (Reading.Is r) (length (now (out .entry)))) × (now (d .exit) ≡ afterFrom (now (d .entry)) zone t (Reading.Is r) (length (now (out .entry)))) × (now (out .exit) ≡ outFrom (now (d .entry)) zone t (Reading.Is r) (now (out .entry))) ⌝ }
+    ensures { λ f. ⌜ f ≡ answerFrom (now (d .entry)) zone t (Reading.Is r) (length (now (out .entry))) ⌝ }
+    ensures { λ _. ⌜ now (d .exit) ≡ afterFrom (now (d .entry)) zone t (Reading.Is r) (length (now (out .entry))) ⌝ }
+    ensures { λ _. ⌜ now (out .exit) ≡ outFrom (now (d .entry)) zone t (Reading.Is r) (now (out .entry)) ⌝ }
 {
-    let _whole = whole(d);
+    let _all = all(d);
     let c = r.command;
     let x = decide(d, zone, t, c);
     let n = x.number;
     let outcome = outcome_of(d, t, c, x);
-    let w = frames::write_response(
+    let w = frames::frame_response(
         out,
-        messages::wire_number(c),
         Response {
             id: r.id,
             status: n,
@@ -60,14 +56,23 @@ fn answer(d: &mut State, zone: u64, t: u64, r: Request, out: &mut [u8]) -> Frame
     }
 }
 
-// A frame's bytes from a zone at t, the response into `out`.
-pub fn frame(d: &mut State, zone: u64, t: u64, bytes: &[u8], out: &mut [u8]) -> Framed
-    ensures { λ f. ⌜ (f ≡ frameAnswer (now (d .entry)) zone t (now (bytes .entry)) (length (now (out .entry)))) × (now (d .exit) ≡ frameAfter (now (d .entry)) zone t (now (bytes .entry)) (length (now (out .entry)))) × (now (out .exit) ≡ frameOut (now (d .entry)) zone t (now (bytes .entry)) (now (out .entry))) ⌝ }
+// A payload from a zone at t.
+fn payload_call(d: &mut State, zone: u64, t: u64, payload: &[u8], out: &mut [u8]) -> Framed
+    ensures { λ f. ⌜ f ≡ answerFrom (now (d .entry)) zone t (fromPayload (payloadOf (now (payload .entry)))) (length (now (out .entry))) ⌝ }
+    ensures { λ _. ⌜ now (d .exit) ≡ afterFrom (now (d .entry)) zone t (fromPayload (payloadOf (now (payload .entry)))) (length (now (out .entry))) ⌝ }
+    ensures { λ _. ⌜ now (out .exit) ≡ outFrom (now (d .entry)) zone t (fromPayload (payloadOf (now (payload .entry)))) (now (out .entry)) ⌝ }
 {
-    match frames::read_request(bytes) {
+    match frames::read_payload(payload) {
         Reading::Is(r) => answer(d, zone, t, r, out),
         Reading::Unserved(id) => {
-            let w = frames::write_status(out, id, 4);
+            let w = frames::frame_response(
+                out,
+                Response {
+                    id,
+                    status: 4,
+                    outcome: Outcome::Nothing,
+                },
+            );
             Framed {
                 number: 4,
                 length: w.length,
@@ -77,5 +82,20 @@ pub fn frame(d: &mut State, zone: u64, t: u64, bytes: &[u8], out: &mut [u8]) -> 
             number: n,
             length: 0,
         },
+    }
+}
+
+// A frame's bytes from a zone at t, the response into `out`. The four bytes of length stand before the payload.
+pub fn frame(d: &mut State, zone: u64, t: u64, bytes: &[u8], out: &mut [u8]) -> Framed
+    ensures { λ f. ⌜ f ≡ frameAnswer (now (d .entry)) zone t (now (bytes .entry)) (length (now (out .entry))) ⌝ }
+    ensures { λ _. ⌜ now (d .exit) ≡ frameAfter (now (d .entry)) zone t (now (bytes .entry)) (length (now (out .entry))) ⌝ }
+    ensures { λ _. ⌜ now (out .exit) ≡ frameOut (now (d .entry)) zone t (now (bytes .entry)) (now (out .entry)) ⌝ }
+{
+    if frames::is_framed(bytes) {
+        return payload_call(d, zone, t, &bytes[4..], out);
+    }
+    Framed {
+        number: 1,
+        length: 0,
     }
 }

@@ -33,7 +33,8 @@ fn all_hex(word: &[u8]) -> bool
 
 // A letter's low four bits are nine less than its value.
 fn value_of(b: u8) -> u8
-    ensures { λ r. ⌜ (r ≡ nibble b) × (r < 16) ⌝ }
+    ensures { λ r. ⌜ r ≡ nibble b ⌝ }
+    ensures { λ r. ⌜ r < 16 ⌝ }
 {
     (b % 16 + b / 64 * 9) % 16
 }
@@ -83,7 +84,8 @@ fn is_pairs(word: &[u8], room: usize) -> bool
 
 // The bytes that a word says, from the front of `out`. A bad word changes nothing.
 pub fn read_hex(word: &[u8], out: &mut [u8]) -> Read
-    ensures { λ r. ⌜ (r ≡ hexRead (now (word .entry)) (length (now (out .entry)))) × (now (out .exit) ≡ hexAfter (now (word .entry)) (now (out .entry))) ⌝ }
+    ensures { λ r. ⌜ r ≡ hexRead (now (word .entry)) (length (now (out .entry))) ⌝ }
+    ensures { λ _. ⌜ now (out .exit) ≡ hexAfter (now (word .entry)) (now (out .entry)) ⌝ }
 {
     if is_none(word) {
         return Read {

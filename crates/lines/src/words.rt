@@ -11,7 +11,8 @@ pub struct Bounds {
 // The position of the first byte b from `from` on, or the end.
 pub fn next(s: &[u8], from: usize, b: u8) -> usize
     requires { ⌜ from ≤ length (now s) ⌝ }
-    ensures { λ r. ⌜ (from ≤ r) × (r ≤ length (now (s .entry))) ⌝ }
+    ensures { λ r. ⌜ from ≤ r ⌝ }
+    ensures { λ r. ⌜ r ≤ length (now (s .entry)) ⌝ }
 {
     let mut i = from;
     while i < s.len() {

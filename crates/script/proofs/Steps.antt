@@ -20,17 +20,17 @@ module _ (ws s : List ℕ) (p : ℕ) (out : List ℕ) (rows : List ℤ) where
   abbrev Says : Stepped → List ℕ → List ℕ → List ℤ → Type 0
   Says y ws′ out′ rows′ =
       (y ≡ stepAnswer ws s p out rows)
-      × (ws′ ≡ stepLeaves ws s p out rows .words)
-      × (out′ ≡ stepLeaves ws s p out rows .out)
-      × (rows′ ≡ stepLeaves ws s p out rows .rows)
+      × ((ws′ ≡ stepLeaves ws s p out rows .words)
+      × ((out′ ≡ stepLeaves ws s p out rows .out)
+      × (rows′ ≡ stepLeaves ws s p out rows .rows)))
 
   pub step-good : (r : Record) → recordAt s p ≡ Scan.Is r → (x : Ran) (ws′ out′ : List ℕ) (rows′ : List ℤ) → _≡_ {A = Left} (record { ran = x; words = ws′; out = out′; rows = rows′ }) (recordLeaves ws s out rows r) → Says (record { good = true; number = x .number; count = x .count; next = r .body + r .length }) ws′ out′ rows′
   unfolding stepAnswer stepLeaves scanLeaves stepFrom
-  step-good r e x ws′ out′ rows′ h = rw (e, ← h) (refl, refl, refl, refl)
+  step-good r e x ws′ out′ rows′ h = rw (e, ← h) (refl, (refl, (refl, refl)))
 
   pub step-bad : recordAt s p ≡ Scan.Bad → Says (record { good = false; number = 0; count = 0; next = p }) ws out rows
   unfolding stepAnswer stepLeaves scanLeaves stepFrom alone
-  step-bad e = rw e (refl, refl, refl, refl)
+  step-bad e = rw e (refl, (refl, (refl, refl)))
 
 from-moves : (s : List ℕ) (p : ℕ) (x : Ran) (a : Scan) → recordAt s p ≡ a → stepFrom x p a .good ≡ true → (p + 10 ≤ stepFrom x p a .next) × (stepFrom x p a .next ≤ length s)
 unfolding stepFrom

@@ -13,7 +13,8 @@ ghost use Rattle.script.specs.Answers.{cell, rowPieces, tablePieces, ans
 const ROW: usize = 1 + device::VALUES;
 
 fn put_cell(out: &mut [u8], at: usize, n: i64) -> usize
-    ensures { λ r. ⌜ (r ≡ pastWhole (now (out .entry)) at (cell n)) × (now (out .exit) ≡ putWhole (now (out .entry)) at (cell n)) ⌝ }
+    ensures { λ r. ⌜ r ≡ pastWhole (now (out .entry)) at (cell n) ⌝ }
+    ensures { λ _. ⌜ now (out .exit) ≡ putWhole (now (out .entry)) at (cell n) ⌝ }
 {
     if n < 0 {
         return text::put_byte(out, at, b'-');
@@ -32,7 +33,8 @@ fn behind(i: usize, len: usize) -> u8
 }
 
 fn put_row(out: &mut [u8], at: usize, row: &[i64]) -> usize
-    ensures { λ r. ⌜ (r ≡ pastAll (now (out .entry)) at (rowPieces (now (row .entry)))) × (now (out .exit) ≡ putAll (now (out .entry)) at (rowPieces (now (row .entry)))) ⌝ }
+    ensures { λ r. ⌜ r ≡ pastAll (now (out .entry)) at (rowPieces (now (row .entry))) ⌝ }
+    ensures { λ _. ⌜ now (out .exit) ≡ putAll (now (out .entry)) at (rowPieces (now (row .entry))) ⌝ }
 {
     let mut p = at;
     let mut i = 0;
@@ -63,7 +65,8 @@ fn is_more(left: u64, from: usize, len: usize) -> bool
 }
 
 fn put_rows(out: &mut [u8], at: usize, rows: &[i64], count: u64) -> usize
-    ensures { λ r. ⌜ (r ≡ pastAll (now (out .entry)) at (tablePieces count (now (rows .entry)))) × (now (out .exit) ≡ putAll (now (out .entry)) at (tablePieces count (now (rows .entry)))) ⌝ }
+    ensures { λ r. ⌜ r ≡ pastAll (now (out .entry)) at (tablePieces count (now (rows .entry))) ⌝ }
+    ensures { λ _. ⌜ now (out .exit) ≡ putAll (now (out .entry)) at (tablePieces count (now (rows .entry))) ⌝ }
 {
     let mut p = at;
     let mut from = 0;
@@ -79,7 +82,8 @@ fn put_rows(out: &mut [u8], at: usize, rows: &[i64], count: u64) -> usize
 
 // Writes a number and a newline, then `count` rows, and says the position past them.
 pub fn print_answer(out: &mut [u8], at: usize, number: u64, rows: &[i64], count: u64) -> usize
-    ensures { λ r. ⌜ (r ≡ pastAll (now (out .entry)) at (answerPieces number count (now (rows .entry)))) × (now (out .exit) ≡ putAll (now (out .entry)) at (answerPieces number count (now (rows .entry)))) ⌝ }
+    ensures { λ r. ⌜ r ≡ pastAll (now (out .entry)) at (answerPieces number count (now (rows .entry))) ⌝ }
+    ensures { λ _. ⌜ now (out .exit) ≡ putAll (now (out .entry)) at (answerPieces number count (now (rows .entry))) ⌝ }
 {
     let p = text::put_decimal(out, at, number);
     let q = text::put_byte(out, p, b'\n');

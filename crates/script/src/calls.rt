@@ -111,7 +111,10 @@ fn run_record(d: &mut State, s: &[u8], r: Record, out: &mut [u8], rows: &mut [i6
 
 // Reads the record at `at` and runs it; a bad one changes nothing.
 pub fn step(d: &mut State, s: &[u8], at: usize, out: &mut [u8], rows: &mut [i64]) -> Stepped
-    ensures { λ r. ⌜ (r ≡ stepAnswer (now (d .entry)) (now (s .entry)) at (now (out .entry)) (now (rows .entry))) × (now (d .exit) ≡ stepLeaves (now (d .entry)) (now (s .entry)) at (now (out .entry)) (now (rows .entry)) .words) × (now (out .exit) ≡ stepLeaves (now (d .entry)) (now (s .entry)) at (now (out .entry)) (now (rows .entry)) .out) × (now (rows .exit) ≡ stepLeaves (now (d .entry)) (now (s .entry)) at (now (out .entry)) (now (rows .entry)) .rows) ⌝ }
+    ensures { λ r. ⌜ r ≡ stepAnswer (now (d .entry)) (now (s .entry)) at (now (out .entry)) (now (rows .entry)) ⌝ }
+    ensures { λ _. ⌜ now (d .exit) ≡ stepLeaves (now (d .entry)) (now (s .entry)) at (now (out .entry)) (now (rows .entry)) .words ⌝ }
+    ensures { λ _. ⌜ now (out .exit) ≡ stepLeaves (now (d .entry)) (now (s .entry)) at (now (out .entry)) (now (rows .entry)) .out ⌝ }
+    ensures { λ _. ⌜ now (rows .exit) ≡ stepLeaves (now (d .entry)) (now (s .entry)) at (now (out .entry)) (now (rows .entry)) .rows ⌝ }
 {
     match read_record(s, at) {
         Scan::Is(r) => {

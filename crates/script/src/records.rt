@@ -79,7 +79,8 @@ fn is_right_body(kind: u64, n: usize) -> bool
 // The number that the two bytes at `at` say.
 fn length_at(s: &[u8], at: usize) -> usize
     requires { ⌜ at + 2 ≤ length (now s) ⌝ }
-    ensures { λ r. ⌜ (r ≡ numberAt (now (s .entry)) at 2) × (r < 65536) ⌝ }
+    ensures { λ r. ⌜ r ≡ numberAt (now (s .entry)) at 2 ⌝ }
+    ensures { λ r. ⌜ r < 65536 ⌝ }
 {
     s[at] as usize * 256 + s[at + 1] as usize
 }
@@ -87,7 +88,8 @@ fn length_at(s: &[u8], at: usize) -> usize
 // The fields of the record at `at`, and the body behind them.
 fn fields_at(s: &[u8], at: usize) -> Record
     requires { ⌜ at + 10 ≤ length (now s) ⌝ }
-    ensures { λ r. ⌜ (r ≡ fieldsAt (now (s .entry)) at) × (r .length < 65536) ⌝ }
+    ensures { λ r. ⌜ r ≡ fieldsAt (now (s .entry)) at ⌝ }
+    ensures { λ r. ⌜ r .length < 65536 ⌝ }
 {
     Record {
         kind: s[at + 2] as u64,

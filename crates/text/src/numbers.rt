@@ -10,7 +10,8 @@ ghost use Rattle.text.specs.Text.{digits, widthIn, decimal, signed};
 
 // How many digits a number has.
 fn width_of(n: u64) -> usize
-    ensures { λ r. ⌜ (r ≡ widthIn 19 n) × (r ≤ 20) ⌝ }
+    ensures { λ r. ⌜ r ≡ widthIn 19 n ⌝ }
+    ensures { λ r. ⌜ r ≤ 20 ⌝ }
 {
     let mut width: usize = 1;
     let mut rest = n;
@@ -36,7 +37,8 @@ fn put_digits(out: &mut [u8], at: usize, width: usize, n: u64)
 }
 
 pub fn put_decimal(out: &mut [u8], at: usize, n: u64) -> usize
-    ensures { λ r. ⌜ (r ≡ pastWhole (now (out .entry)) at (decimal n)) × (now (out .exit) ≡ putWhole (now (out .entry)) at (decimal n)) ⌝ }
+    ensures { λ r. ⌜ r ≡ pastWhole (now (out .entry)) at (decimal n) ⌝ }
+    ensures { λ _. ⌜ now (out .exit) ≡ putWhole (now (out .entry)) at (decimal n) ⌝ }
 {
     let width = width_of(n);
     if has_room(out.len(), at, width) {
@@ -48,7 +50,8 @@ pub fn put_decimal(out: &mut [u8], at: usize, n: u64) -> usize
 
 // A minus sign and the digits of `n`.
 fn put_minus(out: &mut [u8], at: usize, n: u64) -> usize
-    ensures { λ r. ⌜ (r ≡ pastWhole (now (out .entry)) at (45 ∷ decimal n)) × (now (out .exit) ≡ putWhole (now (out .entry)) at (45 ∷ decimal n)) ⌝ }
+    ensures { λ r. ⌜ r ≡ pastWhole (now (out .entry)) at (45 ∷ decimal n) ⌝ }
+    ensures { λ _. ⌜ now (out .exit) ≡ putWhole (now (out .entry)) at (45 ∷ decimal n) ⌝ }
 {
     let width = width_of(n);
     let size = 1 + width;
@@ -71,7 +74,8 @@ fn magnitude(n: i64) -> u64
 }
 
 pub fn put_signed(out: &mut [u8], at: usize, n: i64) -> usize
-    ensures { λ r. ⌜ (r ≡ pastWhole (now (out .entry)) at (signed n)) × (now (out .exit) ≡ putWhole (now (out .entry)) at (signed n)) ⌝ }
+    ensures { λ r. ⌜ r ≡ pastWhole (now (out .entry)) at (signed n) ⌝ }
+    ensures { λ _. ⌜ now (out .exit) ≡ putWhole (now (out .entry)) at (signed n) ⌝ }
 {
     let m = magnitude(n);
     if n < 0 {

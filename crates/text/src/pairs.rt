@@ -49,7 +49,8 @@ fn put_pairs(out: &mut [u8], at: usize, bytes: &[u8])
 }
 
 pub fn put_hex(out: &mut [u8], at: usize, bytes: &[u8]) -> usize
-    ensures { λ r. ⌜ (r ≡ pastWhole (now (out .entry)) at (hex (now (bytes .entry)))) × (now (out .exit) ≡ putWhole (now (out .entry)) at (hex (now (bytes .entry)))) ⌝ }
+    ensures { λ r. ⌜ r ≡ pastWhole (now (out .entry)) at (hex (now (bytes .entry))) ⌝ }
+    ensures { λ _. ⌜ now (out .exit) ≡ putWhole (now (out .entry)) at (hex (now (bytes .entry))) ⌝ }
 {
     if has_pairs(out.len(), at, bytes.len()) {
         put_pairs(out, at, bytes);

@@ -16,7 +16,8 @@ pub fn has_room(len: usize, at: usize, n: usize) -> bool
 }
 
 pub fn put_byte(out: &mut [u8], at: usize, b: u8) -> usize
-    ensures { λ r. ⌜ (r ≡ pastWhole (now (out .entry)) at (b ∷ [])) × (now (out .exit) ≡ putWhole (now (out .entry)) at (b ∷ [])) ⌝ }
+    ensures { λ r. ⌜ r ≡ pastWhole (now (out .entry)) at (b ∷ []) ⌝ }
+    ensures { λ _. ⌜ now (out .exit) ≡ putWhole (now (out .entry)) at (b ∷ []) ⌝ }
 {
     if has_room(out.len(), at, 1) {
         out[at] = b;

@@ -20,7 +20,7 @@ run-spec =
     (λ c. rw (c .before .before .before .before .c3 .given .1, c .alone3 .ensures, c .before .lost .ensures .0, c .before .lost .ensures .1))
     (λ c. rw (c .before .before .before .before .c4 .given .1, c .alone4 .ensures, c .before .back .ensures .0, c .before .back .ensures .1))
     (λ c. search needs)
-    (λ c. rw (c .before .before .before .before .before .before .before .c5 .given .1, c .alone5 .ensures, c .before .before .before .frame .ensures .0, c .before .before .before .frame .ensures .1, c .before .before .before .frame .ensures .2))
+    (λ c. rw (c .before .before .before .before .before .before .before .c5 .given .1, c .alone5 .ensures, c .before .before .before .frame .ensures .0, c .before .before .before .frame .ensures .1 .0, c .before .before .before .frame .ensures .1 .1))
     (λ c. search needs)
     (λ c. rw (c .before .before .before .before .enum-told .given .1, c .before .plan .ensures .0, c .before .plan .ensures .1 .0, c .before .plan .ensures .1 .1))
     (λ c. rw (c .before .before .before .before .c6 .given .1, c .alone6 .ensures, c .before .set-override .ensures .0, c .before .set-override .ensures .1))
