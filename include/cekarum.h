@@ -22,7 +22,7 @@ extern "C" {
 #endif
 
 /* Words of a device. The driver lends all of them to each call and never looks inside. */
-#define CEKARUM_WORDS 101
+#define CEKARUM_WORDS 93
 
 /* Enough room for every answer. */
 #define CEKARUM_FRAME_MAX 2052   /* bytes of the longest frame, prefix and payload */
