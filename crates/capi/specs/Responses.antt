@@ -45,51 +45,24 @@ unfoldable pub responseOf : ℕ → FlatResponse → Response
 responseOf command p = record { id = p .id; status = p .status; outcome = outcomeOf command p }
 
 -- TO C
+unfoldable pub flat : Response → Bool → Bool → ℕ → Amount → Amount → Amount → FlatResponse
+flat r result applied state a b why =
+    record {
+      id = r .id;
+      status = r .status;
+      result = result;
+      applied = applied;
+      state = state;
+      consumption = shown a;
+      production = shown b;
+      reason = shown why;
+    }
+
 unfoldable pub flatResponse : Response → Outcome → FlatResponse
-flatResponse r Outcome.Nothing =
-    record {
-      id = r .id;
-      status = r .status;
-      result = false;
-      applied = false;
-      state = 0;
-      consumption = negsuc 0;
-      production = negsuc 0;
-      reason = negsuc 0;
-    }
-flatResponse r (Outcome.Limit l) =
-    record {
-      id = r .id;
-      status = r .status;
-      result = true;
-      applied = l .applied;
-      state = l .state;
-      consumption = shown (l .consumption);
-      production = shown (l .production);
-      reason = shown (l .reason);
-    }
-flatResponse r (Outcome.Setpoint l) =
-    record {
-      id = r .id;
-      status = r .status;
-      result = true;
-      applied = true;
-      state = 0;
-      consumption = shown (l .consumption);
-      production = shown (l .production);
-      reason = negsuc 0;
-    }
-flatResponse r Outcome.Success =
-    record {
-      id = r .id;
-      status = r .status;
-      result = true;
-      applied = true;
-      state = 0;
-      consumption = negsuc 0;
-      production = negsuc 0;
-      reason = negsuc 0;
-    }
+flatResponse r Outcome.Nothing = flat r false false 0 Amount.Absent Amount.Absent Amount.Absent
+flatResponse r (Outcome.Limit l) = flat r true (l .applied) (l .state) (l .consumption) (l .production) (l .reason)
+flatResponse r (Outcome.Setpoint l) = flat r true true 0 (l .consumption) (l .production) Amount.Absent
+flatResponse r Outcome.Success = flat r true true 0 Amount.Absent Amount.Absent Amount.Absent
 
 -- beside a refusal all is 0, no or -1
 abbrev pub noResponse : FlatResponse

@@ -18,7 +18,7 @@ ghost use lib.ListN.{length};
 ghost use Rattle.planner.specs.Walk.{sameNumber};
 ghost use Rattle.frames.specs.Responses.{readResponse, responseNumber, responseItem};
 ghost use Rattle.frames.specs.Writing.{itemFrame, writtenOf, leftBy};
-ghost use Rattle.capi.specs.Responses.{amountOf, limitOf, setpointOf, outcomeOf, responseOf, flatResponse, noResponse, flatAnswer};
+ghost use Rattle.capi.specs.Responses.{amountOf, limitOf, setpointOf, outcomeOf, responseOf, flat, flatResponse, noResponse, flatAnswer};
 
 // Absent is -1. The result stands at status 0, and for SetLimit also at 11 to 14.
 #[repr(C)]
@@ -109,59 +109,48 @@ fn response_of(command: u64, p: FlatResponse) -> Response
     }
 }
 
+// A flat response of these parts; what is absent shows as -1.
+fn flat(
+    r: Response,
+    result: bool,
+    applied: bool,
+    state: u64,
+    a: Amount,
+    b: Amount,
+    why: Amount,
+) -> FlatResponse
+    ensures { λ p. ⌜ p ≡ flat r result applied state a b why ⌝ }
+{
+    FlatResponse {
+        id: r.id,
+        status: r.status,
+        result: result,
+        applied: applied,
+        state: state,
+        consumption: shown(a),
+        production: shown(b),
+        reason: shown(why),
+    }
+}
+
 fn flat_response(r: Response, o: Outcome) -> FlatResponse
     ensures { λ p. ⌜ p ≡ flatResponse r o ⌝ }
 {
+    let none = Amount::Absent;
     match o {
-        Outcome::Nothing => FlatResponse {
-            id: r.id,
-            status: r.status,
-            result: false,
-            applied: false,
-            state: 0,
-            consumption: -1,
-            production: -1,
-            reason: -1,
-        },
+        Outcome::Nothing => flat(r, false, false, 0, none, none, none),
         Outcome::Limit(l) => {
             let a = l.consumption;
             let b = l.production;
             let why = l.reason;
-            FlatResponse {
-                id: r.id,
-                status: r.status,
-                result: true,
-                applied: l.applied,
-                state: l.state,
-                consumption: shown(a),
-                production: shown(b),
-                reason: shown(why),
-            }
+            flat(r, true, l.applied, l.state, a, b, why)
         }
         Outcome::Setpoint(l) => {
             let a = l.consumption;
             let b = l.production;
-            FlatResponse {
-                id: r.id,
-                status: r.status,
-                result: true,
-                applied: true,
-                state: 0,
-                consumption: shown(a),
-                production: shown(b),
-                reason: -1,
-            }
+            flat(r, true, true, 0, a, b, none)
         }
-        Outcome::Success => FlatResponse {
-            id: r.id,
-            status: r.status,
-            result: true,
-            applied: true,
-            state: 0,
-            consumption: -1,
-            production: -1,
-            reason: -1,
-        },
+        Outcome::Success => flat(r, true, true, 0, none, none, none),
     }
 }
 
