@@ -9,9 +9,9 @@ use lib.Dec.{ltb, leb, eqb}
 use lib.ListN.{length, getD, set, drop, drop-of-length-le, length-drop}
 use lib.Seq.{drop-cons}
 use borrow.Author.Tests.{lt-ltb, le-ltb, le-leb, lt-leb, leb-true, eq-eqb, ne-eqb, eqb-true}
-use Rattle.cbor.specs.Bytes.{put}
+use Rattle.bytes.specs.Bytes.{put}
 use Rattle.lines.specs.Hex.{isHex, allHex, nibble, hexBytes, isNone, isPairs, hexRead, hexAfter}
-use Rattle.lines.specs.declared.bytes.Read.{Read}
+use Rattle.lines.specs.declared.hex.Read.{Read}
 
 module _ (s : List ℕ) (i : ℕ) (q : Bool) (inv : allHex (drop i s) ≡ q) where
   pub hex-broken : i < length s → isHex (getD s i 0) ≡ false → false ≡ q

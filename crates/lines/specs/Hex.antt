@@ -4,8 +4,8 @@ use mathlib.Core.Bool.{Bool, true, false, _&&_, _||_, cond}
 use mathlib.Core.List.{List, [], _∷_}
 use lib.Dec.{ltb, leb, eqb}
 use lib.ListN.{length, getD}
-use Rattle.cbor.specs.Bytes.{put}
-use Rattle.lines.specs.declared.bytes.Read.{Read}
+use Rattle.bytes.specs.Bytes.{put}
+use Rattle.lines.specs.declared.hex.Read.{Read}
 
 -- 0 to 9, a to f
 unfoldable pub isHex : ℕ → Bool

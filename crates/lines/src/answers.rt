@@ -1,12 +1,12 @@
 // The answer to a line. Each command reads its words, makes one call of the kernel and writes what that answers.
 use crate::LONGEST;
-use crate::bytes::Read;
-use crate::bytes::read_hex;
 use crate::commands::Command;
 use crate::commands::command_of;
 use crate::commands::read_numbers;
 use crate::commands::words_of;
 use crate::fields::FIELDS;
+use crate::hex::Read;
+use crate::hex::read_hex;
 use crate::lists::read_list;
 use crate::print::put_bad;
 use crate::print::put_bytes;

@@ -1,5 +1,5 @@
 // The numbers of a line: the words behind the command's name, each of a kind.
-use crate::bytes::is_none;
+use crate::hex::is_none;
 use crate::numbers::Number;
 use crate::numbers::no_number;
 use crate::numbers::read_number;

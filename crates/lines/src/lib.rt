@@ -10,7 +10,7 @@
 // Words are parted by one space, numbers are decimal, bytes are lowercase hex, `-` is none. Any other line is answered
 // `bad line` and changes nothing; an empty line has no answer.
 mod answers; // answers.rt: the commands whose answer is more than a number
-mod bytes; // bytes.rt: bytes in hex
+mod hex; // hex.rt: bytes in hex
 mod commands; // commands.rt: a command's name, how many words it has, and what its numbers are
 mod fields; // fields.rt: the numbers of a line
 mod lists; // lists.rt: attributes parted by commas
@@ -20,8 +20,8 @@ mod words; // words.rt: where the words of a line are
 
 pub use answers::answer;
 pub use answers::before_start;
-pub use bytes::Read;
-pub use bytes::read_hex;
+pub use hex::Read;
+pub use hex::read_hex;
 pub use numbers::Number;
 pub use numbers::read_number;
 

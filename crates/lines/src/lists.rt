@@ -1,7 +1,7 @@
 // Attributes parted by commas; `-` is none.
-use crate::bytes::Read;
-use crate::bytes::is_none;
 use crate::fields::number_in;
+use crate::hex::Read;
+use crate::hex::is_none;
 use crate::words::next;
 ghost use Prim.Native.Nat.{_≤_};
 ghost use lib.ListN.{length};

@@ -3,7 +3,7 @@ pub fn put_text(out: &mut [u8], at: usize, s: &[u8]) -> usize {
     let mut p = at;
     let mut i = 0;
     while i < s.len() {
-        p = text::put_byte(out, p, s[i]);
+        p = bytes::put_byte(out, p, s[i]);
         i += 1;
     }
     p
@@ -14,7 +14,7 @@ pub fn put_bad(out: &mut [u8], at: usize) -> usize {
 }
 
 pub fn put_end(out: &mut [u8], at: usize) -> usize {
-    text::put_byte(out, at, b'\n')
+    bytes::put_byte(out, at, b'\n')
 }
 
 // The answer of a call that says its number only.
@@ -25,7 +25,7 @@ pub fn put_number(out: &mut [u8], at: usize, number: u64) -> usize {
 
 fn put_hex_or_none(out: &mut [u8], at: usize, bytes: &[u8], n: usize) -> usize {
     if n == 0 {
-        return text::put_byte(out, at, b'-');
+        return bytes::put_byte(out, at, b'-');
     }
     if n <= bytes.len() {
         return text::put_hex(out, at, &bytes[..n]);
@@ -36,7 +36,7 @@ fn put_hex_or_none(out: &mut [u8], at: usize, bytes: &[u8], n: usize) -> usize {
 // A number, and the first n bytes or `-`.
 pub fn put_bytes(out: &mut [u8], at: usize, number: u64, bytes: &[u8], n: usize) -> usize {
     let p = text::put_decimal(out, at, number);
-    let q = text::put_byte(out, p, b' ');
+    let q = bytes::put_byte(out, p, b' ');
     let r = put_hex_or_none(out, q, bytes, n);
     put_end(out, r)
 }
@@ -49,7 +49,7 @@ pub fn put_list(out: &mut [u8], at: usize, list: &[i64], n: u64) -> usize {
         if n <= i as u64 {
             return p;
         }
-        p = text::put_byte(out, p, b' ');
+        p = bytes::put_byte(out, p, b' ');
         p = text::put_signed(out, p, list[i]);
         i += 1;
     }
@@ -64,9 +64,9 @@ fn word(list: &[u64], i: usize) -> u64 {
 }
 
 fn put_pair(out: &mut [u8], at: usize, group: u64, number: u64) -> usize {
-    let p = text::put_byte(out, at, b' ');
+    let p = bytes::put_byte(out, at, b' ');
     let q = text::put_decimal(out, p, group);
-    let r = text::put_byte(out, q, b':');
+    let r = bytes::put_byte(out, q, b':');
     text::put_decimal(out, r, number)
 }
 

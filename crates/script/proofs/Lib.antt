@@ -1,5 +1,3 @@
 -- What the proofs of several functions use, and the laws that callers cite.
-pub mod Booleans
-pub mod Scans
 pub mod Steps
 pub mod Printing

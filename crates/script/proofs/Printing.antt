@@ -12,8 +12,8 @@ use lib.ListN.{length, getD, take, drop, length-drop}
 use lib.Seq.{drop-cons, drop-length, drop-drop, take-all, drop-nil}
 use lib.Signed.{ltZ}
 use borrow.Author.Tests.{lt-ltb, le-ltb, ltb-true, ltb-false}
-use Rattle.cbor.specs.Bytes.{putWhole, pastWhole}
-use Rattle.cbor.proofs.Order.{below}
+use Rattle.bytes.specs.Bytes.{putWhole, pastWhole}
+use Rattle.bytes.proofs.Order.{below}
 use Rattle.text.specs.Text.{decimal}
 use Rattle.text.specs.Pieces.{putAll, pastAll}
 use Rattle.text.proofs.Pieces.{whole-length, pieces-more, pieces-length}

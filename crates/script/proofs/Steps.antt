@@ -6,14 +6,15 @@ use mathlib.Core.List.{List}
 use native.Mathlib.Omega.{arith}
 use lib.IntN.{ℤ}
 use lib.ListN.{length}
-use Rattle.script.specs.Records.{recordAt}
+use Rattle.records.specs.Records.{recordAt}
 use Rattle.script.specs.Runs.{Left, alone, recordLeaves, scanLeaves, stepLeaves, stepFrom, stepAnswer}
 use Rattle.script.specs.Laws.{StepMoves}
-use Rattle.script.specs.declared.records.Record.{Record}
-use Rattle.script.specs.declared.records.Scan.{Scan}
+use Rattle.records.specs.declared.fields.Record.{Record}
+use Rattle.records.specs.declared.fields.Scan.{Scan}
 use Rattle.script.specs.declared.calls.Ran.{Ran}
 use Rattle.script.specs.declared.calls.Stepped.{Stepped}
-use Rattle.script.proofs.Scans.{within}
+use Rattle.records.specs.Kinds.{head}
+use Rattle.records.proofs.Scans.{record-within}
 
 module _ (ws s : List ℕ) (p : ℕ) (out : List ℕ) (rows : List ℤ) where
   -- the equations of a step that answers y and leaves ws′, out′ and rows′
@@ -32,9 +33,9 @@ module _ (ws s : List ℕ) (p : ℕ) (out : List ℕ) (rows : List ℤ) where
   unfolding stepAnswer stepLeaves scanLeaves stepFrom alone
   step-bad e = rw e (refl, (refl, (refl, refl)))
 
-from-moves : (s : List ℕ) (p : ℕ) (x : Ran) (a : Scan) → recordAt s p ≡ a → stepFrom x p a .good ≡ true → (p + 10 ≤ stepFrom x p a .next) × (stepFrom x p a .next ≤ length s)
+from-moves : (s : List ℕ) (p : ℕ) (x : Ran) (a : Scan) → recordAt s p ≡ a → stepFrom x p a .good ≡ true → (p + head ≤ stepFrom x p a .next) × (stepFrom x p a .next ≤ length s)
 unfolding stepFrom
-from-moves s p x (Scan.Is r) e g = let w = within s p r e in (omega (arith, w .0), w .1)
+from-moves s p x (Scan.Is r) e g = let w = record-within s p r e in (omega (arith, w .0), w .1)
 from-moves s p x Scan.Bad e g = absurd (let z : _≡_ {A = ℕ} 0 1 = cc in omega arith)
 
 pub step-moves : StepMoves

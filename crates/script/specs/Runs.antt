@@ -8,9 +8,10 @@ use lib.ListN.{length, getD, take, drop}
 use Rattle.device.specs.Calls.{joinNumber, joinAfter, leaveNumber, leaveAfter, linkNumber, linkAfter, overrideNumber, overrideAfter, clearNumber, clearAfter, askAnswer, askAfter}
 use Rattle.planner.specs.Plan.{planAnswer, planAfter, planSlice}
 use Rattle.kernel.specs.Frame.{frameAnswer, frameAfter, frameOut}
-use Rattle.script.specs.Records.{recordAt}
-use Rattle.script.specs.declared.records.Record.{Record}
-use Rattle.script.specs.declared.records.Scan.{Scan}
+use Rattle.records.specs.Kinds.{join, leave, lost, back, frame, plan, override, clear}
+use Rattle.records.specs.Records.{recordAt}
+use Rattle.records.specs.declared.fields.Record.{Record}
+use Rattle.records.specs.declared.fields.Scan.{Scan}
 use Rattle.script.specs.declared.calls.Call.{Call}
 use Rattle.script.specs.declared.calls.Ran.{Ran}
 use Rattle.script.specs.declared.calls.Stepped.{Stepped}
@@ -19,14 +20,14 @@ use Rattle.script.specs.declared.calls.Stepped.{Stepped}
 -- a and b are the body's first bytes, and "the zone is passed over at kinds 6 to 9"
 unfoldable pub callOf : ℕ → ℕ → ℕ → ℕ → Call
 callOf kind z a b =
-    cond (eqb kind 1) (Call.Join z a)
-    (cond (eqb kind 2) (Call.Leave z)
-    (cond (eqb kind 3) (Call.Lost z)
-    (cond (eqb kind 4) (Call.Back z)
-    (cond (eqb kind 5) (Call.Frame z)
-    (cond (eqb kind 6) Call.Plan
-    (cond (eqb kind 7) (Call.Override a b)
-    (cond (eqb kind 8) Call.Clear Call.Ask)))))))
+    cond (eqb kind join) (Call.Join z a)
+    (cond (eqb kind leave) (Call.Leave z)
+    (cond (eqb kind lost) (Call.Lost z)
+    (cond (eqb kind back) (Call.Back z)
+    (cond (eqb kind frame) (Call.Frame z)
+    (cond (eqb kind plan) Call.Plan
+    (cond (eqb kind override) (Call.Override a b)
+    (cond (eqb kind clear) Call.Clear Call.Ask)))))))
 
 -- what a call answers and leaves: its number, how many rows, the device's words, the output, the rows
 pub record Left : Type 0 where

@@ -4,7 +4,7 @@ ghost use mathlib.Core.Bool.{cond, _&&_};
 ghost use Prim.Native.Nat.{_-_, _≤_};
 ghost use lib.Dec.{ltb};
 ghost use lib.ListN.{length, take, drop};
-ghost use Rattle.cbor.specs.Bytes.{putWhole, pastWhole};
+ghost use Rattle.bytes.specs.Bytes.{putWhole, pastWhole};
 ghost use Rattle.text.specs.Pieces.{putAll, pastAll};
 ghost use Rattle.planner.specs.Plan.{rowSize};
 ghost use Rattle.script.specs.Answers.{cell, rowPieces, tablePieces, answerPieces};
@@ -17,7 +17,7 @@ fn put_cell(out: &mut [u8], at: usize, n: i64) -> usize
     ensures { λ _. ⌜ now (out .exit) ≡ putWhole (now (out .entry)) at (cell n) ⌝ }
 {
     if n < 0 {
-        return text::put_byte(out, at, b'-');
+        return bytes::put_byte(out, at, b'-');
     }
     text::put_decimal(out, at, n as u64)
 }
@@ -41,7 +41,7 @@ fn put_row(out: &mut [u8], at: usize, row: &[i64]) -> usize
     while i < row.len() {
         p = put_cell(out, p, row[i]);
         i += 1;
-        p = text::put_byte(out, p, behind(i, row.len()));
+        p = bytes::put_byte(out, p, behind(i, row.len()));
     }
     p
 }
@@ -86,6 +86,6 @@ pub fn print_answer(out: &mut [u8], at: usize, number: u64, rows: &[i64], count:
     ensures { λ _. ⌜ now (out .exit) ≡ putAll (now (out .entry)) at (answerPieces number count (now (rows .entry))) ⌝ }
 {
     let p = text::put_decimal(out, at, number);
-    let q = text::put_byte(out, p, b'\n');
+    let q = bytes::put_byte(out, p, b'\n');
     put_rows(out, q, rows, count)
 }

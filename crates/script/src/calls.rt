@@ -1,11 +1,12 @@
 // The call that a record makes, and its run on a device.
-use crate::records::Record;
-use crate::records::Scan;
-use crate::records::read_record;
+use bytes::byte_at;
 use device::State;
+use records::Record;
+use records::Scan;
+use records::read_record;
 ghost use mathlib.Core.Path.{_≡_};
 ghost use Prim.Native.Nat.{_+_, _≤_};
-ghost use lib.ListN.{length, getD};
+ghost use lib.ListN.{length};
 ghost use Rattle.script.specs.Runs.{callOf, callLeaves, recordLeaves, stepLeaves, stepAnswer};
 
 // The frame's bytes stand beside the call.
@@ -39,14 +40,14 @@ fn call_of(kind: u64, zone: u64, a: u64, b: u64) -> Call
     ensures { λ r. ⌜ r ≡ callOf kind zone a b ⌝ }
 {
     match kind {
-        1 => Call::Join(zone, a),
-        2 => Call::Leave(zone),
-        3 => Call::Lost(zone),
-        4 => Call::Back(zone),
-        5 => Call::Frame(zone),
-        6 => Call::Plan,
-        7 => Call::Override(a, b),
-        8 => Call::Clear,
+        records::JOIN => Call::Join(zone, a),
+        records::LEAVE => Call::Leave(zone),
+        records::LOST => Call::Lost(zone),
+        records::BACK => Call::Back(zone),
+        records::FRAME => Call::Frame(zone),
+        records::PLAN => Call::Plan,
+        records::OVERRIDE => Call::Override(a, b),
+        records::CLEAR => Call::Clear,
         _ => Call::Ask,
     }
 }
@@ -88,16 +89,6 @@ fn run(d: &mut State, t: u64, c: Call, bytes: &[u8], out: &mut [u8], rows: &mut 
     }
 }
 
-// The byte at `at`; 0 past the end.
-fn byte(s: &[u8], at: usize) -> u64
-    ensures { λ r. ⌜ r ≡ getD (now (s .entry)) at 0 ⌝ }
-{
-    if at < s.len() {
-        return s[at] as u64;
-    }
-    0
-}
-
 // A record that was read, its body within the script.
 fn run_record(d: &mut State, s: &[u8], r: Record, out: &mut [u8], rows: &mut [i64]) -> Ran
     requires { ⌜ r .body + r .length ≤ length (now s) ⌝ }
@@ -105,7 +96,7 @@ fn run_record(d: &mut State, s: &[u8], r: Record, out: &mut [u8], rows: &mut [i6
 {
     let body = r.body;
     let end = body + r.length;
-    let c = call_of(r.kind, r.zone, byte(s, body), byte(s, body + 1));
+    let c = call_of(r.kind, r.zone, byte_at(s, body), byte_at(s, body + 1));
     run(d, r.time, c, &s[body..end], out, rows)
 }
 

@@ -1,13 +1,8 @@
 // Bench scripts: a record is read, run on a device, and its answer printed.
 mod answers; // answers.rt: a number and a plan's rows as text
 mod calls; // calls.rt: the call that a record makes, and its run
-mod records; // records.rt: the mark, and one record
 
 pub use answers::print_answer;
 pub use calls::Call;
 pub use calls::Stepped;
 pub use calls::step;
-pub use records::Record;
-pub use records::Scan;
-pub use records::is_mark;
-pub use records::read_record;

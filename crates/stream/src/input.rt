@@ -4,9 +4,7 @@ ghost use Prim.Native.Nat.{_+_, _-_, _≤_};
 ghost use mathlib.Core.Bool.{_&&_};
 ghost use lib.Dec.{ltb};
 ghost use lib.ListN.{length};
-
-// The longest record: its fields and a frame of 2,052 bytes.
-pub(crate) const RECORD: usize = 2062;
+ghost use Rattle.records.specs.Kinds.{longest};
 
 // The bytes of the buffer from `from` to `to`; `left` more may be read.
 pub(crate) struct Input {
@@ -49,9 +47,9 @@ fn read_more(buf: &mut [u8], to: usize, left: u64) -> usize
 }
 
 fn is_short(to: usize, left: u64) -> bool
-    ensures { λ r. ⌜ r ≡ (ltb to 2062 && ltb 0 left) ⌝ }
+    ensures { λ r. ⌜ r ≡ (ltb to longest && ltb 0 left) ⌝ }
 {
-    to < RECORD && 0 < left
+    to < records::LONGEST && 0 < left
 }
 
 // Brings what is left to the front, and reads until a whole record must be there or the input ends.

@@ -1,5 +1,4 @@
 // The records of one piece of a script.
-use crate::input::RECORD;
 use device::State;
 ghost use mathlib.Core.Path.{_≡_};
 ghost use mathlib.Core.Bool.{true};
@@ -56,7 +55,7 @@ fn is_ready(p: Place, len: usize, last: bool, page: usize) -> bool
         return false;
     }
     if has_page(p.at, page) {
-        return last || RECORD <= len - p.from;
+        return last || records::LONGEST <= len - p.from;
     }
     false
 }

@@ -5,9 +5,9 @@ use mathlib.Core.Logic.{⊎-elim}
 use mathlib.Core.List.{List, [], _∷_}
 use native.Mathlib.Omega.{arith}
 use lib.ListN.{length, length-append}
-use Rattle.cbor.specs.Bytes.{put, putWhole, pastWhole}
-use Rattle.cbor.proofs.Order.{below}
-use Rattle.cbor.proofs.Puts.{put-whole, put-none, puts-join, length-put}
+use Rattle.bytes.specs.Bytes.{put, putWhole, pastWhole}
+use Rattle.bytes.proofs.Order.{below}
+use Rattle.bytes.proofs.PutLaws.{put-whole, put-none, puts-join, length-put}
 use Rattle.text.specs.Pieces.{putAll, pastAll, joined}
 use Rattle.text.specs.Laws.{PiecesJoin, PiecesMore, PiecesLength, PiecesWithin}
 

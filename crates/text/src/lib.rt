@@ -2,10 +2,7 @@
 // what it wrote; where there is no room it writes nothing, and says the position that it was given.
 mod numbers; // numbers.rt: decimal and signed decimal
 mod pairs; // pairs.rt: bytes as hex digits
-mod room; // room.rt: whether bytes fit, and one byte
 
 pub use numbers::put_decimal;
 pub use numbers::put_signed;
 pub use pairs::put_hex;
-pub use room::has_room;
-pub use room::put_byte;

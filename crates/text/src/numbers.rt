@@ -1,11 +1,11 @@
 // Decimal and signed decimal.
-use crate::room::has_room;
+use bytes::has_room;
 ghost use mathlib.Core.Path.{_≡_};
 ghost use mathlib.Core.List.{[], _∷_};
 ghost use Prim.Native.Nat.{_+_, _≤_};
 ghost use lib.IntN.{natAbs};
 ghost use lib.ListN.{length};
-ghost use Rattle.cbor.specs.Bytes.{put, putWhole, pastWhole};
+ghost use Rattle.bytes.specs.Bytes.{put, putWhole, pastWhole};
 ghost use Rattle.text.specs.Text.{digits, widthIn, decimal, signed};
 
 // How many digits a number has.

@@ -6,7 +6,7 @@ use borrow.Author.Tests.{ltb-true}
 use lib.Dec.{ltb}
 use lib.ListN.{length, drop}
 use Rattle.script.specs.Answers.{tablePieces}
-use Rattle.script.proofs.Booleans.{both}
+use Rattle.records.proofs.Scans.{both}
 use Rattle.script.proofs.Printing.{ToDo, all-to-do, all-done, run-done, table-next, table-over}
 use Rattle.script.proofs.answers.put_rows.Statement.{statement}
 use Rattle.script.proofs.answers.put_rows.Tie as tie

@@ -14,4 +14,4 @@ run-record-spec =
     (λ c. search needs) (λ c κs. search needs) (λ c. search needs) (λ c κs. search needs)
     (λ c κs. search needs) (λ c. search needs) (λ c. search needs) (λ c. search needs) (λ c κs. search needs)
     (λ c. search needs) (λ c. search needs)
-    (λ c. let n : (c .before .before .before .before .before .before .before .before .before .before .before .before .before .before .args .r .body + c .before .before .before .before .before .before .before .before .before .before .before .before .before .before .args .r .length) - c .before .before .before .before .before .before .before .before .before .before .before .before .before .before .args .r .body ≡ c .before .before .before .before .before .before .before .before .before .before .before .before .before .before .args .r .length = omega arith in rw (n, c .before .before .before .before .before .before .before .before .call-of .ensures, c .before .before .before .before .before .before .before .before .before .before .byte .ensures, c .before .before .before .before .before .before .before .before .before .byte2 .ensures) at (c .before .before .before .run .ensures)))
+    (λ c. let n : (c .before .before .before .before .before .before .before .before .before .before .before .before .before .before .args .r .body + c .before .before .before .before .before .before .before .before .before .before .before .before .before .before .args .r .length) - c .before .before .before .before .before .before .before .before .before .before .before .before .before .before .args .r .body ≡ c .before .before .before .before .before .before .before .before .before .before .before .before .before .before .args .r .length = omega arith in rw (n, c .before .before .before .before .before .before .before .before .call-of .ensures, c .before .before .before .before .before .before .before .before .before .before .byte-at .ensures .0, c .before .before .before .before .before .before .before .before .before .byte-at2 .ensures .0) at (c .before .before .before .run .ensures)))

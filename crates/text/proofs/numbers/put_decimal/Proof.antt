@@ -1,6 +1,6 @@
 use native.Mathlib.Omega.{arith}
 use lib.ListN.{length}
-use Rattle.cbor.proofs.Puts.{stored, not-stored, has-room}
+use Rattle.bytes.proofs.PutLaws.{stored, not-stored, has-room}
 use Rattle.text.specs.Text.{decimal}
 use Rattle.text.proofs.Digits.{decimal-length, put-decimal}
 use borrow.Author.Needs.{needs}

@@ -1,4 +1,4 @@
-use Rattle.cbor.proofs.Puts.{length-put, stored, not-stored, has-room}
+use Rattle.bytes.proofs.PutLaws.{length-put, stored, not-stored, has-room}
 use mathlib.Core.Path.{_∙_, ap}
 use mathlib.Core.List.{_∷_}
 use Prim.Native.Nat.{_+_}

@@ -1,4 +1,4 @@
-use Rattle.cbor.proofs.Order.{no-room}
+use Rattle.bytes.proofs.Order.{no-room}
 use Rattle.text.proofs.Hexes.{pairs-test}
 use Rattle.text.proofs.pairs.has_pairs.Statement.{statement}
 use Rattle.text.proofs.pairs.has_pairs.Tie as tie

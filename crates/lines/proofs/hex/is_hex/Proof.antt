@@ -1,0 +1,11 @@
+use mathlib.Core.Path.{refl}
+use Rattle.lines.specs.Hex.{isHex}
+use Rattle.lines.proofs.hex.is_hex.Statement.{statement}
+use Rattle.lines.proofs.hex.is_hex.Tie as tie
+
+pub is-hex-spec : {M : Type 1} → statement M
+unfolding isHex
+is-hex-spec =
+    tie.close
+    (tie.spec
+    (λ c. refl))

@@ -1,0 +1,14 @@
+use mathlib.Core.Path.{sym, _∙_}
+use Rattle.records.specs.Kinds.{rightBody}
+use borrow.Author.Needs.{needs}
+use Rattle.records.proofs.kinds.is_right_body.Statement.{statement}
+use Rattle.records.proofs.kinds.is_right_body.Tie as tie
+
+pub is-right-body-spec : {M : Type 1} → statement M
+unfolding rightBody
+is-right-body-spec =
+    tie.close
+    (tie.spec
+    (λ c κs. search needs) (λ c κs. search needs)
+    (λ c. rw (sym (c .before .before .is-kind .ensures) ∙ c .before .if1 .taken) (c .is-right-length .ensures))
+    (λ c. rw (sym (c .before .is-kind .ensures) ∙ c .if1 .left)))
