@@ -1,21 +1,16 @@
 -- Each call's number is that of the first test that holds; a refusal leaves the device as it was.
 use mathlib.Core.Path.{_≡_, refl, sym, _∙_}
 use mathlib.Core.Logic.{_≢_}
-use mathlib.Core.Bool.{Bool, true, false, cond, not, _&&_}
+use mathlib.Core.Bool.{true, false, cond, not}
 use mathlib.Core.List.{List, [], _∷_, _++_}
-use mathlib.Core.Option.{Option, none, some, bind}
 use Prim.Native.Nat.{ℕ, _≤_}
 use native.Mathlib.Omega.{arith}
 use lib.Dec.{leb, eqb}
 use lib.ListN.{length}
-use borrow.Author.Tests.{ne-eqb, leb-true}
-use Rattle.cbor.specs.Item.{Item, payloadOf}
+use borrow.Author.Tests.{ne-eqb}
 use Rattle.messages.specs.Refusals
-use Rattle.messages.specs.declared.Command.{Command}
 use Rattle.messages.specs.declared.Request.{Request}
-use Rattle.frames.specs.Prefix.{framed, payloadIn}
-use Rattle.frames.specs.Fields.{mapIn}
-use Rattle.frames.specs.Requests.{Envelope, envelopeIn, servedAt, servedCommand, commandIn, withCommand, fromEnvelope, fromPayload, readRequest}
+use Rattle.frames.specs.Requests.{readRequest, readingNumber}
 use Rattle.frames.specs.Writing.{writingNumber}
 use Rattle.frames.specs.declared.requests.Reading.{Reading}
 use Rattle.device.specs.declared.Change.{Change}
@@ -26,79 +21,34 @@ use Rattle.device.specs.Refusals.{firstOf, Numbered}
 use Rattle.device.specs.Calls.{zoneChange, headChange, joinNumber, joinAfter, leaveNumber, leaveAfter, linkNumber, linkAfter, overrideNumber, overrideAfter, clearNumber, clearAfter, askNumber, askAfter}
 use Rattle.device.specs.Commands.{commandTests, commandNumber, commandAfter}
 use Rattle.device.proofs.Effects.{applied-clock}
-use Rattle.device.proofs.FirstOf.{refused-exactly, accepted-exactly}
 use Rattle.planner.specs.Plan.{planNumber, planAfter}
 use Rattle.kernel.specs.Frame.{responseFrame, numberFrom, frameNumber, obeyedBy, frameAfter}
 use Rattle.demands.specs.Run.{Call, join, leave, lost, back, override, clear, ask, plan, frame, number, next}
-use Rattle.demands.specs.Answers.{requestTests, parameterTests, envelopeTests, payloadTests, frameTests, tests, timeOf, Answers}
+use Rattle.demands.specs.Tests.{readTests, obeyTests, frameTests, tests}
+use Rattle.demands.specs.Answers.{timeOf, Answers}
+use Rattle.demands.proofs.FirstTests.{each, first-append, by-tests}
 use Rattle.demands.proofs.Readings.{refuses, writes}
-
--- THE FIRST TEST THAT HOLDS
--- each of the tests' numbers passes p
-unfoldable pub each : (ℕ → Bool) → List (Bool × ℕ) → Bool
-each p [] = true
-each p (x ∷ l) = p (x .1) && each p l
-
-both : (a b : Bool) → (a && b) ≡ true → (a ≡ true) × (b ≡ true)
-both true b e = (refl, e)
-both false b e = absurd (let w : _≡_ {A = ℕ} 0 1 = cc in omega arith)
-
--- tests behind a list are asked where it gives 0, as none of its numbers is
-first-append : (l m : List (Bool × ℕ)) → each (leb 1) l ≡ true → firstOf (l ++ m) ≡ cond (eqb (firstOf l) 0) (firstOf m) (firstOf l)
-unfolding firstOf each
-first-append [] m p = refl
-first-append (x ∷ l) m p = let q = both (leb 1 (x .1)) (each (leb 1) l) p in go (x .0) (leb-true 1 (x .1) (q .0)) (first-append l m (q .1))
-  where
-    go : (b : Bool) → 1 ≤ x .1 → firstOf (l ++ m) ≡ cond (eqb (firstOf l) 0) (firstOf m) (firstOf l)
-        → cond b (x .1) (firstOf (l ++ m)) ≡ cond (eqb (cond b (x .1) (firstOf l)) 0) (firstOf m) (cond b (x .1) (firstOf l))
-    go true h ih = rw (ne-eqb (x .1) 0 (λ e. omega arith))
-    go false h ih = ih
-
--- the first of tests whose numbers pass p passes it, or is 0
-pub first-passes : (p : ℕ → Bool) (l : List (Bool × ℕ)) → each p l ≡ true → p 0 ≡ true → p (firstOf l) ≡ true
-unfolding firstOf each
-first-passes p [] e z = z
-first-passes p (x ∷ l) e z = let q = both (p (x .1)) (each p l) e in go (x .0) (q .0) (first-passes p l (q .1) z)
-  where
-    go : (b : Bool) → p (x .1) ≡ true → p (firstOf l) ≡ true → p (cond b (x .1) (firstOf l)) ≡ true
-    go true h ih = h
-    go false h ih = ih
+use Rattle.demands.proofs.Codecs.{read-first}
 
 -- A FRAME
 module _ (ws : List ℕ) (z t room : ℕ) where
-  request-first : (r : Request) → firstOf (requestTests ws z t room r) ≡ numberFrom ws z t (Reading.Is r) room
-  unfolding requestTests numberFrom writingNumber commandNumber firstOf each
+  request-first : (r : Request) → firstOf (obeyTests ws z t room (Reading.Is r)) ≡ numberFrom ws z t (Reading.Is r) room
+  unfolding obeyTests numberFrom writingNumber commandNumber firstOf each
   request-first r = first-append (commandTests (clockOf ws) (joined (zonesOf ws) z) (zoneOf (zonesOf ws) z .up) (settingsOf ws) (overrideOf ws) t (r .command))
       ((not (leb (length (responseFrame ws z t (Reading.Is r))) room), 15) ∷ []) refl
 
-  parameter-first : (e : Envelope) (o : Option Command) → firstOf (parameterTests ws z t room e o) ≡ numberFrom ws z t (withCommand e o) room
-  unfolding parameterTests firstOf
-  parameter-first e none = unfold numberFrom in refl
-  parameter-first e (some c) = request-first (record { id = e .id; endpoint = e .endpoint; feature = e .feature; command = c })
-
-  envelope-first : (o : Option Envelope) → firstOf (envelopeTests ws z t room o) ≡ numberFrom ws z t (fromEnvelope o) room
-  unfolding envelopeTests fromEnvelope firstOf
-  envelope-first none = unfold numberFrom in refl
-  envelope-first (some e) = go (servedAt (e .endpoint) (e .feature) && servedCommand (e .command))
-    where
-      go : (b : Bool) → cond (not b) 4 (firstOf (parameterTests ws z t room e (commandIn (e .command) (e .parameters))))
-          ≡ numberFrom ws z t (cond b (withCommand e (commandIn (e .command) (e .parameters))) (Reading.Unserved (e .id))) room
-      go true = parameter-first e (commandIn (e .command) (e .parameters))
-      go false = unfold numberFrom in refl
-
-  payload-first : (o : Option Item) → firstOf (payloadTests ws z t room o) ≡ numberFrom ws z t (fromPayload o) room
-  unfolding payloadTests fromPayload firstOf
-  payload-first none = unfold numberFrom in refl
-  payload-first (some i) = envelope-first (bind (mapIn i) envelopeIn)
+  -- a reading that is refused has its number, and of the others the device is asked
+  reading-first : (r : Reading) → ((n : ℕ) → r ≡ Reading.Refused n → 1 ≤ n)
+      → cond (eqb (readingNumber r) 0) (firstOf (obeyTests ws z t room r)) (readingNumber r) ≡ numberFrom ws z t r room
+  reading-first (Reading.Refused n) p = unfold numberFrom in rw (ne-eqb n 0 (λ e. omega (arith, p n refl)))
+  reading-first (Reading.Unserved i) p = unfold numberFrom in refl
+  reading-first (Reading.Is r) p = request-first r
 
   frame-first : (bytes : List ℕ) → firstOf (frameTests ws z t bytes room) ≡ frameNumber ws z t bytes room
-  unfolding frameTests frameNumber readRequest firstOf
-  frame-first bytes = go (framed bytes)
-    where
-      go : (b : Bool) → cond (not b) 1 (firstOf (payloadTests ws z t room (payloadOf (payloadIn bytes))))
-          ≡ numberFrom ws z t (cond b (fromPayload (payloadOf (payloadIn bytes))) (Reading.Refused 1)) room
-      go true = payload-first (payloadOf (payloadIn bytes))
-      go false = unfold numberFrom in refl
+  unfolding frameTests frameNumber
+  frame-first bytes =
+      first-append (readTests bytes) (obeyTests ws z t room (readRequest bytes)) (unfold readTests each in refl)
+      ∙ rw (sym (read-first bytes)) (reading-first (readRequest bytes) (refuses bytes))
 
 -- EVERY CALL
 first-same : (ws : List ℕ) (c : Call) → number ws c ≡ firstOf (tests ws c)
@@ -153,20 +103,11 @@ accepted-clock ws (plan t room) e l = after-clock ws (planNumber ws t room) _ e 
 accepted-clock ws (frame z t bytes room) e l = unfold frameAfter frameNumber in rw e (reading-clock ws z t room (readRequest bytes) (refuses bytes) e l)
 
 -- no test has the number 0
-parameter-numbered : (ws : List ℕ) (z t room : ℕ) (e : Envelope) (o : Option Command) → Numbered (parameterTests ws z t room e o)
-unfolding parameterTests requestTests any
-parameter-numbered ws z t room e none = refl
-parameter-numbered ws z t room e (some c) = refl
-
-envelope-numbered : (ws : List ℕ) (z t room : ℕ) (o : Option Envelope) → Numbered (envelopeTests ws z t room o)
-unfolding envelopeTests any
-envelope-numbered ws z t room none = refl
-envelope-numbered ws z t room (some e) = parameter-numbered ws z t room e (commandIn (e .command) (e .parameters))
-
-payload-numbered : (ws : List ℕ) (z t room : ℕ) (o : Option Item) → Numbered (payloadTests ws z t room o)
-unfolding payloadTests any
-payload-numbered ws z t room none = refl
-payload-numbered ws z t room (some i) = envelope-numbered ws z t room (bind (mapIn i) envelopeIn)
+obey-numbered : (ws : List ℕ) (z t room : ℕ) (bytes : List ℕ) (r : Reading) → Numbered (readTests bytes ++ obeyTests ws z t room r)
+unfolding readTests obeyTests any
+obey-numbered ws z t room bytes (Reading.Is r) = refl
+obey-numbered ws z t room bytes (Reading.Unserved i) = refl
+obey-numbered ws z t room bytes (Reading.Refused n) = refl
 
 numbered : (ws : List ℕ) (c : Call) → Numbered (tests ws c)
 unfolding tests frameTests any
@@ -178,15 +119,8 @@ numbered ws (override r d t) = refl
 numbered ws (clear t) = refl
 numbered ws (ask t) = refl
 numbered ws (plan t room) = refl
-numbered ws (frame z t bytes room) = payload-numbered ws z t room (payloadOf (payloadIn bytes))
+numbered ws (frame z t bytes room) = obey-numbered ws z t room bytes (readRequest bytes)
 
 pub answers : (ws : List ℕ) (c : Call) → Answers ws c
 answers ws c =
-    let e = first-same ws c in
-    let a = accepted-exactly (tests ws c) (numbered ws c) in
-    record {
-      refused = λ n p. let r = refused-exactly (tests ws c) n p in (λ q. r .0 (sym e ∙ q), λ q. e ∙ r .1 q);
-      accepted = (λ q. a .0 (sym e ∙ q), λ q. e ∙ a .1 q);
-      unchanged = refused-same ws c;
-      clock = accepted-clock ws c;
-    }
+    record { numbered = by-tests (number ws c) (tests ws c) (first-same ws c) (numbered ws c); unchanged = refused-same ws c; clock = accepted-clock ws c }

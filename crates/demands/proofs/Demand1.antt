@@ -1,7 +1,7 @@
 -- Demand 1, proved.
 use mathlib.Core.Path.{_≡_, refl}
 use mathlib.Core.Logic.{_≢_}
-use mathlib.Core.List.{List}
+use mathlib.Core.List.{List, [], _∷_}
 use Prim.Native.Nat.{ℕ, _+_}
 use lib.IntN.{ℤ, negsuc}
 use lib.ListN.{length, replicate}
@@ -9,12 +9,21 @@ use borrow.Author.Tests.{ne-eqb}
 use Rattle.frames.specs.Writing.{writingNumber, writtenOf, leftBy}
 use Rattle.device.specs.Sizes.{helds}
 use Rattle.device.specs.Calls.{askNumber, askAnswer}
-use Rattle.device.specs.Start.{startNumber, startAfter}
+use Rattle.device.specs.declared.Settings.{Settings}
+use Rattle.device.specs.Refusals
+use Rattle.device.specs.Zones.{any, joined, slotOf}
+use Rattle.device.specs.Words.{zonesOf}
+use Rattle.device.specs.Start.{badSettings, startNumber, startAfter}
+use Rattle.device.proofs.Effects.{fresh-settings, fresh-clock, fresh-override, fresh-zones}
 use Rattle.planner.specs.Plan.{planNumber, planAnswer, planSlice}
 use Rattle.conformance.specs.declared.Inputs.{Inputs}
 use Rattle.conformance.specs.Report.{numberOf, reportOf, pairsAfter}
-use Rattle.demands.specs.Accepted.{startedWith}
+use Rattle.demands.specs.Accepted.{startedWith, InPairs}
+use Rattle.demands.specs.Answers.{Starts}
 use Rattle.demands.specs.Demands.{Demand1}
+use Rattle.demands.proofs.FirstTests.{by-tests}
+use Rattle.demands.proofs.Codecs.{reads-request, reads-response, writes-request, writes-response, reports}
+use Rattle.demands.proofs.Reached.{nobody-fresh, started-pairs}
 use Rattle.demands.proofs.Answers.{answers}
 use Rattle.demands.proofs.Responses.{responds}
 
@@ -35,15 +44,31 @@ no-pairs : (i : Inputs) (attributes out : List ℕ) → numberOf i attributes (l
 unfolding pairsAfter reportOf
 no-pairs i attributes out p = let e = ne-eqb (numberOf i attributes (length out)) 0 p in (rw e, rw e)
 
+starts : (s : Settings) → InPairs s → Starts s
+unfolding startAfter startedWith
+starts s p =
+    let q = started-pairs s p in
+    record {
+      numbered = by-tests (startNumber s) ((badSettings s, 16) ∷ []) (unfold startNumber in refl) (unfold any in refl);
+      clock = fresh-clock (startedWith s);
+      settings = fresh-settings (startedWith s) (q .maxima) (q .failsafe);
+      nobody = nobody-fresh (startedWith s);
+      override = fresh-override (startedWith s);
+    }
+
 pub demand-1 : Demand1
-unfolding startNumber startAfter startedWith
 demand-1 =
     record {
       calls = answers;
+      readRequests = reads-request;
+      readResponses = reads-response;
+      writeRequests = writes-request;
+      writeResponses = writes-response;
+      reports = reports;
       frame = λ ws z t bytes out. responds ws z t out bytes;
       ask = no-values;
       plan = no-rows;
       write = no-frame;
       report = no-pairs;
-      start = λ s. (refl, refl);
+      start = starts;
     }

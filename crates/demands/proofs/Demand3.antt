@@ -14,15 +14,21 @@ use Rattle.kernel.specs.Frame.{frameOut}
 use Rattle.device.specs.Sizes.{end, valueEnd}
 use Rattle.device.specs.Words.{clockOf, zonesOf}
 use Rattle.device.specs.Holds.{situationOf, shown, valuesAt}
+use Rattle.device.specs.declared.Zone.{Zone}
+use Rattle.device.specs.declared.Settings.{Settings}
+use Rattle.device.specs.Zones.{idOf, rankOf}
 use Rattle.device.specs.Refusals.{firstOf, late}
+use Rattle.device.specs.Calls.{askNumber, askAnswer}
 use Rattle.planner.specs.Rows.{last, plan, IsPlan}
 use Rattle.planner.specs.Plan.{planOf, planNumber, planAnswer, planSlice}
 use Rattle.planner.proofs.IsPlan.{plan-is, plan-unique}
 use Rattle.planner.proofs.Walk.{planOf-few}
 use Rattle.demands.specs.Run.{run}
+use Rattle.demands.specs.History.{Log, newest, saysRank, joinedBy, recordBy}
 use Rattle.demands.specs.Accepted.{startedWith, history, told}
 use Rattle.demands.specs.Demands.{Lists, Demand3}
 use Rattle.demands.proofs.Count.{at-most}
+use Rattle.demands.proofs.Same.{at, id-high, Same}
 use Rattle.demands.proofs.Agree.{agree-values}
 use Rattle.demands.proofs.Steps.{number-same, response-same}
 use Rattle.demands.proofs.Reached.{agree-run}
@@ -54,6 +60,19 @@ lists ws f v t out e =
       few = planOf-few ws t;
     }
 
+-- an accepted ask shows the values
+asks : (ws : List ℕ) (f : ℕ → List ℤ) → ((t : ℕ) → valuesAt (situationOf ws) t ≡ f t) → (t : ℕ) → askNumber ws t ≡ 0 → askAnswer ws t .values ≡ f t
+unfolding askAnswer
+asks ws f v t e = rw e (v t)
+
+-- a seat gives back the id and the rank that made it
+seats : (s : Settings) (zs : List Zone) (h : Log) → Same s zs h → (z : ℕ) → joinedBy h z ≡ true → (idOf (recordBy s h z) ≡ z) × (rankOf (recordBy s h z) ≡ newest (saysRank z) 0 h)
+unfolding recordBy idOf rankOf
+seats s zs h k z e =
+    let b = k .back z e in
+    let l : z ≤ 255 = subst (λ (n : ℕ). n ≤ 255) (b .3) (id-high (at zs (b .1))) in
+    (omega arith, omega arith)
+
 pub demand-3 : Demand3
 demand-3 s k calls =
     let d = run s calls in
@@ -63,9 +82,11 @@ demand-3 s k calls =
     record {
       plan = lists d (valuesAt (told s calls)) (fun-ext v);
       values = v;
+      ask = asks d (valuesAt (told s calls)) v;
       whole = λ t q n l e. unfold shown in rw (e, lt-ltb n valueEnd (value-small s calls t q n l e));
       numbers = number-same (startedWith s) d h a;
       responses = λ z t bytes out. unfold frameOut in ap (putWhole out 0) (response-same (startedWith s) d h a z t (readRequest bytes));
+      seats = seats (startedWith s) (zonesOf d) h (a .zones);
       eight = at-most (startedWith s) (zonesOf d) h (a .zones);
       slots = released-slot s k calls;
     }

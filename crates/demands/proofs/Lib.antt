@@ -7,6 +7,8 @@ pub mod Agree
 pub mod Readings
 pub mod Steps
 pub mod Reached
+pub mod FirstTests
+pub mod Codecs
 pub mod Answers
 pub mod Responses
 pub mod Small

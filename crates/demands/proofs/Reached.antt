@@ -8,14 +8,14 @@ use lib.ListN.{replicate, getD-replicate}
 use Rattle.device.specs.declared.Zone.{Zone}
 use Rattle.device.specs.declared.Settings.{Settings}
 use Rattle.device.specs.Sizes.{slots}
-use Rattle.device.specs.Zones.{idOf, freeZone}
-use Rattle.device.specs.Words.{fresh}
+use Rattle.device.specs.Zones.{idOf, freeZone, joined}
+use Rattle.device.specs.Words.{zonesOf, fresh}
 use Rattle.device.specs.Start.{badSettings, refusedSettings, startAfter}
 use Rattle.device.proofs.Effects.{fresh-length, fresh-settings, fresh-clock, fresh-since, fresh-override, fresh-zones}
 use Rattle.demands.specs.Run.{Call, run}
 use Rattle.demands.specs.History.{newest, clockBy, overrideBy, joinedBy, sinceBy}
 use Rattle.demands.specs.Accepted.{log, startedWith, InPairs}
-use Rattle.demands.proofs.Same.{at, Same}
+use Rattle.demands.proofs.Same.{at, Same, joined-same}
 use Rattle.demands.proofs.Agree.{Agree}
 use Rattle.demands.proofs.Steps.{agree-next}
 
@@ -33,6 +33,11 @@ same-fresh s =
       one = λ i j p q l e. absurd (omega (arith, free i p));
     }
 
+-- no zone has a slot of a fresh device
+pub nobody-fresh : (s : Settings) (z : ℕ) → joined (zonesOf (fresh s)) z ≡ false
+unfolding joinedBy newest
+nobody-fresh s z = rw (fresh-zones s) (joined-same s (replicate slots freeZone) [] (same-fresh s) z)
+
 agree-fresh : (s : Settings) → InPairs s → Agree s (fresh s) []
 unfolding clockBy overrideBy sinceBy newest
 agree-fresh s p =
@@ -45,7 +50,7 @@ agree-fresh s p =
       zones = subst (λ (l : List Zone). Same s l []) (sym (fresh-zones s)) (same-fresh s);
     }
 
-started-pairs : (s : Settings) → InPairs s → InPairs (startedWith s)
+pub started-pairs : (s : Settings) → InPairs s → InPairs (startedWith s)
 unfolding startedWith
 started-pairs s p = go (badSettings s)
   where

@@ -23,7 +23,7 @@ use Rattle.kernel.specs.Frame.{responseTo, responseFrame, numberFrom, frameNumb
 use Rattle.demands.specs.Answers.{Responds}
 use Rattle.demands.proofs.Lists.{never}
 use Rattle.demands.proofs.Readings.{refused-with}
-use Rattle.demands.proofs.Answers.{each, first-passes}
+use Rattle.demands.proofs.FirstTests.{each, first-passes}
 
 -- a command's number is one that a response has
 command-status : (ws : List ℕ) (z t : ℕ) (r : Request) → isStatus (commandNumber ws z t (r .command)) ≡ true
@@ -50,7 +50,7 @@ module _ (ws : List ℕ) (z t : ℕ) (out : List ℕ) where
   reading-responds (Reading.Unserved i) p =
       record {
         none = λ e. unfold numberFrom isStatus in never (sym e);
-        some = λ e. unfold numberFrom responseFrame in (statusAlone i 4, refl, refl, refl);
+        some = λ e. unfold numberFrom responseFrame in (statusAlone i 4, refl, record { buffer = refl; counted = refl });
       }
   reading-responds (Reading.Is r) p = unfold numberFrom writingNumber firstOf in go (eqb n 0) refl (leb (length bytes) (length out)) refl
     where
@@ -65,9 +65,9 @@ module _ (ws : List ℕ) (z t : ℕ) (out : List ℕ) where
 
       go : (b : Bool) → eqb n 0 ≡ b → (f : Bool) → leb (length bytes) (length out) ≡ f
           → Responds (cond b (cond (not f) 15 0) n) out (putWhole out 0 bytes) (cond (leb (length bytes) (length out)) (length bytes) 0)
-      go true e true f = record { none = λ q. unfold isStatus in never (sym q); some = λ q. unfold responseFrame responseTo in (responseTo ws z t r, eqb-true n 0 e, refl, refl) }
+      go true e true f = record { none = λ q. unfold isStatus in never (sym q); some = λ q. unfold responseFrame responseTo in (responseTo ws z t r, eqb-true n 0 e, record { buffer = refl; counted = refl }) }
       go true e false f = record { none = λ q. leaves-nothing bytes out f; some = λ q. unfold isStatus in never q }
-      go false e b f = record { none = λ q. never (sym q ∙ status); some = λ q. unfold responseFrame responseTo in (responseTo ws z t r, refl, refl, refl) }
+      go false e b f = record { none = λ q. never (sym q ∙ status); some = λ q. unfold responseFrame responseTo in (responseTo ws z t r, refl, record { buffer = refl; counted = refl }) }
 
   pub responds : (bytes : List ℕ) → Responds (frameNumber ws z t bytes (length out)) out (frameOut ws z t bytes out) (frameAnswer ws z t bytes (length out) .length)
   unfolding frameNumber frameOut frameAnswer written

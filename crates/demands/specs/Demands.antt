@@ -2,34 +2,41 @@
 use Prim.Native.Nat.{ℕ, _+_, _≤_, _<_}
 use mathlib.Core.Path.{_≡_}
 use mathlib.Core.Logic.{_≢_}
-use mathlib.Core.List.{List, [], _∷_}
+use mathlib.Core.Bool.{true}
+use mathlib.Core.List.{List, _++_}
+use mathlib.Core.Option.{some}
 use lib.IntN.{ℤ, pos, negsuc}
-use lib.ListN.{length, replicate}
+use lib.ListN.{length, replicate, drop}
 use Rattle.cbor.specs.Bytes.{putWhole}
 use Rattle.cbor.specs.Laws.{PayloadExact, OneItem}
 use Rattle.messages.specs.declared.Amount.the-variants.{Is}
 use Rattle.messages.specs.declared.Command.{Command}
-use Rattle.frames.specs.Requests.{readRequest}
-use Rattle.frames.specs.RoundTrips.{FramedExact, RequestReadsBack, ResponseReadsBack, StatusReadsBack, RequestWritesAgain, ResponseWritesAgain}
-use Rattle.frames.specs.Writing.{writingNumber, writtenOf, leftBy}
+use Rattle.messages.specs.declared.Request.{Request}
+use Rattle.messages.specs.declared.Response.{Response}
+use Rattle.frames.specs.Requests.{Envelope, readRequest, readingNumber, requestItem, requestNumber}
+use Rattle.frames.specs.Responses.{readResponse, answerNumber, responseItem, responseNumber, statusAlone}
+use Rattle.frames.specs.RoundTrips.{FramedExact, FrameStands, RequestReadsBack, ResponseReadsBack, StatusReadsBack, RequestWritable, ResponseWritable, RequestWritesAgain, ResponseWritesAgain}
+use Rattle.frames.specs.Writing.{itemFrame, writingNumber, writtenOf, leftBy}
+use Rattle.frames.specs.declared.requests.Reading.{Reading}
 use Rattle.device.specs.declared.Settings.{Settings}
 use Rattle.device.specs.declared.Zone.{Zone}
 use Rattle.device.specs.Sizes.{helds}
+use Rattle.device.specs.Zones.{idOf, rankOf}
 use Rattle.device.specs.Holds.{Situation, situationOf, valueAt, shown, valuesAt}
 use Rattle.device.specs.Table.{Table, Expiry}
-use Rattle.device.specs.Refusals.{firstOf}
 use Rattle.device.specs.Calls.{askNumber, askAnswer}
-use Rattle.device.specs.Start.{badSettings, startNumber, startAfter}
-use Rattle.device.specs.Words.{fresh}
 use Rattle.planner.specs.Rows.{IsPlan}
 use Rattle.planner.specs.Plan.{numbersOf, front, planNumber, planAnswer, planSlice}
 use Rattle.kernel.specs.Frame.{frameNumber, frameAnswer, frameOut}
 use Rattle.conformance.specs.declared.Inputs.{Inputs}
-use Rattle.conformance.specs.Report.{numberOf, reportOf, pairsAfter}
+use Rattle.conformance.specs.Rules.{breaches}
+use Rattle.conformance.specs.Report.{numberOf, reportOf, flat, pairsAfter}
 use Rattle.conformance.specs.Statements.{Exact, Ordered}
 use Rattle.demands.specs.Run.{Call, number, run}
+use Rattle.demands.specs.History.{newest, saysRank, joinedBy, recordBy}
 use Rattle.demands.specs.Accepted.{numberBy, responseFrameBy, startedWith, InPairs, history, told}
-use Rattle.demands.specs.Answers.{Answers, Responds}
+use Rattle.demands.specs.Tests.{envelopeOf, readTests, answerTests, writeRequestTests, writeResponseTests, reportTests}
+use Rattle.demands.specs.Answers.{ByTests, Answers, Starts, Written, Responds, Determined}
 use Rattle.demands.specs.ReleasedSlot.{ReleasedSlot}
 
 -- DEMAND 1
@@ -37,6 +44,13 @@ use Rattle.demands.specs.ReleasedSlot.{ReleasedSlot}
 pub record Demand1 : Type 0 where
   -- "A refusal carries the number that the table in document 01 gives for that case, and is not given otherwise. It changes neither state nor clock"
   pub calls : (device : List ℕ) (c : Call) → Answers device c
+  -- the calls that are lent no device: requests and responses read and written, the report
+  pub readRequests : (bytes : List ℕ) → ByTests (readingNumber (readRequest bytes)) (readTests bytes)
+  pub readResponses : (command : ℕ) (bytes : List ℕ) → ByTests (answerNumber (readResponse command bytes)) (answerTests command bytes)
+  pub writeRequests : (r : Request) (room : ℕ) → ByTests (writingNumber (requestNumber r) (itemFrame (requestItem r)) room) (writeRequestTests r room)
+  pub writeResponses : (command : ℕ) (r : Response) (room : ℕ)
+      → ByTests (writingNumber (responseNumber command r) (itemFrame (responseItem r)) room) (writeResponseTests command r room)
+  pub reports : (i : Inputs) (attributes : List ℕ) (room : ℕ) → ByTests (numberOf i attributes room) (reportTests i attributes room)
   -- ".. and writes nothing except the response frame where the table allows one"
   pub frame : (device : List ℕ) (z t : ℕ) (bytes out : List ℕ)
       → Responds (frameNumber device z t bytes (length out)) out (frameOut device z t bytes out) (frameAnswer device z t bytes (length out) .length)
@@ -48,8 +62,8 @@ pub record Demand1 : Type 0 where
       → (leftBy n frame out ≡ out) × (writtenOf n frame (length out) .length ≡ 0)
   pub report : (i : Inputs) (attributes out : List ℕ) → numberOf i attributes (length out) ≢ 0
       → (pairsAfter i attributes out ≡ out) × (reportOf i attributes (length out) .count ≡ 0)
-  -- "A refused start hands back a fresh device" with settings of its own
-  pub start : (s : Settings) → (startNumber s ≡ firstOf ((badSettings s, 16) ∷ [])) × (startAfter s ≡ fresh (startedWith s))
+  -- "A fresh device's clock is 0"; "A refused start hands back a fresh device" with settings of its own
+  pub start : (s : Settings) → InPairs s → Starts s
 
 -- DEMAND 2
 pub record Demand2 : Type 0 where
@@ -62,9 +76,22 @@ pub record Demand2 : Type 0 where
   pub requestBack : RequestReadsBack
   pub responseBack : ResponseReadsBack
   pub statusBack : StatusReadsBack
-  -- "a frame read and written again is the same bytes if it has no unknown key and no written zero duration"
+  -- what is read can be written, and "a frame read and written again is the same bytes if it has no unknown key and no written zero duration"
+  pub requestWritable : RequestWritable
+  pub responseWritable : ResponseWritable
   pub requestAgain : RequestWritesAgain
   pub responseAgain : ResponseWritesAgain
+  -- an accepted writer's buffer has the frame at its front and is else as it was; its answer is the frame's length
+  pub stands : FrameStands
+  pub counted : (n : ℕ) (frame out : List ℕ) → writingNumber n frame (length out) ≡ 0 → writtenOf n frame (length out) .length ≡ length frame
+  -- the response in a frame call's buffer, in every state: the one that the state, the zone, the second and the request determine
+  pub response : (device : List ℕ) (z t : ℕ) (bytes out : List ℕ) (q : Request) → readRequest bytes ≡ Reading.Is q
+      → (r : Response) × Determined device z t q r × Written out (frameOut device z t bytes out) (frameAnswer device z t bytes (length out) .length) r
+  pub unserved : (device : List ℕ) (z t : ℕ) (bytes out : List ℕ) (i : ℕ) → readRequest bytes ≡ Reading.Unserved i
+      → Written out (frameOut device z t bytes out) (frameAnswer device z t bytes (length out) .length) (statusAlone i 4)
+  -- it answers the message whose id stands in the frame
+  pub idRead : (bytes : List ℕ) (e : Envelope) (q : Request) → envelopeOf bytes ≡ some e → readRequest bytes ≡ Reading.Is q → q .id ≡ e .id
+  pub idUnserved : (bytes : List ℕ) (e : Envelope) (i : ℕ) → envelopeOf bytes ≡ some e → readRequest bytes ≡ Reading.Unserved i → i ≡ e .id
   -- "With a zone's link up, the limit in each direction is the smallest unexpired one, absent exactly when there is none;
   -- the setpoint is that of the highest-ranked zone that has one; other cases follow document 01"
   pub table : (s : Situation) (t : ℕ) → Table s t
@@ -73,6 +100,9 @@ pub record Demand2 : Type 0 where
   -- "The conformance report lists every breach of document 01's six groups once"
   pub exact : Exact
   pub ordered : Ordered
+  -- an accepted report's buffer has these pairs at its front and is else as it was; its answer is their number
+  pub reported : (i : Inputs) (attributes out : List ℕ) → numberOf i attributes (length out) ≡ 0
+      → (pairsAfter i attributes out ≡ flat (breaches i attributes) ++ drop (length (flat (breaches i attributes))) out) × (reportOf i attributes (length out) .count ≡ length (breaches i attributes))
 
 -- DEMAND 3
 -- a slice and a count that list a plan: every later second at which the values f change, each once, in order, with the values from then on
@@ -91,12 +121,17 @@ pub record FromHistory (s : Settings) (calls : List Call) : Type 0 where
       → Lists (valuesAt (told s calls)) t out (planSlice (run s calls) t out) (planAnswer (run s calls) t (length out) .count)
   -- "Those values come from the history alone": the control state, each limit and each setpoint, at every second
   pub values : (t : ℕ) → valuesAt (situationOf (run s calls)) t ≡ valuesAt (told s calls) t
+  -- an accepted ask shows them
+  pub ask : (t : ℕ) → askNumber (run s calls) t ≡ 0 → askAnswer (run s calls) t .values ≡ valuesAt (told s calls) t
   -- a value that is there is shown as it is: none is as large as 2^63, so -1 is absent alone
   pub whole : (t q v : ℕ) → q < helds → valueAt (told s calls) t q ≡ Is v → shown (valueAt (told s calls) t q) ≡ pos v
   -- the number of each call and the response to each frame come from the history too
   pub numbers : (c : Call) → number (run s calls) c ≡ numberBy (startedWith s) (history s calls) c
   pub responses : (z t : ℕ) (bytes out : List ℕ)
       → frameOut (run s calls) z t bytes out ≡ putWhole out 0 (responseFrameBy (startedWith s) (history s calls) z t (readRequest bytes))
+  -- the record of a joined zone has its id and the rank that it joined with
+  pub seats : (z : ℕ) → joinedBy (history s calls) z ≡ true
+      → (idOf (recordBy (startedWith s) (history s calls) z) ≡ z) × (rankOf (recordBy (startedWith s) (history s calls) z) ≡ newest (saysRank z) 0 (history s calls))
   -- "Zones: 8 joined at once"
   pub eight : length (told s calls .zones) ≤ 8
   -- "no released slot may speak for its new owner"

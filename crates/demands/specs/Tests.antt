@@ -1,0 +1,108 @@
+-- Every call's tests, in document 01's order: the first that holds gives the number, and 0 stands where none does.
+use Prim.Native.Nat.{ℕ}
+use mathlib.Core.Bool.{Bool, true, false, not, _&&_}
+use mathlib.Core.List.{List, [], _∷_, _++_}
+use mathlib.Core.Option.{Option, none, some, bind}
+use lib.Dec.{ltb, leb}
+use lib.ListN.{length}
+use Prim.Native.Nat.{_*_}
+use Rattle.cbor.specs.Item.{Item, Pairs, payloadOf}
+use Rattle.messages.specs.declared.Command.{Command}
+use Rattle.messages.specs.declared.Request.{Request}
+use Rattle.messages.specs.declared.Response.{Response}
+use Rattle.frames.specs.Prefix.{framed, payloadIn}
+use Rattle.frames.specs.Fields.{mapIn}
+use Rattle.frames.specs.Requests.{Envelope, envelopeIn, servedAt, servedCommand, commandIn, readRequest, requestItem, requestWide, requestUnserved}
+use Rattle.frames.specs.Responses.{responseIn, responseItem, responseFits}
+use Rattle.frames.specs.Writing.{itemFrame}
+use Rattle.frames.specs.declared.requests.Reading.{Reading}
+use Rattle.device.specs.Sizes.{slots}
+use Rattle.device.specs.Zones.{slotOf, joined, zoneOf}
+use Rattle.device.specs.Words.{clockOf, overrideOf, settingsOf, zonesOf}
+use Rattle.device.specs.Holds.{situationOf}
+use Rattle.device.specs.Calls.{joinTests, leaveTests, linkTests, overrideTests, clearTests, askTests}
+use Rattle.device.specs.Commands.{commandTests}
+use Rattle.planner.specs.Plan.{planTests, planOf}
+use Rattle.kernel.specs.Frame.{responseFrame}
+use Rattle.conformance.specs.declared.Inputs.{Inputs}
+use Rattle.conformance.specs.Lists.{ascends}
+use Rattle.conformance.specs.Rules.{breaches}
+use Rattle.conformance.specs.Report.{inRange}
+use Rattle.demands.specs.Run.{Call, join, leave, lost, back, override, clear, ask, plan, frame}
+
+-- WHAT A FRAME'S BYTES HAVE IN THEM: nothing where they are not sound so far
+unfoldable pub missing : {A : Type 0} → Option A → Bool
+missing none = true
+missing (some x) = false
+
+abbrev pub itemOf : List ℕ → Option Item
+itemOf bytes = payloadOf (payloadIn bytes)
+
+abbrev pub mapOf : List ℕ → Option Pairs
+mapOf bytes = bind (itemOf bytes) mapIn
+
+abbrev pub envelopeOf : List ℕ → Option Envelope
+envelopeOf bytes = bind (mapOf bytes) envelopeIn
+
+unfoldable pub unserved : Option Envelope → Bool
+unserved none = false
+unserved (some e) = not (servedAt (e .endpoint) (e .feature) && servedCommand (e .command))
+
+abbrev pub parametersOf : Envelope → Option Command
+parametersOf e = commandIn (e .command) (e .parameters)
+
+-- THE CODECS
+-- a request read: "1, 2, envelope 3, 4, parameters 3"
+unfoldable pub readTests : List ℕ → List (Bool × ℕ)
+readTests bytes =
+    (not (framed bytes), 1) ∷ (missing (itemOf bytes), 2) ∷ (missing (envelopeOf bytes), 3) ∷ (unserved (envelopeOf bytes), 4)
+    ∷ (missing (bind (envelopeOf bytes) parametersOf), 3) ∷ []
+
+-- a response read for a command: "an unserved one is 4, tested first", then 1, 2, 3
+unfoldable pub answerTests : ℕ → List ℕ → List (Bool × ℕ)
+answerTests command bytes =
+    (not (servedCommand command), 4) ∷ (not (framed bytes), 1) ∷ (missing (itemOf bytes), 2) ∷ (missing (bind (mapOf bytes) (responseIn command)), 3)
+    ∷ []
+
+-- 15: "the complete output is longer than the lent buffer"
+abbrev pub tooLong : Item → ℕ → Bool
+tooLong i room = not (leb (length (itemFrame i)) room)
+
+-- "Request writers answer 3 for a value out of range, then 4 for what is not served, then 15"
+unfoldable pub writeRequestTests : Request → ℕ → List (Bool × ℕ)
+writeRequestTests r room = (requestWide r, 3) ∷ (requestUnserved r, 4) ∷ (tooLong (requestItem r) room, 15) ∷ []
+
+-- "an unserved one is 4, tested first, in writing too"; "response writers 3, then 15"
+unfoldable pub writeResponseTests : ℕ → Response → ℕ → List (Bool × ℕ)
+writeResponseTests command r room =
+    (not (servedCommand command), 4) ∷ (not (responseFits command r), 3) ∷ (tooLong (responseItem r) room, 15) ∷ []
+
+-- "Conformance: 16, 17, 15"; the room is counted in numbers, two a pair
+unfoldable pub reportTests : Inputs → List ℕ → ℕ → List (Bool × ℕ)
+reportTests i attributes room =
+    (not (inRange i), 16) ∷ (not (ascends attributes), 17) ∷ (ltb room (2 * length (breaches i attributes)), 15) ∷ []
+
+-- THE DEVICE
+-- the request that was read, asked of the device: "5, 9, 10, 11, 12, 13, 14, 15"
+unfoldable pub obeyTests : List ℕ → ℕ → ℕ → ℕ → Reading → List (Bool × ℕ)
+obeyTests ws z t room (Reading.Is r) =
+    commandTests (clockOf ws) (joined (zonesOf ws) z) (zoneOf (zonesOf ws) z .up) (settingsOf ws) (overrideOf ws) t (r .command)
+    ++ ((not (leb (length (responseFrame ws z t (Reading.Is r))) room), 15) ∷ [])
+obeyTests ws z t room (Reading.Unserved i) = []
+obeyTests ws z t room (Reading.Refused n) = []
+
+-- "Order, for a frame: 1, 2, envelope 3, 4, parameters 3, 5, 9, 10, 11, 12, 13, 14, 15"
+unfoldable pub frameTests : List ℕ → ℕ → ℕ → List ℕ → ℕ → List (Bool × ℕ)
+frameTests ws z t bytes room = readTests bytes ++ obeyTests ws z t room (readRequest bytes)
+
+-- "For other device calls: 5, then 6, 18, 9, 7, 8, 15"
+unfoldable pub tests : List ℕ → Call → List (Bool × ℕ)
+tests ws (join z k t) = joinTests (clockOf ws) (joined (zonesOf ws) z) (leb slots (slotOf (zonesOf ws) 0)) z k t
+tests ws (leave z t) = leaveTests (clockOf ws) (joined (zonesOf ws) z) t
+tests ws (lost z t) = linkTests (clockOf ws) (joined (zonesOf ws) z) (zoneOf (zonesOf ws) z .up) false t
+tests ws (back z t) = linkTests (clockOf ws) (joined (zonesOf ws) z) (zoneOf (zonesOf ws) z .up) true t
+tests ws (override r d t) = overrideTests (clockOf ws) (settingsOf ws .manager) r d t
+tests ws (clear t) = clearTests (clockOf ws) (overrideOf ws) t
+tests ws (ask t) = askTests (clockOf ws) t
+tests ws (plan t room) = planTests (clockOf ws) (planOf (situationOf ws) t) t room
+tests ws (frame z t bytes room) = frameTests ws z t bytes room
