@@ -1,0 +1,2 @@
+pub mod RequestsKept
+pub mod ResponsesKept

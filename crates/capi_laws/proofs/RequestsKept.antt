@@ -1,0 +1,95 @@
+-- A request made flat and taken back: its fields one by one, and its command by its number.
+use Prim.Native.Nat.{ℕ}
+use mathlib.Core.Path.{_≡_, refl, ap}
+use mathlib.Core.Bool.{Bool, true, false, cond, not, _&&_}
+use native.Mathlib.Omega.{arith}
+use Rattle.messages.specs.declared.Field.{Field}
+use Rattle.messages.specs.declared.Target.{Target}
+use Rattle.messages.specs.declared.Aim.{Aim}
+use Rattle.messages.specs.declared.Limits.{Limits}
+use Rattle.messages.specs.declared.Setpoints.{Setpoints}
+use Rattle.messages.specs.declared.Command.{Command}
+use Rattle.messages.specs.declared.Request.{Request}
+use Rattle.messages.specs.Refusals.{firstOf}
+use Rattle.frames.specs.Requests.{isServed, servedAt, readRequest, requestItem, requestWide, requestUnserved, requestNumber}
+use Rattle.frames.specs.Writing.{itemFrame}
+use Rattle.frames.specs.declared.requests.Reading.{Reading}
+use Rattle.frames.proofs.RequestBack.{request-reads-back}
+use Rattle.frames.proofs.RequestAgain.{request-writable}
+use Rattle.capi.specs.Requests.{fieldOf, targetOf, aimOf, limitsOf, setpointsOf, limitKind, setpointKind, commandOf, requestOf, flatField, flatTarget, hasAim, aimed, flatSet, flatClear, flatRequest, flatReading}
+use Rattle.capi_laws.specs.Inverse.{RequestKept, Plain, ReadPlain, FlatReadsBack}
+
+field-kept : (f : Field) → fieldOf (flatField f) ≡ f
+unfolding fieldOf flatField
+field-kept Field.Absent = refl
+field-kept Field.Null = refl
+field-kept (Field.Value v) = refl
+
+target-kept : (f : Target) → targetOf (flatTarget f) ≡ f
+unfolding targetOf flatTarget
+target-kept Target.Absent = refl
+target-kept (Target.Value v) = refl
+
+aim-kept : (a : Aim) → aimOf (hasAim a) (aimed a) ≡ a
+unfolding aimOf
+aim-kept Aim.Both = refl
+aim-kept (Aim.One d) = refl
+
+field-kind : (f : Field) → limitKind (flatField f .kind) ≡ true
+unfolding limitKind flatField
+field-kind Field.Absent = refl
+field-kind Field.Null = refl
+field-kind (Field.Value v) = refl
+
+target-kind : (f : Target) → setpointKind (flatTarget f .kind) ≡ true
+unfolding setpointKind flatTarget
+target-kind Target.Absent = refl
+target-kind (Target.Value v) = refl
+
+command-kept : (r : Request) (c : Command) → isServed c ≡ true → commandOf (flatRequest r c) ≡ c
+unfolding flatRequest commandOf flatSet flatClear
+command-kept r (Command.SetLimit m) e =
+    rw (field-kind (m .consumption), field-kind (m .production)) (unfold limitsOf in rw (field-kept (m .consumption), field-kept (m .production)))
+command-kept r (Command.ClearLimit a) e = rw (aim-kept a)
+command-kept r (Command.SetSetpoint m) e =
+    rw (target-kind (m .consumption), target-kind (m .production)) (unfold setpointsOf in rw (target-kept (m .consumption), target-kept (m .production)))
+command-kept r (Command.ClearSetpoint a) e = rw (aim-kept a)
+command-kept r (Command.Unserved n) e = absurd (let w : _≡_ {A = ℕ} 0 1 = cc in omega arith)
+
+envelope-kept : (r : Request) (c : Command) → (flatRequest r c .id ≡ r .id) × (flatRequest r c .endpoint ≡ r .endpoint) × (flatRequest r c .feature ≡ r .feature)
+unfolding flatRequest flatSet flatClear
+envelope-kept r (Command.SetLimit m) = (refl, refl, refl)
+envelope-kept r (Command.ClearLimit a) = (refl, refl, refl)
+envelope-kept r (Command.SetSetpoint m) = (refl, refl, refl)
+envelope-kept r (Command.ClearSetpoint a) = (refl, refl, refl)
+envelope-kept r (Command.Unserved n) = (refl, refl, refl)
+
+same-request : {r : Request} {i n f : ℕ} {c : Command} → i ≡ r .id → n ≡ r .endpoint → f ≡ r .feature → c ≡ r .command
+    → _≡_ {A = Request} (record { id = i; endpoint = n; feature = f; command = c }) r
+same-request a b d e = rw (a, b, d, e)
+
+pub request-kept : RequestKept
+unfolding requestOf
+request-kept r e =
+    let k = envelope-kept r (r .command) in
+    same-request (k .0) (k .1) (k .2) (command-kept r (r .command) e)
+
+-- a request that can be written is of a served command
+writable-served : (r : Request) → requestNumber r ≡ 0 → isServed (r .command) ≡ true
+unfolding requestNumber requestUnserved firstOf
+writable-served r e = go (requestWide r) (servedAt (r .endpoint) (r .feature)) (isServed (r .command)) e
+  where
+    go : (a b c : Bool) → cond {A = ℕ} a 3 (cond (not (b && c)) 4 0) ≡ 0 → c ≡ true
+    go true b c e = absurd (omega arith)
+    go false false c e = absurd (omega arith)
+    go false true false e = absurd (omega arith)
+    go false true true e = refl
+
+pub read-plain : ReadPlain
+read-plain bytes r e =
+    let k = request-kept r (writable-served r (request-writable bytes r e .1)) in
+    ap (λ (q : Request). flatRequest q (q .command)) k
+
+pub flat-reads-back : FlatReadsBack
+unfolding flatReading
+flat-reads-back q p w e = rw (request-reads-back (requestOf q) w e, p)
