@@ -7,7 +7,7 @@ use Rattle.device.specs.Holds.{supports, claimOf, goesBefore, better, winner, i
 use Rattle.device.specs.Dues.{zoneDues, heldDues, dues, nearer, nearest}
 use Rattle.device.specs.Refusals.{firstOf, late}
 use Rattle.device.specs.Calls.{sinceAfter, zoneChange, headChange, badJoin, joinNumber, joinAfter, leaveNumber, leaveAfter, same, linkNumber, linkAfter}
-use Rattle.device.specs.Commands.{unsupported, invalid, tooLow, belowTheMinimum, commandNumber, fieldAction, targetAction, aimAction, action, untilOf, done, obeyed, commandAfter, isCapped, reasonOf, outcomeWith, commandAnswer}
+use Rattle.device.specs.Commands.{says, someOf, unsupported, invalid, tooLow, belowTheMinimum, commandNumber, fieldAction, action, untilOf, done, obeyed, commandAfter, isCapped, reasonOf, outcomeWith, commandAnswer}
 use Rattle.device.specs.Start.{badMaximum, badSettings, startAfter}
 use Rattle.planner.specs.Plan.{numbersOf}
 use Rattle.planner.specs.Walk.{sameNumber, alike, step, walk}
@@ -18,8 +18,8 @@ pub marked : Marked
 unfolding found reached table numbersOf walk step nearest nearer alike sameNumber dues heldDues zoneDues upTo first any idOf rankOf isJoined isUp slotOf
     joined zoneOf heldOf anyJoined anyUp settingsOf heldIn zoneAt zonesOf bit heldWords putZone applied after settingWords fresh supports
     claimOf goesBefore better winner inFailsafe failsafeValue valueAt present stateAt shown valuesAt firstOf late sinceAfter zoneChange
-    headChange badJoin joinNumber joinAfter leaveNumber leaveAfter same linkNumber linkAfter unsupported invalid tooLow belowTheMinimum
-    commandNumber fieldAction targetAction aimAction action untilOf done obeyed commandAfter isCapped reasonOf outcomeWith commandAnswer
+    headChange badJoin joinNumber joinAfter leaveNumber leaveAfter same linkNumber linkAfter says someOf unsupported invalid tooLow
+    belowTheMinimum commandNumber fieldAction action untilOf done obeyed commandAfter isCapped reasonOf outcomeWith commandAnswer
     badMaximum badSettings startAfter
 marked zero h = simp planOf-walk
 marked (suc zero) h = simp planOf-walk

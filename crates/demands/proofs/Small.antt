@@ -8,14 +8,12 @@ use native.Mathlib.Nat.{min-le-right}
 use native.Mathlib.Omega.{arith}
 use lib.Dec.{ltb, eqb}
 use lib.IntN.{ℤ, pos, negsuc}
-use lib.ListN.{getD}
 use borrow.Author.Tests.{ltb-true}
 use Rattle.cbor.specs.Item.{Item, Pairs, payloadOf}
 use Rattle.cbor.specs.Int.{intOf}
 use Rattle.cbor.specs.Find.{valueOf}
 use Rattle.cbor.specs.declared.ints.Int.{Int}
 use Rattle.messages.specs.declared.Field.{Field}
-use Rattle.messages.specs.declared.Target.{Target}
 use Rattle.messages.specs.declared.Aim.{Aim}
 use Rattle.messages.specs.declared.Limits.{Limits}
 use Rattle.messages.specs.declared.Command.{Command}
@@ -27,7 +25,7 @@ use Rattle.device.specs.declared.Settings.{Settings}
 use Rattle.device.specs.declared.Action.{Action}
 use Rattle.device.specs.Sizes.{valueEnd}
 use Rattle.device.specs.Holds.{isLimit, directionOf}
-use Rattle.device.specs.Commands.{natural, fieldAction, targetAction, aimAction, action}
+use Rattle.device.specs.Commands.{limitField, targetField, setpointField, aimField, says, natural, fieldAction, topOf, action}
 
 -- SMALL: a number below 2^63, or no number
 abbrev pub SmallField : Field → Type 0
@@ -35,19 +33,12 @@ SmallField Field.Absent = Unit {0}
 SmallField Field.Null = Unit {0}
 SmallField (Field.Value z) = natural z < valueEnd
 
-abbrev pub SmallTarget : Target → Type 0
-SmallTarget Target.Absent = Unit {0}
-SmallTarget (Target.Value z) = natural z < valueEnd
-
-abbrev pub SmallLimits : Limits → Type 0
+abbrev SmallLimits : Limits → Type 0
 SmallLimits m = SmallField (m .consumption) × SmallField (m .production)
 
+-- of every quantity
 abbrev pub SmallCommand : Command → Type 0
-SmallCommand (Command.SetLimit m) = SmallLimits m
-SmallCommand (Command.ClearLimit a) = Unit {0}
-SmallCommand (Command.SetSetpoint m) = SmallTarget (m .consumption) × SmallTarget (m .production)
-SmallCommand (Command.ClearSetpoint a) = Unit {0}
-SmallCommand (Command.Unserved n) = Unit {0}
+SmallCommand c = (q : ℕ) → SmallField (says c q)
 
 abbrev pub SmallReading : Reading → Type 0
 SmallReading (Reading.Is r) = SmallCommand (r .command)
@@ -113,13 +104,22 @@ small-limits null ps =
     any-bind SmallLimits (durationIn (valueOf ps 3)) _ (λ d.
     any-bind SmallLimits (needed (upTo 255) (valueOf ps 4)) _ (λ k. (hc, hp)))))
 
-small-target : (f : Field) → SmallField f → SmallTarget (targetOf f)
+small-cond : (b : Bool) (f g : Field) → SmallField f → SmallField g → SmallField (cond b f g)
+small-cond true f g h k = h
+small-cond false f g h k = k
+
+small-target : (f : Field) → SmallField f → SmallField (targetField (targetOf f))
 small-target Field.Absent h = tt
 small-target Field.Null h = tt
 small-target (Field.Value z) h = h
 
+-- a clear says no number
+small-aim : (a : Aim) (d : ℕ) → SmallField (aimField a d)
+small-aim Aim.Both d = tt
+small-aim (Aim.One e) d = small-cond (eqb e d) Field.Null Field.Absent tt tt
+
 small-command : (c : ℕ) (ps : Pairs) → Every SmallCommand (commandIn c ps)
-unfolding commandIn setpointsOf
+unfolding commandIn setpointsOf says
 small-command c ps = go (eqb c 1) (eqb c 2) (eqb c 3)
   where
     go : (x y z : Bool) → Every SmallCommand (
@@ -127,12 +127,20 @@ small-command c ps = go (eqb c 1) (eqb c 2) (eqb c 3)
         (cond y (Option·map Command.ClearLimit (aimIn (valueOf ps 1)))
         (cond z (Option·map (λ l. Command.SetSetpoint (setpointsOf l)) (limitsIn false ps))
         (Option·map Command.ClearSetpoint (aimIn (valueOf ps 1))))))
-    go true y z = every-map SmallLimits SmallCommand (limitsIn true ps) Command.SetLimit (small-limits true ps) (λ m h. h)
-    go false true z = any-map SmallCommand (aimIn (valueOf ps 1)) Command.ClearLimit (λ a. tt)
+    go true y z =
+        every-map SmallLimits SmallCommand (limitsIn true ps) Command.SetLimit (small-limits true ps)
+        (λ m h q. small-cond (isLimit q) (limitField m (directionOf q)) Field.Absent (small-cond (eqb (directionOf q) 0) (m .consumption) (m .production) (h .0) (h .1)) tt)
+    go false true z =
+        any-map SmallCommand (aimIn (valueOf ps 1)) Command.ClearLimit
+        (λ a q. small-cond (isLimit q) (aimField a (directionOf q)) Field.Absent (small-aim a (directionOf q)) tt)
     go false false true =
         every-map SmallLimits SmallCommand (limitsIn false ps) (λ l. Command.SetSetpoint (setpointsOf l)) (small-limits false ps)
-        (λ m h. (small-target (m .consumption) (h .0), small-target (m .production) (h .1)))
-    go false false false = any-map SmallCommand (aimIn (valueOf ps 1)) Command.ClearSetpoint (λ a. tt)
+        (λ m h q. small-cond (isLimit q) Field.Absent (setpointField (setpointsOf m) (directionOf q)) tt
+        (small-cond (eqb (directionOf q) 0) (targetField (targetOf (m .consumption))) (targetField (targetOf (m .production)))
+        (small-target (m .consumption) (h .0)) (small-target (m .production) (h .1))))
+    go false false false =
+        any-map SmallCommand (aimIn (valueOf ps 1)) Command.ClearSetpoint
+        (λ a q. small-cond (isLimit q) Field.Absent (aimField a (directionOf q)) tt (small-aim a (directionOf q)))
 
 pub small-reading : (bytes : List ℕ) → SmallReading (readRequest bytes)
 unfolding readRequest fromPayload fromEnvelope
@@ -162,43 +170,6 @@ puts-field top v Field.Absent h e = absurd (let w : _≡_ {A = ℕ} 0 1 = cc in 
 puts-field top v Field.Null h e = absurd (let w : _≡_ {A = ℕ} 0 1 = cc in omega arith)
 puts-field top v (Field.Value z) h e = let q : min top (natural z) ≡ v = cc in omega (arith, min-le-right top (natural z))
 
-puts-target : (v : ℕ) (f : Target) → SmallTarget f → targetAction f ≡ Action.Put v → v < valueEnd
-unfolding targetAction
-puts-target v Target.Absent h e = absurd (let w : _≡_ {A = ℕ} 0 1 = cc in omega arith)
-puts-target v (Target.Value z) h e = let q : natural z ≡ v = cc in omega arith
-
--- a clear puts nothing
-no-aim : {X : Type 0} (l : Bool) (a : Aim) (d v : ℕ) → cond l (aimAction a d) Action.Keep ≡ Action.Put v → X
-unfolding aimAction
-no-aim true Aim.Both d v e = absurd (let w : _≡_ {A = ℕ} 0 1 = cc in omega arith)
-no-aim {X} true (Aim.One k) d v e = go (eqb k d) e
-  where
-    go : (b : Bool) → cond b Action.Remove Action.Keep ≡ Action.Put v → X
-    go true e = absurd (let w : _≡_ {A = ℕ} 0 1 = cc in omega arith)
-    go false e = absurd (let w : _≡_ {A = ℕ} 0 1 = cc in omega arith)
-no-aim false a d v e = absurd (let w : _≡_ {A = ℕ} 0 1 = cc in omega arith)
-
 pub small-action : (s : Settings) (c : Command) (q v : ℕ) → SmallCommand c → action s c q ≡ Action.Put v → v < valueEnd
 unfolding action
-small-action s (Command.SetLimit m) q v h e = go (isLimit q) (eqb (directionOf q) 0) e
-  where
-    top : ℕ
-    top = getD (s .maxima) (directionOf q) 0
-
-    go : (l d : Bool) → cond l (fieldAction top (cond d (m .consumption) (m .production))) Action.Keep ≡ Action.Put v → v < valueEnd
-    go true true e = puts-field top v (m .consumption) (h .0) e
-    go true false e = puts-field top v (m .production) (h .1) e
-    go false d e = absurd (let w : _≡_ {A = ℕ} 0 1 = cc in omega arith)
-small-action s (Command.ClearLimit a) q v h e = no-aim (isLimit q) a (directionOf q) v e
-small-action s (Command.SetSetpoint m) q v h e = go (isLimit q) (eqb (directionOf q) 0) e
-  where
-    go : (l d : Bool) → cond l Action.Keep (targetAction (cond d (m .consumption) (m .production))) ≡ Action.Put v → v < valueEnd
-    go true d e = absurd (let w : _≡_ {A = ℕ} 0 1 = cc in omega arith)
-    go false true e = puts-target v (m .consumption) (h .0) e
-    go false false e = puts-target v (m .production) (h .1) e
-small-action s (Command.ClearSetpoint a) q v h e = go (isLimit q) e
-  where
-    go : (l : Bool) → cond l Action.Keep (aimAction a (directionOf q)) ≡ Action.Put v → v < valueEnd
-    go true e = absurd (let w : _≡_ {A = ℕ} 0 1 = cc in omega arith)
-    go false e = no-aim true a (directionOf q) v e
-small-action s (Command.Unserved n) q v h e = absurd (let w : _≡_ {A = ℕ} 0 1 = cc in omega arith)
+small-action s c q v h e = puts-field (topOf s q) v (says c q) (h q) e

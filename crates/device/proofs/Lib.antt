@@ -14,6 +14,7 @@ pub mod Changes
 pub mod FirstOf
 pub mod Rooms
 pub mod Fills
+pub mod Quantities
 pub mod Ends
 pub mod Signs
 pub mod Decisions

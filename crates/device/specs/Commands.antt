@@ -1,5 +1,5 @@
 -- The four commands: what each asks, what it leaves held, and what is answered.
-use Prim.Native.Nat.{ℕ, _+_, min}
+use Prim.Native.Nat.{ℕ, zero, suc, _+_, min}
 use mathlib.Core.Bool.{Bool, true, false, cond, not, _&&_, _||_}
 use mathlib.Core.List.{List, [], _∷_}
 use lib.Dec.{ltb, leb, eqb}
@@ -25,16 +25,72 @@ use Rattle.device.specs.declared.Held.{Held}
 use Rattle.device.specs.declared.Zone.{Zone}
 use Rattle.device.specs.declared.Settings.{Settings}
 use Rattle.device.specs.declared.Action.{Action}
+use Rattle.device.specs.declared.said.Kind.{Kind}
 use Rattle.device.specs.declared.Decision.{Decision}
 use Rattle.device.specs.declared.Answer.{Answer}
 
--- THE FIELDS OF A COMMAND, by direction
+-- A COMMAND SEEN BY QUANTITY: what it says of each, beside its kind, aim and duration. All else goes by these and the answers below.
+-- the fields of a command, by direction
 abbrev pub limitField : Limits → ℕ → Field
 limitField m d = cond (eqb d 0) (m .consumption) (m .production)
 
-abbrev pub setpointField : Setpoints → ℕ → Target
-setpointField m d = cond (eqb d 0) (m .consumption) (m .production)
+-- a setpoint's field has no null
+abbrev pub targetField : Target → Field
+targetField Target.Absent = Field.Absent
+targetField (Target.Value v) = Field.Value v
 
+abbrev pub setpointField : Setpoints → ℕ → Field
+setpointField m d = cond (eqb d 0) (targetField (m .consumption)) (targetField (m .production))
+
+-- "without one they clear both"
+abbrev pub aimField : Aim → ℕ → Field
+aimField Aim.Both d = Field.Null
+aimField (Aim.One e) d = cond (eqb e d) Field.Null Field.Absent
+
+-- "absent leaves that direction, null removes this zone's limit, a number sets it"; a clear says null
+unfoldable pub says : Command → ℕ → Field
+says (Command.SetLimit m) q = cond (isLimit q) (limitField m (directionOf q)) Field.Absent
+says (Command.ClearLimit a) q = cond (isLimit q) (aimField a (directionOf q)) Field.Absent
+says (Command.SetSetpoint m) q = cond (isLimit q) Field.Absent (setpointField m (directionOf q))
+says (Command.ClearSetpoint a) q = cond (isLimit q) Field.Absent (aimField a (directionOf q))
+says (Command.Unserved n) q = Field.Absent
+
+abbrev pub kindOf : Command → Kind
+kindOf (Command.SetLimit m) = Kind.Limits
+kindOf (Command.ClearLimit a) = Kind.Limits
+kindOf (Command.SetSetpoint m) = Kind.Setpoints
+kindOf (Command.ClearSetpoint a) = Kind.Setpoints
+kindOf (Command.Unserved n) = Kind.Unserved
+
+abbrev pub isSet : Command → Bool
+isSet (Command.SetLimit m) = true
+isSet (Command.ClearLimit a) = false
+isSet (Command.SetSetpoint m) = true
+isSet (Command.ClearSetpoint a) = false
+isSet (Command.Unserved n) = false
+
+-- the direction that a clear names; a Set command names directions by its fields alone
+abbrev pub aimOf : Command → Aim
+aimOf (Command.SetLimit m) = Aim.Both
+aimOf (Command.ClearLimit a) = a
+aimOf (Command.SetSetpoint m) = Aim.Both
+aimOf (Command.ClearSetpoint a) = a
+aimOf (Command.Unserved n) = Aim.Both
+
+-- an omitted duration is 0
+abbrev pub durationOf : Command → ℕ
+durationOf (Command.SetLimit m) = m .duration
+durationOf (Command.ClearLimit a) = 0
+durationOf (Command.SetSetpoint m) = m .duration
+durationOf (Command.ClearSetpoint a) = 0
+durationOf (Command.Unserved n) = 0
+
+-- some quantity below n passes the test p
+unfoldable pub someOf : (ℕ → Bool) → ℕ → Bool
+someOf p zero = false
+someOf p (suc n) = someOf p n || p n
+
+-- WHAT A FIELD SAYS
 abbrev pub negative : ℤ → Bool
 negative (pos n) = false
 negative (negsuc n) = true
@@ -49,59 +105,51 @@ fieldNames Field.Absent = false
 fieldNames Field.Null = true
 fieldNames (Field.Value v) = true
 
-abbrev pub targetNames : Target → Bool
-targetNames Target.Absent = false
-targetNames (Target.Value v) = true
-
 abbrev pub fieldNegative : Field → Bool
 fieldNegative Field.Absent = false
 fieldNegative Field.Null = false
 fieldNegative (Field.Value v) = negative v
 
-abbrev pub targetNegative : Target → Bool
-targetNegative Target.Absent = false
-targetNegative (Target.Value v) = negative v
-
 -- THE TESTS
+-- 4: the command is not served
+abbrev pub ofNone : Kind → Bool
+ofNone Kind.Limits = false
+ofNone Kind.Setpoints = false
+ofNone Kind.Unserved = true
+
+abbrev pub isUnserved : Command → Bool
+isUnserved c = ofNone (kindOf c)
+
 -- 11: "limits or setpoints not accepted, or a named direction not supported"; a clear without direction names none
-abbrev pub fieldsUnsupported : ℕ → Bool → Bool → Bool
-fieldsUnsupported has c p = (c && not (supports has 0)) || (p && not (supports has 1))
+abbrev pub accepts : Settings → Kind → Bool
+accepts s Kind.Limits = s .limits
+accepts s Kind.Setpoints = s .setpoints
+accepts s Kind.Unserved = true
 
 abbrev pub aimUnsupported : ℕ → Aim → Bool
 aimUnsupported has Aim.Both = false
 aimUnsupported has (Aim.One d) = not (supports has d)
 
+abbrev pub beyond : ℕ → Field → ℕ → Bool
+beyond has f q = fieldNames f && not (supports has (directionOf q))
+
 unfoldable pub unsupported : Settings → Command → Bool
-unsupported s (Command.SetLimit m) = not (s .limits) || fieldsUnsupported (s .directions) (fieldNames (m .consumption)) (fieldNames (m .production))
-unsupported s (Command.ClearLimit a) = not (s .limits) || aimUnsupported (s .directions) a
-unsupported s (Command.SetSetpoint m) = not (s .setpoints) || fieldsUnsupported (s .directions) (targetNames (m .consumption)) (targetNames (m .production))
-unsupported s (Command.ClearSetpoint a) = not (s .setpoints) || aimUnsupported (s .directions) a
-unsupported s (Command.Unserved n) = false
+unsupported s c =
+    not (accepts s (kindOf c))
+    || (aimUnsupported (s .directions) (aimOf c) || (isSet c && someOf (λ q. beyond (s .directions) (says c q) q) helds))
 
--- 4: the command is not served; 12: "SetLimit while an override is set"
-abbrev pub isUnserved : Command → Bool
-isUnserved (Command.SetLimit m) = false
-isUnserved (Command.ClearLimit a) = false
-isUnserved (Command.SetSetpoint m) = false
-isUnserved (Command.ClearSetpoint a) = false
-isUnserved (Command.Unserved n) = true
+-- 12: "SetLimit while an override is set"
+abbrev pub ofLimits : Kind → Bool
+ofLimits Kind.Limits = true
+ofLimits Kind.Setpoints = false
+ofLimits Kind.Unserved = false
 
-abbrev pub isSetLimit : Command → Bool
-isSetLimit (Command.SetLimit m) = true
-isSetLimit (Command.ClearLimit a) = false
-isSetLimit (Command.SetSetpoint m) = false
-isSetLimit (Command.ClearSetpoint a) = false
-isSetLimit (Command.Unserved n) = false
+abbrev pub setsLimits : Command → Bool
+setsLimits c = ofLimits (kindOf c) && isSet c
 
 -- 13: "a Set command with a negative value or naming neither direction"
 unfoldable pub invalid : Command → Bool
-invalid (Command.SetLimit m) =
-    (fieldNegative (m .consumption) || fieldNegative (m .production)) || not (fieldNames (m .consumption) || fieldNames (m .production))
-invalid (Command.ClearLimit a) = false
-invalid (Command.SetSetpoint m) =
-    (targetNegative (m .consumption) || targetNegative (m .production)) || not (targetNames (m .consumption) || targetNames (m .production))
-invalid (Command.ClearSetpoint a) = false
-invalid (Command.Unserved n) = false
+invalid c = isSet c && (someOf (λ q. fieldNegative (says c q)) helds || not (someOf (λ q. fieldNames (says c q)) helds))
 
 -- 14: "a consumption limit below the minimum": the rule for a single value
 unfoldable pub tooLow : ℕ → ℕ → Bool
@@ -112,18 +160,15 @@ fieldTooLow minimum Field.Absent = false
 fieldTooLow minimum Field.Null = false
 fieldTooLow minimum (Field.Value v) = tooLow minimum (natural v)
 
+-- quantity 0 is the consumption limit; a clear says no number
 unfoldable pub belowTheMinimum : Settings → Command → Bool
-belowTheMinimum s (Command.SetLimit m) = fieldTooLow (s .minimum) (m .consumption)
-belowTheMinimum s (Command.ClearLimit a) = false
-belowTheMinimum s (Command.SetSetpoint m) = false
-belowTheMinimum s (Command.ClearSetpoint a) = false
-belowTheMinimum s (Command.Unserved n) = false
+belowTheMinimum s c = fieldTooLow (s .minimum) (says c 0)
 
 -- a command from zone z at t: document 01's order
 abbrev pub commandTests : ℕ → Bool → Bool → Settings → ℕ → ℕ → Command → List (Bool × ℕ)
 commandTests clock there up s override t c =
     (isUnserved c, 4) ∷ (late clock t, 5) ∷ (not there, 9) ∷ (not up, 10) ∷ (unsupported s c, 11)
-    ∷ (isSetLimit c && not (eqb override 0), 12) ∷ (invalid c, 13) ∷ (belowTheMinimum s c, 14) ∷ []
+    ∷ (setsLimits c && not (eqb override 0), 12) ∷ (invalid c, 13) ∷ (belowTheMinimum s c, 14) ∷ []
 
 unfoldable pub commandNumber : List ℕ → ℕ → ℕ → Command → ℕ
 commandNumber ws z t c =
@@ -136,30 +181,13 @@ fieldAction top Field.Absent = Action.Keep
 fieldAction top Field.Null = Action.Remove
 fieldAction top (Field.Value v) = Action.Put (min top (natural v))
 
-unfoldable pub targetAction : Target → Action
-targetAction Target.Absent = Action.Keep
-targetAction (Target.Value v) = Action.Put (natural v)
-
--- "without one they clear both"
-unfoldable pub aimAction : Aim → ℕ → Action
-aimAction Aim.Both d = Action.Remove
-aimAction (Aim.One e) d = cond (eqb e d) Action.Remove Action.Keep
+-- the most that quantity q may be: the contractual maximum of a limit; the largest word, which is none, for the others
+abbrev pub topOf : Settings → ℕ → ℕ
+topOf s q = cond (isLimit q) (getD (s .maxima) (directionOf q) 0) most
 
 -- what a command does to quantity q
 unfoldable pub action : Settings → Command → ℕ → Action
-action s (Command.SetLimit m) q = cond (isLimit q) (fieldAction (getD (s .maxima) (directionOf q) 0) (limitField m (directionOf q))) Action.Keep
-action s (Command.ClearLimit a) q = cond (isLimit q) (aimAction a (directionOf q)) Action.Keep
-action s (Command.SetSetpoint m) q = cond (isLimit q) Action.Keep (targetAction (setpointField m (directionOf q)))
-action s (Command.ClearSetpoint a) q = cond (isLimit q) Action.Keep (aimAction a (directionOf q))
-action s (Command.Unserved n) q = Action.Keep
-
--- an omitted duration is 0
-abbrev pub durationOf : Command → ℕ
-durationOf (Command.SetLimit m) = m .duration
-durationOf (Command.ClearLimit a) = 0
-durationOf (Command.SetSetpoint m) = m .duration
-durationOf (Command.ClearSetpoint a) = 0
-durationOf (Command.Unserved n) = 0
+action s c q = fieldAction (topOf s q) (says c q)
 
 -- "A value set at second n with duration d > 0 holds while t < n + d; duration 0 or omitted holds until replaced or cleared"
 unfoldable pub untilOf : ℕ → ℕ → ℕ
@@ -187,11 +215,7 @@ fieldAbove top Field.Null = false
 fieldAbove top (Field.Value v) = ltb top (natural v)
 
 unfoldable pub isCapped : Settings → Command → Bool
-isCapped s (Command.SetLimit m) = fieldAbove (getD (s .maxima) 0 0) (m .consumption) || fieldAbove (getD (s .maxima) 1 0) (m .production)
-isCapped s (Command.ClearLimit a) = false
-isCapped s (Command.SetSetpoint m) = false
-isCapped s (Command.ClearSetpoint a) = false
-isCapped s (Command.Unserved n) = false
+isCapped s c = someOf (λ q. fieldAbove (topOf s q) (says c q)) helds
 
 -- "below minimum 0 (status 14), above contractual 1 (status 0), invalid 2 (13), override 3 (12), not supported 4 (11)"
 unfoldable pub reasonOf : ℕ → Bool → Amount

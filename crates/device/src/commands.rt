@@ -1,5 +1,4 @@
 // The four commands: decided, answered from what would hold, applied.
-use crate::Answer;
 use crate::Change;
 use crate::Decision;
 use crate::SLOTS;
@@ -17,7 +16,7 @@ ghost use mathlib.Core.Path.{_≡_};
 ghost use mathlib.Core.Bool.{cond};
 ghost use lib.Dec.{eqb};
 ghost use Rattle.device.specs.Refusals.{firstOf};
-ghost use Rattle.device.specs.Commands.{commandTests, decisionOf, outcomeFor, enacted, commandAnswer, commandAfter};
+ghost use Rattle.device.specs.Commands.{commandTests, decisionOf, outcomeFor, enacted};
 
 fn number_of(
     clock: u64,
@@ -124,19 +123,5 @@ pub fn enact(d: &mut State, t: u64, x: Decision)
             overridden: store::overridden(d),
         };
         store::apply(d, change);
-    }
-}
-
-pub fn command(d: &mut State, zone: u64, t: u64, c: Command) -> Answer
-    ensures { λ r. ⌜ r ≡ commandAnswer (now (d .entry)) zone t c ⌝ }
-    ensures { λ _. ⌜ now (d .exit) ≡ commandAfter (now (d .entry)) zone t c ⌝ }
-{
-    let _all = store::all(d);
-    let x = decide(d, zone, t, c);
-    let outcome = outcome_of(d, t, c, x);
-    enact(d, t, x);
-    Answer {
-        number: x.number,
-        outcome: outcome,
     }
 }

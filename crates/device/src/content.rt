@@ -1,37 +1,34 @@
-// What is asked of a command itself, whatever zone it comes from.
+// What is asked of a command itself, whatever zone it comes from: its tests go over the quantities, not over the commands.
+use crate::HELDS;
 use crate::Settings;
 use crate::fields::field_names;
 use crate::fields::field_negative;
 use crate::fields::field_too_low;
-use crate::fields::target_names;
-use crate::fields::target_negative;
 use crate::holds::supports;
+use crate::said::Kind;
+use crate::said::aim_of;
+use crate::said::is_set;
+use crate::said::kind_of;
+use crate::said::says;
 use messages::Aim;
 use messages::Command;
+use messages::Field;
 ghost use mathlib.Core.Path.{_≡_};
 ghost use mathlib.Core.Bool.{not, _&&_, _||_};
 ghost use mathlib.Core.List.{[], _∷_};
 ghost use lib.Dec.{eqb};
-ghost use Rattle.device.specs.Holds.{supports};
+ghost use Rattle.device.specs.Sizes.{helds};
 ghost use Rattle.device.specs.Refusals.{firstOf};
-ghost use Rattle.device.specs.Commands.{fieldsUnsupported, aimUnsupported, unsupported, isUnserved, isSetLimit, invalid, belowTheMinimum};
+ghost use Rattle.device.specs.Commands.{accepts, aimUnsupported, beyond, someOf, says, fieldNegative, fieldNames, unsupported, isUnserved, setsLimits, invalid, belowTheMinimum};
 
-fn names_unsupported(named: bool, has: u64, d: u64) -> bool
-    ensures { λ r. ⌜ r ≡ named && not (supports has d) ⌝ }
+fn accepts(s: Settings, k: Kind) -> bool
+    ensures { λ r. ⌜ r ≡ accepts s k ⌝ }
 {
-    if named {
-        return !supports(has, d);
+    match k {
+        Kind::Limits => s.limits,
+        Kind::Setpoints => s.setpoints,
+        Kind::Unserved => true,
     }
-    false
-}
-
-fn fields_unsupported(has: u64, c: bool, p: bool) -> bool
-    ensures { λ r. ⌜ r ≡ fieldsUnsupported has c p ⌝ }
-{
-    if names_unsupported(c, has, 0) {
-        return true;
-    }
-    names_unsupported(p, has, 1)
 }
 
 fn aim_unsupported(has: u64, a: Aim) -> bool
@@ -43,140 +40,121 @@ fn aim_unsupported(has: u64, a: Aim) -> bool
     }
 }
 
-pub fn is_unsupported(s: Settings, c: Command) -> bool
+// A quantity that is named though its direction is not supported.
+fn is_beyond(has: u64, f: Field, q: usize) -> bool
+    ensures { λ r. ⌜ r ≡ beyond has f q ⌝ }
+{
+    if field_names(f) {
+        return !supports(has, (q % 2) as u64);
+    }
+    false
+}
+
+fn some_beyond(has: u64, c: Command) -> bool
+    ensures { λ r. ⌜ r ≡ someOf (λ q. beyond has (says c q) q) helds ⌝ }
+{
+    let mut q = 0;
+    while q < HELDS {
+        if is_beyond(has, says(c, q), q) {
+            return true;
+        }
+        q += 1;
+    }
+    false
+}
+
+fn some_negative(c: Command) -> bool
+    ensures { λ r. ⌜ r ≡ someOf (λ q. fieldNegative (says c q)) helds ⌝ }
+{
+    let mut q = 0;
+    while q < HELDS {
+        if field_negative(says(c, q)) {
+            return true;
+        }
+        q += 1;
+    }
+    false
+}
+
+fn some_named(c: Command) -> bool
+    ensures { λ r. ⌜ r ≡ someOf (λ q. fieldNames (says c q)) helds ⌝ }
+{
+    let mut q = 0;
+    while q < HELDS {
+        if field_names(says(c, q)) {
+            return true;
+        }
+        q += 1;
+    }
+    false
+}
+
+fn is_unsupported(s: Settings, c: Command) -> bool
     ensures { λ r. ⌜ r ≡ unsupported s c ⌝ }
 {
-    match c {
-        Command::SetLimit(m) => {
-            let a = m.consumption;
-            let b = m.production;
-            if s.limits {
-                return fields_unsupported(s.directions, field_names(a), field_names(b));
-            }
-            true
+    if accepts(s, kind_of(c)) {
+        if aim_unsupported(s.directions, aim_of(c)) {
+            return true;
         }
-        Command::ClearLimit(a) => {
-            if s.limits {
-                return aim_unsupported(s.directions, a);
-            }
-            true
+        if is_set(c) {
+            return some_beyond(s.directions, c);
         }
-        Command::SetSetpoint(m) => {
-            let a = m.consumption;
-            let b = m.production;
-            if s.setpoints {
-                return fields_unsupported(s.directions, target_names(a), target_names(b));
-            }
-            true
-        }
-        Command::ClearSetpoint(a) => {
-            if s.setpoints {
-                return aim_unsupported(s.directions, a);
-            }
-            true
-        }
-        Command::Unserved(_) => false,
+        return false;
     }
+    true
 }
 
 pub fn is_unserved(c: Command) -> bool
     ensures { λ r. ⌜ r ≡ isUnserved c ⌝ }
 {
-    match c {
-        Command::SetLimit(_) => false,
-        Command::ClearLimit(_) => false,
-        Command::SetSetpoint(_) => false,
-        Command::ClearSetpoint(_) => false,
-        Command::Unserved(_) => true,
+    match kind_of(c) {
+        Kind::Limits => false,
+        Kind::Setpoints => false,
+        Kind::Unserved => true,
     }
 }
 
-pub fn is_set_limit(c: Command) -> bool
-    ensures { λ r. ⌜ r ≡ isSetLimit c ⌝ }
+fn sets_limits(c: Command) -> bool
+    ensures { λ r. ⌜ r ≡ setsLimits c ⌝ }
 {
-    match c {
-        Command::SetLimit(_) => true,
-        Command::ClearLimit(_) => false,
-        Command::SetSetpoint(_) => false,
-        Command::ClearSetpoint(_) => false,
-        Command::Unserved(_) => false,
+    match kind_of(c) {
+        Kind::Limits => is_set(c),
+        Kind::Setpoints => false,
+        Kind::Unserved => false,
     }
 }
 
-// An override stops every SetLimit and no other command.
+// An override stops every Set command of limits and no other command.
 fn is_stopped(c: Command, overridden: u64) -> bool
-    ensures { λ r. ⌜ r ≡ isSetLimit c && not (eqb overridden 0) ⌝ }
+    ensures { λ r. ⌜ r ≡ setsLimits c && not (eqb overridden 0) ⌝ }
 {
-    if is_set_limit(c) {
+    if sets_limits(c) {
         return overridden != 0;
     }
     false
 }
 
-// Two fields are invalid where one is negative or neither is named.
-fn fields_invalid(low: bool, low2: bool, named: bool, named2: bool) -> bool
-    ensures { λ r. ⌜ r ≡ (low || low2) || not (named || named2) ⌝ }
-{
-    if low {
-        return true;
-    }
-    if low2 {
-        return true;
-    }
-    if named {
-        return false;
-    }
-    !named2
-}
-
-pub fn is_invalid(c: Command) -> bool
+fn is_invalid(c: Command) -> bool
     ensures { λ r. ⌜ r ≡ invalid c ⌝ }
 {
-    match c {
-        Command::SetLimit(m) => {
-            let a = m.consumption;
-            let b = m.production;
-            fields_invalid(
-                field_negative(a),
-                field_negative(b),
-                field_names(a),
-                field_names(b),
-            )
+    if is_set(c) {
+        if some_negative(c) {
+            return true;
         }
-        Command::ClearLimit(_) => false,
-        Command::SetSetpoint(m) => {
-            let a = m.consumption;
-            let b = m.production;
-            fields_invalid(
-                target_negative(a),
-                target_negative(b),
-                target_names(a),
-                target_names(b),
-            )
-        }
-        Command::ClearSetpoint(_) => false,
-        Command::Unserved(_) => false,
+        return !some_named(c);
     }
+    false
 }
 
-pub fn is_below_minimum(s: Settings, c: Command) -> bool
+fn is_below_minimum(s: Settings, c: Command) -> bool
     ensures { λ r. ⌜ r ≡ belowTheMinimum s c ⌝ }
 {
-    match c {
-        Command::SetLimit(m) => {
-            let a = m.consumption;
-            field_too_low(s.minimum, a)
-        }
-        Command::ClearLimit(_) => false,
-        Command::SetSetpoint(_) => false,
-        Command::ClearSetpoint(_) => false,
-        Command::Unserved(_) => false,
-    }
+    field_too_low(s.minimum, says(c, 0))
 }
 
 // What is asked of the command itself, once its zone is joined and up.
 pub fn content_number(s: Settings, overridden: u64, c: Command) -> u64
-    ensures { λ r. ⌜ r ≡ firstOf ((unsupported s c, 11) ∷ (isSetLimit c && not (eqb overridden 0), 12) ∷ (invalid c, 13) ∷ (belowTheMinimum s c, 14) ∷ []) ⌝ }
+    ensures { λ r. ⌜ r ≡ firstOf ((unsupported s c, 11) ∷ (setsLimits c && not (eqb overridden 0), 12) ∷ (invalid c, 13) ∷ (belowTheMinimum s c, 14) ∷ []) ⌝ }
 {
     if is_unsupported(s, c) {
         return 11;

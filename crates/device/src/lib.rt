@@ -9,6 +9,7 @@ pub mod links;
 pub mod obey;
 pub mod outcomes;
 pub mod refusals;
+pub mod said;
 pub mod store;
 pub mod tops;
 

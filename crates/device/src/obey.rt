@@ -5,61 +5,30 @@ use crate::Held;
 use crate::MOST;
 use crate::Settings;
 use crate::Zone;
-use crate::fields::aim_action;
 use crate::fields::field_action;
-use crate::fields::limit_field;
-use crate::fields::setpoint_field;
-use crate::fields::target_action;
+use crate::said::duration_of;
+use crate::said::says;
 use messages::Command;
 ghost use mathlib.Core.Path.{_≡_};
 ghost use lib.ListN.{getD};
 ghost use Rattle.device.specs.Sizes.{helds};
 ghost use Rattle.device.specs.Zones.{upTo, nothing};
-ghost use Rattle.device.specs.Commands.{action, durationOf, untilOf, done, obeyed};
+ghost use Rattle.device.specs.Commands.{topOf, action, untilOf, done, obeyed};
 
-pub fn action(s: Settings, c: Command, q: usize) -> Action
-    ensures { λ r. ⌜ r ≡ action s c q ⌝ }
+// The most that quantity q may be: a limit's contractual maximum, and none for the others.
+pub fn top_of(s: Settings, q: usize) -> u64
+    ensures { λ r. ⌜ r ≡ topOf s q ⌝ }
 {
-    let d = q % 2;
-    match c {
-        Command::SetLimit(m) => {
-            if q < 2 {
-                return field_action(s.maxima[d], limit_field(m, d as u64));
-            }
-            Action::Keep
-        }
-        Command::ClearLimit(a) => {
-            if q < 2 {
-                return aim_action(a, d as u64);
-            }
-            Action::Keep
-        }
-        Command::SetSetpoint(m) => {
-            if q < 2 {
-                return Action::Keep;
-            }
-            target_action(setpoint_field(m, d as u64))
-        }
-        Command::ClearSetpoint(a) => {
-            if q < 2 {
-                return Action::Keep;
-            }
-            aim_action(a, d as u64)
-        }
-        Command::Unserved(_) => Action::Keep,
+    if q < 2 {
+        return s.maxima[q % 2];
     }
+    MOST
 }
 
-pub fn duration_of(c: Command) -> u64
-    ensures { λ r. ⌜ r ≡ durationOf c ⌝ }
+fn action(s: Settings, c: Command, q: usize) -> Action
+    ensures { λ r. ⌜ r ≡ action s c q ⌝ }
 {
-    match c {
-        Command::SetLimit(m) => m.duration,
-        Command::ClearLimit(_) => 0,
-        Command::SetSetpoint(m) => m.duration,
-        Command::ClearSetpoint(_) => 0,
-        Command::Unserved(_) => 0,
-    }
+    field_action(top_of(s, q), says(c, q))
 }
 
 // The second until which a value set at n for a duration holds.

@@ -1,9 +1,12 @@
 // The result that stands in the response to a command.
+use crate::HELDS;
 use crate::Settings;
 use crate::VALUES;
 use crate::fields::field_above;
 use crate::fields::is_negative;
 use crate::fields::natural_of;
+use crate::obey::top_of;
+use crate::said::says;
 use messages::Amount;
 use messages::Command;
 use messages::LimitResult;
@@ -14,23 +17,18 @@ ghost use mathlib.Core.Bool.{cond, _&&_, _||_};
 ghost use lib.Dec.{leb, eqb};
 ghost use Rattle.device.specs.Commands.{isCapped, reasonOf, stated, limitOutcome, setpointOutcome};
 
+// Some quantity's number is above its top.
 pub fn is_capped(s: Settings, c: Command) -> bool
     ensures { λ r. ⌜ r ≡ isCapped s c ⌝ }
 {
-    match c {
-        Command::SetLimit(m) => {
-            let a = m.consumption;
-            let b = m.production;
-            if field_above(s.maxima[0], a) {
-                return true;
-            }
-            field_above(s.maxima[1], b)
+    let mut q = 0;
+    while q < HELDS {
+        if field_above(top_of(s, q), says(c, q)) {
+            return true;
         }
-        Command::ClearLimit(_) => false,
-        Command::SetSetpoint(_) => false,
-        Command::ClearSetpoint(_) => false,
-        Command::Unserved(_) => false,
+        q += 1;
     }
+    false
 }
 
 fn above_if(capped: bool) -> Amount

@@ -23,7 +23,7 @@ use Rattle.device.specs.Zones.{upTo, joined, zoneOf, anyUp}
 use Rattle.device.specs.Words.{settingsOf, clockOf, overrideOf, zonesOf}
 use Rattle.device.specs.Refusals.{late}
 use Rattle.device.specs.Holds.{Situation, situationOf, inFailsafe, stateAt, present, shown, valuesAt, valueAt}
-use Rattle.device.specs.Commands.{commandNumber, commandAfter, commandAnswer, isCapped, outcomeWith, reasonOf, stated, natural, isUnserved, unsupported, isSetLimit, invalid, belowTheMinimum}
+use Rattle.device.specs.Commands.{commandNumber, commandAfter, commandAnswer, isCapped, outcomeWith, reasonOf, stated, natural, isUnserved, unsupported, setsLimits, invalid, belowTheMinimum}
 use Rattle.kernel.specs.Frame.{responseTo}
 
 -- a value that is shown fits a response
@@ -84,7 +84,7 @@ number-fits : (ws : List ℕ) (z t : ℕ) (c : Command) → isStatus (commandNum
 unfolding commandNumber firstOf isStatus
 number-fits ws z t c =
     go (isUnserved c) (late (clockOf ws) t) (not (joined (zonesOf ws) z)) (not (zoneOf (zonesOf ws) z .up)) (unsupported (settingsOf ws) c)
-    (isSetLimit c && not (eqb (overrideOf ws) 0)) (invalid c) (belowTheMinimum (settingsOf ws) c)
+    (setsLimits c && not (eqb (overrideOf ws) 0)) (invalid c) (belowTheMinimum (settingsOf ws) c)
   where
     go : (a b c d e f g h : Bool) → isStatus (firstOf ((a, 4) ∷ (b, 5) ∷ (c, 9) ∷ (d, 10) ∷ (e, 11) ∷ (f, 12) ∷ (g, 13) ∷ (h, 14) ∷ [])) ≡ true
     go true b c d e f g h = refl

@@ -1,3 +1,5 @@
+-- The tests are those of the definition, in its order.
+use Rattle.device.proofs.Tests.{via}
 use Rattle.device.specs.Commands.{invalid}
 use borrow.Author.Needs.{needs}
 use Rattle.device.proofs.content.is_invalid.Statement.{statement}
@@ -8,11 +10,8 @@ unfolding invalid
 is-invalid-spec =
     tie.close
     (tie.spec
-    (λ c. search needs) (λ c κs. search needs) (λ c κs. search needs) (λ c κs. search needs)
-    (λ c κs. search needs) (λ c κs. search needs) (λ c. search needs) (λ c. search needs)
-    (λ c κs. search needs) (λ c κs. search needs) (λ c κs. search needs) (λ c κs. search needs)
-    (λ c κs. search needs) (λ c. search needs) (λ c. search needs)
-    (λ c. rw (c .before .before .before .before .before .before .c .given .1, c .fields-invalid .ensures, c .before .before .before .before .field-negative .ensures, c .before .before .before .field-negative2 .ensures, c .before .before .field-names .ensures, c .before .field-names2 .ensures))
-    (λ c. rw (c .enum-told .given .1))
-    (λ c. rw (c .before .before .before .before .before .before .c2 .given .1, c .fields-invalid2 .ensures, c .before .before .before .before .target-negative .ensures, c .before .before .before .target-negative2 .ensures, c .before .before .target-names .ensures, c .before .target-names2 .ensures))
-    (λ c. rw (c .enum-told2 .given .1)) (λ c. rw (c .enum-told3 .given .1)))
+    (λ c κs. search needs) (λ c κs. search needs)
+    (λ c. rw (via (c .before .before .before .is-set .ensures) (c .before .before .if1 .taken), via (c .before .some-negative .ensures) (c .if2 .taken)))
+    (λ c κs. search needs)
+    (λ c. rw (via (c .before .before .before .before .is-set .ensures) (c .before .before .before .if1 .taken), via (c .before .before .some-negative .ensures) (c .before .if2 .left), c .some-named .ensures))
+    (λ c. rw (via (c .before .is-set .ensures) (c .if1 .left))))

@@ -8,5 +8,5 @@ is-stopped-spec =
     tie.close
     (tie.spec
     (λ c κs. search needs)
-    (λ c. rw (via (c .before .is-set-limit .ensures) (c .if1 .taken)))
-    (λ c. rw (via (c .before .is-set-limit .ensures) (c .if1 .left))))
+    (λ c. rw (via (c .before .sets-limits .ensures) (c .if1 .taken)))
+    (λ c. rw (via (c .before .sets-limits .ensures) (c .if1 .left))))

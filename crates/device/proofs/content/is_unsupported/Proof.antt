@@ -1,3 +1,5 @@
+-- The tests are those of the definition, in its order.
+use Rattle.device.proofs.Tests.{via}
 use Rattle.device.specs.Commands.{unsupported}
 use borrow.Author.Needs.{needs}
 use Rattle.device.proofs.content.is_unsupported.Statement.{statement}
@@ -8,15 +10,9 @@ unfolding unsupported
 is-unsupported-spec =
     tie.close
     (tie.spec
-    (λ c. search needs) (λ c κs. search needs) (λ c κs. search needs) (λ c κs. search needs)
-    (λ c. rw (c .before .before .before .before .before .c .given .1, c .before .before .before .if1 .taken) (rw (c .before .before .field-names .ensures, c .before .field-names2 .ensures) at (c .fields-unsupported .ensures)))
-    (λ c. search needs) (λ c κs. search needs)
-    (λ c. rw (c .before .before .before .c2 .given .1, c .before .if2 .taken) (c .aim-unsupported .ensures))
-    (λ c. search needs) (λ c κs. search needs) (λ c κs. search needs) (λ c κs. search needs)
-    (λ c. rw (c .before .before .before .before .before .c3 .given .1, c .before .before .before .if3 .taken) (rw (c .before .before .target-names .ensures, c .before .target-names2 .ensures) at (c .fields-unsupported2 .ensures)))
-    (λ c. search needs) (λ c κs. search needs)
-    (λ c. rw (c .before .before .before .c4 .given .1, c .before .if4 .taken) (c .aim-unsupported2 .ensures))
-    (λ c. search needs) (λ c. rw (c .before .before .c .given .1, c .if1 .left))
-    (λ c. rw (c .before .before .c2 .given .1, c .if2 .left))
-    (λ c. rw (c .before .before .c3 .given .1, c .if3 .left))
-    (λ c. rw (c .before .before .c4 .given .1, c .if4 .left)) (λ c. rw (c .enum-told .given .1)))
+    (λ c κs. search needs) (λ c κs. search needs) (λ c κs. search needs) (λ c κs. search needs)
+    (λ c. rw (via (rw (c .before .before .before .before .before .kind-of .ensures) at (c .before .before .before .before .accepts .ensures)) (c .before .before .before .if1 .taken), via (rw (c .before .before .aim-of .ensures) at (c .before .aim-unsupported .ensures)) (c .if2 .taken)))
+    (λ c κs. search needs) (λ c κs. search needs)
+    (λ c. rw (via (rw (c .before .before .before .before .before .before .before .before .kind-of .ensures) at (c .before .before .before .before .before .before .before .accepts .ensures)) (c .before .before .before .before .before .before .if1 .taken), via (rw (c .before .before .before .before .before .aim-of .ensures) at (c .before .before .before .before .aim-unsupported .ensures)) (c .before .before .before .if2 .left), via (c .before .before .is-set .ensures) (c .before .if3 .taken)) (c .some-beyond .ensures))
+    (λ c. rw (via (rw (c .before .before .before .before .before .before .before .kind-of .ensures) at (c .before .before .before .before .before .before .accepts .ensures)) (c .before .before .before .before .before .if1 .taken), via (rw (c .before .before .before .before .aim-of .ensures) at (c .before .before .before .aim-unsupported .ensures)) (c .before .before .if2 .left), via (c .before .is-set .ensures) (c .if3 .left)))
+    (λ c. rw (via (rw (c .before .before .kind-of .ensures) at (c .before .accepts .ensures)) (c .if1 .left))))

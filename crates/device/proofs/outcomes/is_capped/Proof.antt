@@ -1,18 +1,29 @@
-use Rattle.device.specs.Commands.{isCapped}
-use Rattle.device.proofs.Tests.{via}
+-- The loop has met no such quantity below q.
+use Prim.Native.Nat.{_-_, _≤_}
+use mathlib.Core.Path.{_≡_}
+use mathlib.Core.Bool.{false}
+use native.Mathlib.Omega.{arith}
 use borrow.Author.Needs.{needs}
+use Rattle.device.specs.Sizes.{helds}
+use Rattle.device.specs.Commands.{says, someOf, fieldAbove, topOf, isCapped}
+use Rattle.device.proofs.Tests.{via}
+use Rattle.device.proofs.Quantities.{some-none, some-here, some-turn, some-end}
 use Rattle.device.proofs.outcomes.is_capped.Statement.{statement}
 use Rattle.device.proofs.outcomes.is_capped.Tie as tie
+
+abbrev Inv-loop : tie.InvT-loop
+Inv-loop s c q₀ q = (q ≤ helds) × (someOf (λ k. fieldAbove (topOf s k) (says c k)) q ≡ false)
+
+abbrev μ-loop : tie.MeasureT-loop
+μ-loop s c q₀ q = helds - q
 
 pub is-capped-spec : {M : Type 1} → statement M
 unfolding isCapped
 is-capped-spec =
     tie.close
     (tie.spec
-    (λ c. search needs) (λ c. search needs) (λ c κs. search needs)
-    (λ c. rw (c .before .before .before .before .c .given .1, via (c .before .field-above .ensures) (c .if1 .taken)))
-    (λ c. search needs) (λ c κs. search needs) (λ c. search needs) (λ c. search needs) (λ c. search needs)
-    (λ c. search needs)
-    (λ c. rw (c .before .before .before .before .before .before .c .given .1, via (c .before .before .before .field-above .ensures) (c .before .before .if1 .left)) (c .field-above2 .ensures))
-    (λ c. rw (c .enum-told .given .1)) (λ c. rw (c .enum-told2 .given .1)) (λ c. rw (c .enum-told3 .given .1))
-    (λ c. rw (c .enum-told4 .given .1)))
+    Inv-loop μ-loop (λ c. (omega arith, some-none _)) (λ c κs. search needs) (λ c κs. search needs) (λ c κs. search needs)
+    (λ c. some-here _ (c .before .before .before .before .before .loop .q) helds (omega arith) (via (rw (c .before .before .says .ensures, c .before .before .before .top-of .ensures) at (c .before .field-above .ensures)) (c .if1 .taken)))
+    (λ c. omega arith) (λ c. omega arith)
+    (λ c. (omega arith, some-turn _ (c .before .before .before .before .before .loop .q) (c .before .before .before .before .before .loop .inv .1) (via (rw (c .before .before .says .ensures, c .before .before .before .top-of .ensures) at (c .before .field-above .ensures)) (c .if1 .left))))
+    (λ c. some-end _ (c .before .loop .q) helds (c .before .loop .inv .0) (omega arith) (c .before .loop .inv .1)))

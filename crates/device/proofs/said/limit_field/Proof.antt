@@ -1,6 +1,7 @@
+-- The direction decides, as it does in the definition.
 use borrow.Author.Tests.{eq-eqb, ne-eqb}
-use Rattle.device.proofs.fields.limit_field.Statement.{statement}
-use Rattle.device.proofs.fields.limit_field.Tie as tie
+use Rattle.device.proofs.said.limit_field.Statement.{statement}
+use Rattle.device.proofs.said.limit_field.Tie as tie
 
 pub limit-field-spec : {M : Type 1} → statement M
 limit-field-spec =

@@ -1,0 +1,11 @@
+-- The test of the name comes first, as in the definition.
+use Rattle.device.proofs.Tests.{via}
+use borrow.Author.Needs.{needs}
+use Rattle.device.proofs.content.is_beyond.Statement.{statement}
+use Rattle.device.proofs.content.is_beyond.Tie as tie
+
+pub is-beyond-spec : {M : Type 1} → statement M
+is-beyond-spec =
+    tie.close
+    (tie.spec
+    (λ c κs. search needs) (λ c κs. search needs) (λ c. rw (via (c .before .before .field-names .ensures) (c .before .if1 .taken), c .supports .ensures)) (λ c. rw (via (c .before .field-names .ensures) (c .if1 .left))))

@@ -1,0 +1,28 @@
+-- The loop has met no such quantity below q.
+use Prim.Native.Nat.{_-_, _≤_}
+use mathlib.Core.Path.{_≡_}
+use mathlib.Core.Bool.{false}
+use native.Mathlib.Omega.{arith}
+use borrow.Author.Needs.{needs}
+use Rattle.device.specs.Sizes.{helds}
+use Rattle.device.specs.Commands.{fieldNames, says, someOf}
+use Rattle.device.proofs.Tests.{via}
+use Rattle.device.proofs.Quantities.{some-none, some-here, some-turn, some-end}
+use Rattle.device.proofs.content.some_named.Statement.{statement}
+use Rattle.device.proofs.content.some_named.Tie as tie
+
+abbrev Inv-loop : tie.InvT-loop
+Inv-loop c q₀ q = (q ≤ helds) × (someOf (λ k. fieldNames (says c k)) q ≡ false)
+
+abbrev μ-loop : tie.MeasureT-loop
+μ-loop c q₀ q = helds - q
+
+pub some-named-spec : {M : Type 1} → statement M
+some-named-spec =
+    tie.close
+    (tie.spec
+    Inv-loop μ-loop (λ c. (omega arith, some-none _)) (λ c κs. search needs) (λ c κs. search needs)
+    (λ c. some-here _ (c .before .before .before .before .loop .q) helds (omega arith) (via (rw (c .before .before .says .ensures) at (c .before .field-names .ensures)) (c .if1 .taken)))
+    (λ c. omega arith) (λ c. omega arith)
+    (λ c. (omega arith, some-turn _ (c .before .before .before .before .loop .q) (c .before .before .before .before .loop .inv .1) (via (rw (c .before .before .says .ensures) at (c .before .field-names .ensures)) (c .if1 .left))))
+    (λ c. some-end _ (c .before .loop .q) helds (c .before .loop .inv .0) (omega arith) (c .before .loop .inv .1)))

@@ -1,9 +1,0 @@
-use borrow.Author.Tests.{eq-eqb, ne-eqb}
-use Rattle.device.proofs.fields.setpoint_field.Statement.{statement}
-use Rattle.device.proofs.fields.setpoint_field.Tie as tie
-
-pub setpoint-field-spec : {M : Type 1} → statement M
-setpoint-field-spec =
-    tie.close
-    (tie.spec
-    (λ c. rw (eq-eqb _ _ (c .if1 .taken))) (λ c. rw (ne-eqb _ _ (c .if1 .left))))
