@@ -7,7 +7,7 @@ use lib.IntN.{ℤ, negsuc}
 use lib.ListN.{length, replicate}
 use borrow.Author.Tests.{ne-eqb}
 use Rattle.frames.specs.Writing.{writingNumber, writtenOf, leftBy}
-use Rattle.device.specs.Sizes.{helds}
+use Rattle.store.specs.Sizes.{helds}
 use Rattle.device.specs.Calls.{askNumber, askAnswer}
 use Rattle.device.specs.Start.{startNumber, startAfter}
 use Rattle.planner.specs.Plan.{planNumber, planAnswer, planSlice}

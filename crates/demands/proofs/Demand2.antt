@@ -5,8 +5,8 @@ use Rattle.frames.proofs.RequestBack.{request-reads-back}
 use Rattle.frames.proofs.RequestAgain.{request-writes-again}
 use Rattle.frames.proofs.ResponseBack.{response-reads-back, status-reads-back}
 use Rattle.frames.proofs.ResponseAgain.{response-writes-again}
-use Rattle.device.proofs.Rows.{table}
-use Rattle.device.proofs.Expiry.{expiry}
+use Rattle.table_laws.proofs.Rows.{table}
+use Rattle.call_laws.proofs.Expiry.{expiry}
 use Rattle.conformance.proofs.Laws.{exact, ordered}
 use Rattle.demands.specs.Demands.{Demand2}
 

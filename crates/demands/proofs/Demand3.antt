@@ -11,10 +11,11 @@ use borrow.Author.Tests.{leb-false, lt-ltb}
 use Rattle.cbor.specs.Bytes.{putWhole}
 use Rattle.frames.specs.Requests.{readRequest}
 use Rattle.kernel.specs.Frame.{frameOut}
-use Rattle.device.specs.Sizes.{end, valueEnd}
-use Rattle.device.specs.Words.{clockOf, zonesOf}
-use Rattle.device.specs.Holds.{situationOf, shown, valuesAt}
-use Rattle.device.specs.Refusals.{firstOf, late}
+use Rattle.store.specs.Sizes.{end, valueEnd}
+use Rattle.store.specs.Words.{clockOf, zonesOf}
+use Rattle.holds.specs.Holds.{situationOf, shown, valuesAt}
+use Rattle.messages.specs.Refusals.{firstOf}
+use Rattle.store.specs.Times.{late}
 use Rattle.planner.specs.Rows.{last, plan, IsPlan}
 use Rattle.planner.specs.Plan.{planOf, planNumber, planAnswer, planSlice}
 use Rattle.planner.proofs.IsPlan.{plan-is, plan-unique}

@@ -12,15 +12,16 @@ use Rattle.messages.specs.declared.Command.{Command}
 use Rattle.frames.specs.Requests.{readRequest}
 use Rattle.frames.specs.RoundTrips.{FramedExact, RequestReadsBack, ResponseReadsBack, StatusReadsBack, RequestWritesAgain, ResponseWritesAgain}
 use Rattle.frames.specs.Writing.{writingNumber, writtenOf, leftBy}
-use Rattle.device.specs.declared.Settings.{Settings}
-use Rattle.device.specs.declared.Zone.{Zone}
-use Rattle.device.specs.Sizes.{helds}
-use Rattle.device.specs.Holds.{Situation, situationOf, valueAt, shown, valuesAt}
-use Rattle.device.specs.Table.{Table, Expiry}
-use Rattle.device.specs.Refusals.{firstOf}
+use Rattle.store.specs.declared.Settings.{Settings}
+use Rattle.store.specs.declared.Zone.{Zone}
+use Rattle.store.specs.Sizes.{helds}
+use Rattle.holds.specs.Holds.{Situation, situationOf, valueAt, shown, valuesAt}
+use Rattle.table_laws.specs.Table.{Table}
+use Rattle.call_laws.specs.Expiry.{Expiry}
+use Rattle.messages.specs.Refusals.{firstOf}
 use Rattle.device.specs.Calls.{askNumber, askAnswer}
 use Rattle.device.specs.Start.{badSettings, startNumber, startAfter}
-use Rattle.device.specs.Words.{fresh}
+use Rattle.store.specs.Words.{fresh}
 use Rattle.planner.specs.Rows.{IsPlan}
 use Rattle.planner.specs.Plan.{numbersOf, front, planNumber, planAnswer, planSlice}
 use Rattle.kernel.specs.Frame.{frameNumber, frameAnswer, frameOut}

@@ -5,14 +5,14 @@ use crate::fields::field_negative;
 use crate::fields::field_too_low;
 use crate::fields::target_names;
 use crate::fields::target_negative;
-use crate::holds::supports;
+use holds::supports;
 use messages::Aim;
 use messages::Command;
 ghost use mathlib.Core.Path.{_≡_};
 ghost use mathlib.Core.Bool.{not, _&&_, _||_};
 ghost use mathlib.Core.List.{[], _∷_};
 ghost use lib.Dec.{eqb};
-ghost use Rattle.device.specs.Holds.{supports};
+ghost use Rattle.holds.specs.Holds.{supports};
 ghost use Rattle.device.specs.Refusals.{firstOf};
 ghost use Rattle.device.specs.Commands.{fieldsUnsupported, aimUnsupported, unsupported, isUnserved, isSetLimit, invalid, belowTheMinimum};
 

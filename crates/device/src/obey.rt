@@ -13,8 +13,8 @@ use crate::fields::target_action;
 use messages::Command;
 ghost use mathlib.Core.Path.{_≡_};
 ghost use lib.ListN.{getD};
-ghost use Rattle.device.specs.Sizes.{helds};
-ghost use Rattle.device.specs.Zones.{upTo, nothing};
+ghost use Rattle.store.specs.Sizes.{helds};
+ghost use Rattle.store.specs.Zones.{upTo, nothing};
 ghost use Rattle.device.specs.Commands.{action, durationOf, untilOf, done, obeyed};
 
 pub fn action(s: Settings, c: Command, q: usize) -> Action

@@ -1,6 +1,6 @@
 use mathlib.Core.Path.{_≡_, sym, ap, _∙_}
 use lib.ListN.{length}
-use Rattle.device.specs.Sizes.{words}
+use Rattle.store.specs.Sizes.{words}
 use Rattle.device.proofs.Decisions.{decision-enacted, answered}
 use borrow.Author.Needs.{needs}
 use Rattle.device.proofs.commands.command.Statement.{statement}

@@ -1,4 +1,4 @@
-use Rattle.device.proofs.Tests.{via}
+use Rattle.store.proofs.Tests.{via}
 use borrow.Author.Needs.{needs}
 use Rattle.device.proofs.content.fields_unsupported.Statement.{statement}
 use Rattle.device.proofs.content.fields_unsupported.Tie as tie

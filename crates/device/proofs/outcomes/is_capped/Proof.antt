@@ -1,5 +1,5 @@
 use Rattle.device.specs.Commands.{isCapped}
-use Rattle.device.proofs.Tests.{via}
+use Rattle.store.proofs.Tests.{via}
 use borrow.Author.Needs.{needs}
 use Rattle.device.proofs.outcomes.is_capped.Statement.{statement}
 use Rattle.device.proofs.outcomes.is_capped.Tie as tie
