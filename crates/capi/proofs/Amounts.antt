@@ -6,7 +6,7 @@ use mathlib.Core.Path.{_≡_, refl, sym, _∙_}
 use borrow.Author.Tests.{ne-eqb}
 use lib.IntN.{ℤ, pos, negsuc}
 use Rattle.messages.specs.declared.Amount.{Amount}
-use Rattle.device.specs.Sizes.{most}
+use Rattle.store.specs.Sizes.{most}
 use Rattle.device.specs.Commands.{negative, natural}
 use Rattle.planner.specs.Walk.{sameNumber}
 use Rattle.capi.specs.Responses.{amountOf}

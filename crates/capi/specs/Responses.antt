@@ -8,8 +8,8 @@ use Rattle.messages.specs.declared.LimitResult.{LimitResult}
 use Rattle.messages.specs.declared.SetpointResult.{SetpointResult}
 use Rattle.messages.specs.declared.Outcome.{Outcome}
 use Rattle.messages.specs.declared.Response.{Response}
-use Rattle.device.specs.Sizes.{most}
-use Rattle.device.specs.Holds.{shown}
+use Rattle.store.specs.Sizes.{most}
+use Rattle.holds.specs.Holds.{shown}
 use Rattle.frames.specs.declared.responses.Answer.{Answer}
 use Rattle.capi.specs.declared.responses.FlatResponse.{FlatResponse}
 use Rattle.capi.specs.declared.responses.FlatAnswer.{FlatAnswer}

@@ -2,9 +2,9 @@
 use device::MOST;
 use device::fields::is_negative;
 use device::fields::natural_of;
-use device::holds::shown;
 use frames::Answer;
 use frames::Written;
+use holds::shown;
 use messages::Amount;
 use messages::LimitResult;
 use messages::Outcome;

@@ -18,8 +18,8 @@ use Rattle.frames.specs.Writing.{itemFrame}
 use Rattle.frames.specs.declared.responses.Answer.{Answer}
 use Rattle.frames.proofs.ResponseBack.{response-reads-back}
 use Rattle.frames.proofs.ResponseAgain.{response-writable}
-use Rattle.device.specs.Sizes.{valueEnd}
-use Rattle.device.specs.Holds.{shown}
+use Rattle.store.specs.Sizes.{valueEnd}
+use Rattle.holds.specs.Holds.{shown}
 use Rattle.capi.specs.Responses.{amountOf, limitOf, setpointOf, outcomeOf, responseOf, flat, flatResponse, flatAnswer}
 use Rattle.capi_laws.specs.Inverse.{ResponseKept, AnswerPlain, FlatAnswerReadsBack}
 

@@ -11,17 +11,19 @@ use lib.ListN.{length, set}
 use lib.Seq.{set-out}
 use borrow.Author.Tests.{ne-eqb, eqb-true}
 use Rattle.messages.specs.declared.Command.{Command}
-use Rattle.device.specs.declared.Zone.{Zone}
-use Rattle.device.specs.declared.Settings.{Settings}
-use Rattle.device.specs.declared.Change.{Change}
-use Rattle.device.specs.Sizes.{slots, helds, words}
-use Rattle.device.specs.Zones.{idOf, freeZone, newZone, linked, slotOf, zoneOf, anyUp}
-use Rattle.device.specs.Words.{clockOf, sinceOf, overrideOf, settingsOf, zonesOf, applied, after}
-use Rattle.device.specs.Holds.{situationOf, valuesAt}
-use Rattle.device.specs.Calls.{sinceAfter, zoneChange, headChange}
+use Rattle.store.specs.declared.Zone.{Zone}
+use Rattle.store.specs.declared.Settings.{Settings}
+use Rattle.store.specs.declared.Change.{Change}
+use Rattle.store.specs.Sizes.{slots, helds, words}
+use Rattle.store.specs.Zones.{idOf, freeZone, newZone, linked, slotOf, zoneOf, anyUp}
+use Rattle.store.specs.Words.{clockOf, sinceOf, overrideOf, settingsOf, zonesOf, applied, after}
+use Rattle.holds.specs.Holds.{situationOf, valuesAt}
+use Rattle.holds.specs.Links.{sinceAfter}
+use Rattle.device.specs.Calls.{zoneChange}
+use Rattle.store.specs.Words.{headChange}
 use Rattle.device.specs.Commands.{obeyed}
-use Rattle.device.proofs.Lens.{zones-length}
-use Rattle.device.proofs.Effects.{applied-length, applied-settings, applied-clock, applied-since, applied-override, applied-zones}
+use Rattle.store.proofs.Lens.{zones-length}
+use Rattle.store.proofs.Effects.{applied-length, applied-settings, applied-clock, applied-since, applied-override, applied-zones}
 use Rattle.demands.specs.History.{Told, joins, leaves, links, commands, overrides, passes, Entry, Log, about, newest, saysOverride, saysClock, clockBy, overrideBy, joinedBy, recordBy, zonesBy, sinceBy, situationBy}
 use Rattle.demands.specs.Accepted.{kept}
 use Rattle.demands.proofs.Lists.{never}

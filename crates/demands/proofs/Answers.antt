@@ -13,14 +13,15 @@ use Rattle.messages.specs.declared.Request.{Request}
 use Rattle.frames.specs.Requests.{readRequest, readingNumber}
 use Rattle.frames.specs.Writing.{writingNumber}
 use Rattle.frames.specs.declared.requests.Reading.{Reading}
-use Rattle.device.specs.declared.Change.{Change}
-use Rattle.device.specs.Zones.{any, joined, zoneOf}
-use Rattle.device.specs.Sizes.{words}
-use Rattle.device.specs.Words.{clockOf, overrideOf, settingsOf, zonesOf, after}
+use Rattle.store.specs.declared.Change.{Change}
+use Rattle.store.specs.Zones.{any, joined, zoneOf}
+use Rattle.store.specs.Sizes.{words}
+use Rattle.store.specs.Words.{clockOf, overrideOf, settingsOf, zonesOf, after}
 use Rattle.device.specs.Refusals.{firstOf, Numbered}
-use Rattle.device.specs.Calls.{zoneChange, headChange, joinNumber, joinAfter, leaveNumber, leaveAfter, linkNumber, linkAfter, overrideNumber, overrideAfter, clearNumber, clearAfter, askNumber, askAfter}
+use Rattle.device.specs.Calls.{zoneChange, joinNumber, joinAfter, leaveNumber, leaveAfter, linkNumber, linkAfter, overrideNumber, overrideAfter, clearNumber, clearAfter, askNumber, askAfter}
+use Rattle.store.specs.Words.{headChange}
 use Rattle.device.specs.Commands.{commandTests, commandNumber, commandAfter}
-use Rattle.device.proofs.Effects.{applied-clock}
+use Rattle.store.proofs.Effects.{applied-clock}
 use Rattle.planner.specs.Plan.{planNumber, planAfter}
 use Rattle.kernel.specs.Frame.{responseFrame, numberFrom, frameNumber, obeyedBy, frameAfter}
 use Rattle.demands.specs.Run.{Call, join, leave, lost, back, override, clear, ask, plan, frame, number, next}

@@ -8,14 +8,14 @@ use lib.IntN.{pos}
 use lib.ListN.{length, getD}
 use borrow.Author.Tests.{ltb-false}
 use Rattle.messages.specs.declared.Amount.the-variants.{Absent, Is}
-use Rattle.device.specs.declared.Zone.{Zone}
-use Rattle.device.specs.Sizes.{helds}
-use Rattle.device.specs.Zones.{idOf, any, freeZone, isJoined, isUp, anyJoined, anyUp}
-use Rattle.device.specs.Holds.{isLimit, Claim, claimOf, goesBefore, winner, amountOf, Situation, inFailsafe, failsafeValue, valueAt, stateAt, shown, valuesAt}
-use Rattle.device.specs.Table.{Unexpired}
-use Rattle.device.proofs.Before.{not-earlier}
-use Rattle.device.proofs.Winner.{claim-there, wins}
-use Rattle.device.proofs.Runs.{upTo-cong}
+use Rattle.store.specs.declared.Zone.{Zone}
+use Rattle.store.specs.Sizes.{helds}
+use Rattle.store.specs.Zones.{idOf, any, freeZone, isJoined, isUp, anyJoined, anyUp}
+use Rattle.holds.specs.Holds.{isLimit, Claim, claimOf, goesBefore, winner, amountOf, Situation, inFailsafe, failsafeValue, valueAt, stateAt, shown, valuesAt}
+use Rattle.table_laws.specs.Table.{Unexpired}
+use Rattle.table_laws.proofs.Before.{not-earlier}
+use Rattle.table_laws.proofs.Winner.{claim-there, wins}
+use Rattle.store.proofs.Runs.{upTo-cong}
 use Rattle.demands.proofs.Lists.{never, getD-mem, mem-getD, any-mem, mem-any}
 
 -- every joined zone of one list is in the other; no two joined zones of a list have one id

@@ -19,7 +19,7 @@ use Rattle.frames.specs.Responses.{responseIn, answerOf, answerIn, answerFrom, 
 use Rattle.frames.specs.Writing.{itemFrame, writingNumber}
 use Rattle.frames.specs.declared.requests.Reading.{Reading}
 use Rattle.frames.specs.declared.responses.Answer.{Answer}
-use Rattle.device.specs.Zones.{any}
+use Rattle.store.specs.Zones.{any}
 use Rattle.conformance.specs.declared.Inputs.{Inputs}
 use Rattle.conformance.specs.Report.{numberOf}
 use Rattle.demands.specs.Tests.{missing, mapOf, envelopeOf, unserved, parametersOf, readTests, answerTests, writeRequestTests, writeResponseTests, reportTests}

@@ -7,14 +7,14 @@ use lib.IntN.{ℤ, negsuc}
 use lib.ListN.{length, replicate}
 use borrow.Author.Tests.{ne-eqb}
 use Rattle.frames.specs.Writing.{writingNumber, writtenOf, leftBy}
-use Rattle.device.specs.Sizes.{helds}
+use Rattle.store.specs.Sizes.{helds}
 use Rattle.device.specs.Calls.{askNumber, askAnswer}
-use Rattle.device.specs.declared.Settings.{Settings}
+use Rattle.store.specs.declared.Settings.{Settings}
 use Rattle.device.specs.Refusals
-use Rattle.device.specs.Zones.{any, joined, slotOf}
-use Rattle.device.specs.Words.{zonesOf}
+use Rattle.store.specs.Zones.{any, joined, slotOf}
+use Rattle.store.specs.Words.{zonesOf}
 use Rattle.device.specs.Start.{badSettings, startNumber, startAfter}
-use Rattle.device.proofs.Effects.{fresh-settings, fresh-clock, fresh-override, fresh-zones}
+use Rattle.store.proofs.Effects.{fresh-settings, fresh-clock, fresh-override, fresh-zones}
 use Rattle.planner.specs.Plan.{planNumber, planAnswer, planSlice}
 use Rattle.conformance.specs.declared.Inputs.{Inputs}
 use Rattle.conformance.specs.Report.{numberOf, reportOf, pairsAfter}

@@ -15,8 +15,8 @@ use Rattle.frames.proofs.RequestBack.{request-reads-back}
 use Rattle.frames.proofs.RequestAgain.{request-writable, request-writes-again}
 use Rattle.frames.proofs.ResponseBack.{response-reads-back, status-reads-back}
 use Rattle.frames.proofs.ResponseAgain.{response-writable, response-writes-again}
-use Rattle.device.proofs.Rows.{table}
-use Rattle.device.proofs.Expiry.{expiry}
+use Rattle.table_laws.proofs.Rows.{table}
+use Rattle.call_laws.proofs.Expiry.{expiry}
 use Rattle.device.specs.Commands.{commandAnswer}
 use Rattle.kernel.specs.Frame.{responseTo, responseFrame, frameAnswer, frameOut}
 use Rattle.conformance.specs.declared.Inputs.{Inputs}

@@ -11,12 +11,12 @@ use borrow.Author.Tests.{leb-false, lt-ltb}
 use Rattle.cbor.specs.Bytes.{putWhole}
 use Rattle.frames.specs.Requests.{readRequest}
 use Rattle.kernel.specs.Frame.{frameOut}
-use Rattle.device.specs.Sizes.{end, valueEnd}
-use Rattle.device.specs.Words.{clockOf, zonesOf}
-use Rattle.device.specs.Holds.{situationOf, shown, valuesAt}
-use Rattle.device.specs.declared.Zone.{Zone}
-use Rattle.device.specs.declared.Settings.{Settings}
-use Rattle.device.specs.Zones.{idOf, rankOf}
+use Rattle.store.specs.Sizes.{end, valueEnd}
+use Rattle.store.specs.Words.{clockOf, zonesOf}
+use Rattle.holds.specs.Holds.{situationOf, shown, valuesAt}
+use Rattle.store.specs.declared.Zone.{Zone}
+use Rattle.store.specs.declared.Settings.{Settings}
+use Rattle.store.specs.Zones.{idOf, rankOf}
 use Rattle.device.specs.Refusals.{firstOf, late}
 use Rattle.device.specs.Calls.{askNumber, askAnswer}
 use Rattle.planner.specs.Rows.{last, plan, IsPlan}

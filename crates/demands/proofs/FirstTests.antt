@@ -8,7 +8,7 @@ use lib.Dec.{leb, eqb}
 use borrow.Author.Tests.{ne-eqb, leb-true}
 use Rattle.messages.specs.Refusals
 use Rattle.device.specs.Refusals.{firstOf, Numbered}
-use Rattle.device.proofs.FirstOf.{refused-exactly, accepted-exactly}
+use Rattle.call_laws.proofs.FirstOf.{refused-exactly, accepted-exactly}
 use Rattle.demands.specs.Answers.{ByTests}
 
 -- each of the tests' numbers passes p

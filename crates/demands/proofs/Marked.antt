@@ -1,12 +1,14 @@
 -- The marked examples, computed.
 use Prim.Native.Nat.{zero, suc}
 use native.Mathlib.Nat.{le-of-suc-le-suc, not-suc-le-zero}
-use Rattle.device.specs.Zones.{upTo, first, any, idOf, rankOf, isJoined, isUp, slotOf, joined, zoneOf, heldOf, anyJoined, anyUp}
-use Rattle.device.specs.Words.{settingsOf, heldIn, zoneAt, zonesOf, bit, heldWords, putZone, applied, after, settingWords, fresh}
-use Rattle.device.specs.Holds.{supports, claimOf, goesBefore, better, winner, inFailsafe, failsafeValue, valueAt, present, stateAt, shown, valuesAt}
-use Rattle.device.specs.Dues.{zoneDues, heldDues, dues, nearer, nearest}
+use Rattle.store.specs.Zones.{upTo, first, any, idOf, rankOf, isJoined, isUp, slotOf, joined, zoneOf, heldOf, anyJoined, anyUp}
+use Rattle.store.specs.Words.{settingsOf, heldIn, zoneAt, zonesOf, bit, heldWords, putZone, applied, after, settingWords, fresh}
+use Rattle.holds.specs.Holds.{supports, claimOf, goesBefore, better, winner, inFailsafe, failsafeValue, valueAt, present, stateAt, shown, valuesAt}
+use Rattle.holds.specs.Dues.{zoneDues, heldDues, dues, nearer, nearest}
 use Rattle.device.specs.Refusals.{firstOf, late}
-use Rattle.device.specs.Calls.{sinceAfter, zoneChange, headChange, badJoin, joinNumber, joinAfter, leaveNumber, leaveAfter, same, linkNumber, linkAfter}
+use Rattle.holds.specs.Links.{sinceAfter}
+use Rattle.device.specs.Calls.{zoneChange, badJoin, joinNumber, joinAfter, leaveNumber, leaveAfter, same, linkNumber, linkAfter}
+use Rattle.store.specs.Words.{headChange}
 use Rattle.device.specs.Commands.{says, someOf, unsupported, invalid, tooLow, belowTheMinimum, commandNumber, fieldAction, action, untilOf, done, obeyed, commandAfter, isCapped, reasonOf, outcomeWith, commandAnswer}
 use Rattle.device.specs.Start.{badMaximum, badSettings, startAfter}
 use Rattle.planner.specs.Plan.{numbersOf}

@@ -8,15 +8,15 @@ use Prim.Native.Nat.{ℕ}
 use lib.Dec.{eqb}
 use borrow.Author.Tests.{eqb-true}
 use Rattle.messages.specs.declared.Command.{Command}
-use Rattle.device.specs.declared.Held.{Held}
-use Rattle.device.specs.declared.Settings.{Settings}
+use Rattle.store.specs.declared.Held.{Held}
+use Rattle.store.specs.declared.Settings.{Settings}
 use Rattle.device.specs.declared.Action.{Action}
-use Rattle.device.specs.Sizes.{helds}
-use Rattle.device.specs.Zones.{nothing, seatOf}
+use Rattle.store.specs.Sizes.{helds}
+use Rattle.store.specs.Zones.{nothing, seatOf}
 use Rattle.device.specs.Commands.{action, untilOf, durationOf}
 use Rattle.demands.specs.History.{Told, joins, leaves, links, commands, overrides, passes, Entry, Log, about, newest, of, saysRank, saysUp, said, saysHeld, upBy, heldBy, recordBy}
 use Rattle.demands.specs.ReleasedSlot.{isJoin, ownSince, SetTogether}
-use Rattle.device.proofs.Runs.{upTo-cong}
+use Rattle.store.proofs.Runs.{upTo-cong}
 use Rattle.demands.proofs.Lists.{never}
 use Rattle.demands.proofs.Says.{silent}
 

@@ -13,14 +13,14 @@ use Rattle.messages.specs.declared.Amount.the-variants.{Absent, Is}
 use Rattle.messages.specs.declared.Command.{Command}
 use Rattle.frames.specs.Requests.{readRequest}
 use Rattle.frames.specs.declared.requests.Reading.{Reading}
-use Rattle.device.specs.declared.Held.{Held}
-use Rattle.device.specs.declared.Zone.{Zone}
-use Rattle.device.specs.declared.Settings.{Settings}
-use Rattle.device.specs.Sizes.{helds, valueEnd}
-use Rattle.device.specs.Zones.{idOf, heldOf, anyUp}
-use Rattle.device.specs.Holds.{isLimit, directionOf, supports, Claim, winner, amountOf, inFailsafe, failsafeValue, valueAt}
+use Rattle.store.specs.declared.Held.{Held}
+use Rattle.store.specs.declared.Zone.{Zone}
+use Rattle.store.specs.declared.Settings.{Settings}
+use Rattle.store.specs.Sizes.{helds, valueEnd}
+use Rattle.store.specs.Zones.{idOf, heldOf, anyUp}
+use Rattle.holds.specs.Holds.{isLimit, directionOf, supports, Claim, winner, amountOf, inFailsafe, failsafeValue, valueAt}
 use Rattle.device.specs.Start.{badMaximum, badSettings, refusedSettings}
-use Rattle.device.proofs.Winner.{claim-there}
+use Rattle.table_laws.proofs.Winner.{claim-there}
 use Rattle.demands.specs.Run.{Call, join, leave, lost, back, override, clear, ask, plan, frame}
 use Rattle.demands.specs.History.{commands, Entry, Log, heldBy, zonesBy, situationBy}
 use Rattle.demands.specs.Accepted.{numberBy, kept, tells, entry, log, startedWith}

@@ -5,13 +5,13 @@ use mathlib.Core.List.{List, [], _∷_}
 use Prim.Native.Nat.{ℕ, _<_}
 use native.Mathlib.Omega.{arith}
 use lib.ListN.{replicate, getD-replicate}
-use Rattle.device.specs.declared.Zone.{Zone}
-use Rattle.device.specs.declared.Settings.{Settings}
-use Rattle.device.specs.Sizes.{slots}
-use Rattle.device.specs.Zones.{idOf, freeZone, joined}
-use Rattle.device.specs.Words.{zonesOf, fresh}
+use Rattle.store.specs.declared.Zone.{Zone}
+use Rattle.store.specs.declared.Settings.{Settings}
+use Rattle.store.specs.Sizes.{slots}
+use Rattle.store.specs.Zones.{idOf, freeZone, joined}
+use Rattle.store.specs.Words.{zonesOf, fresh}
 use Rattle.device.specs.Start.{badSettings, refusedSettings, startAfter}
-use Rattle.device.proofs.Effects.{fresh-length, fresh-settings, fresh-clock, fresh-since, fresh-override, fresh-zones}
+use Rattle.store.proofs.Effects.{fresh-length, fresh-settings, fresh-clock, fresh-since, fresh-override, fresh-zones}
 use Rattle.demands.specs.Run.{Call, run}
 use Rattle.demands.specs.History.{newest, clockBy, overrideBy, joinedBy, sinceBy}
 use Rattle.demands.specs.Accepted.{log, startedWith, InPairs}

@@ -15,8 +15,8 @@ use Rattle.frames.specs.Requests.{readRequest}
 use Rattle.frames.specs.Responses.{isStatus, statusAlone}
 use Rattle.frames.specs.Writing.{writingNumber}
 use Rattle.frames.specs.declared.requests.Reading.{Reading}
-use Rattle.device.specs.Zones.{joined, zoneOf}
-use Rattle.device.specs.Words.{clockOf, overrideOf, settingsOf, zonesOf}
+use Rattle.store.specs.Zones.{joined, zoneOf}
+use Rattle.store.specs.Words.{clockOf, overrideOf, settingsOf, zonesOf}
 use Rattle.device.specs.Commands.{commandTests, commandNumber}
 use Rattle.messages.specs.Refusals.{firstOf}
 use Rattle.kernel.specs.Frame.{responseTo, responseFrame, numberFrom, frameNumber, frameAnswer, frameOut}

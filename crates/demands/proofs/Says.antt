@@ -7,14 +7,14 @@ use Prim.Native.Nat.{ℕ, _<_}
 use lib.ListN.{length}
 use borrow.Author.Tests.{eq-eqb}
 use Rattle.messages.specs.declared.Command.{Command}
-use Rattle.device.specs.declared.Held.{Held}
-use Rattle.device.specs.declared.Settings.{Settings}
+use Rattle.store.specs.declared.Held.{Held}
+use Rattle.store.specs.declared.Settings.{Settings}
 use Rattle.device.specs.declared.Action.{Action}
-use Rattle.device.specs.Sizes.{helds}
-use Rattle.device.specs.Zones.{upTo, nothing, seatOf, newZone, linked, heldOf}
+use Rattle.store.specs.Sizes.{helds}
+use Rattle.store.specs.Zones.{upTo, nothing, seatOf, newZone, linked, heldOf}
 use Rattle.device.specs.Commands.{action, untilOf, durationOf, done, obeyed}
 use Rattle.demands.specs.History.{Told, joins, leaves, links, commands, overrides, passes, Log, newest, of, saysJoined, saysRank, saysUp, said, saysHeld, joinedBy, upBy, heldBy, recordBy, about}
-use Rattle.device.proofs.Runs.{length-upTo, getD-upTo, upTo-cong}
+use Rattle.store.proofs.Runs.{length-upTo, getD-upTo, upTo-cong}
 
 -- a call that is not of zone z says nothing of it
 pub record Silent (z t : ℕ) (e : Told) : Type 0 where

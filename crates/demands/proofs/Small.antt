@@ -21,10 +21,10 @@ use Rattle.frames.specs.Prefix.{framed, payloadIn}
 use Rattle.frames.specs.Fields.{mapIn, upTo, needed, optional, inside, signed, valueIn, durationIn, aimIn}
 use Rattle.frames.specs.Requests.{Envelope, envelopeIn, servedAt, servedCommand, limitsIn, targetOf, setpointsOf, commandIn, withCommand, fromEnvelope, fromPayload, readRequest}
 use Rattle.frames.specs.declared.requests.Reading.{Reading}
-use Rattle.device.specs.declared.Settings.{Settings}
+use Rattle.store.specs.declared.Settings.{Settings}
 use Rattle.device.specs.declared.Action.{Action}
-use Rattle.device.specs.Sizes.{valueEnd}
-use Rattle.device.specs.Holds.{isLimit, directionOf}
+use Rattle.store.specs.Sizes.{valueEnd}
+use Rattle.holds.specs.Holds.{isLimit, directionOf}
 use Rattle.device.specs.Commands.{limitField, targetField, setpointField, aimField, says, natural, fieldAction, topOf, action}
 
 -- SMALL: a number below 2^63, or no number

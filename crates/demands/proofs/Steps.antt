@@ -8,13 +8,14 @@ use lib.Dec.{leb, eqb}
 use lib.ListN.{length}
 use borrow.Author.Tests.{eqb-true, ne-eqb, leb-true, leb-false, not-false}
 use Rattle.messages.specs.declared.Command.{Command}
-use Rattle.device.specs.declared.Zone.{Zone}
-use Rattle.device.specs.declared.Settings.{Settings}
-use Rattle.device.specs.Sizes.{slots}
-use Rattle.device.specs.Zones.{slotOf, joined, zoneOf, newZone, freeZone, linked}
-use Rattle.device.specs.Words.{clockOf, overrideOf, settingsOf, zonesOf, applied}
+use Rattle.store.specs.declared.Zone.{Zone}
+use Rattle.store.specs.declared.Settings.{Settings}
+use Rattle.store.specs.Sizes.{slots}
+use Rattle.store.specs.Zones.{slotOf, joined, zoneOf, newZone, freeZone, linked}
+use Rattle.store.specs.Words.{clockOf, overrideOf, settingsOf, zonesOf, applied}
 use Rattle.device.specs.Refusals.{firstOf, late}
-use Rattle.device.specs.Calls.{zoneChange, headChange, badJoin, joinTests, joinNumber, joinAfter, leaveTests, leaveNumber, leaveAfter, same, linkNumber, linkAfter, overrideNumber, overrideAfter, overrideWord, clearNumber, clearAfter, askNumber, askAfter}
+use Rattle.device.specs.Calls.{zoneChange, badJoin, joinTests, joinNumber, joinAfter, leaveTests, leaveNumber, leaveAfter, same, linkNumber, linkAfter, overrideNumber, overrideAfter, overrideWord, clearNumber, clearAfter, askNumber, askAfter}
+use Rattle.store.specs.Words.{headChange}
 use Rattle.device.specs.Commands.{isUnserved, unsupported, setsLimits, invalid, belowTheMinimum, obeyed, commandNumber, commandAfter, commandAnswer}
 use Rattle.planner.specs.Plan.{planOf, planNumber, planAfter}
 use Rattle.frames.specs.Requests.{readRequest}

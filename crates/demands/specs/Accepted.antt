@@ -9,9 +9,9 @@ use Rattle.messages.specs.declared.Command.{Command}
 use Rattle.messages.specs.declared.Outcome.{Outcome}
 use Rattle.messages.specs.declared.Request.{Request}
 use Rattle.messages.specs.declared.Response.{Response}
-use Rattle.device.specs.declared.Settings.{Settings}
-use Rattle.device.specs.Holds.{Situation, valuesAt}
-use Rattle.device.specs.Refusals.{firstOf}
+use Rattle.store.specs.declared.Settings.{Settings}
+use Rattle.holds.specs.Holds.{Situation, valuesAt}
+use Rattle.messages.specs.Refusals.{firstOf}
 use Rattle.device.specs.Calls.{joinTests, leaveTests, linkTests, overrideTests, overrideWord, clearTests, askTests}
 use Rattle.device.specs.Commands.{commandTests, isCapped, outcomeWith}
 use Rattle.device.specs.Start.{badSettings, refusedSettings}

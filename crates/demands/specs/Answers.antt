@@ -11,11 +11,11 @@ use Rattle.messages.specs.declared.Request.{Request}
 use Rattle.messages.specs.declared.Response.{Response}
 use Rattle.frames.specs.Responses.{isStatus, responseItem}
 use Rattle.frames.specs.Writing.{itemFrame}
-use Rattle.device.specs.declared.Settings.{Settings}
-use Rattle.device.specs.Sizes.{words}
-use Rattle.device.specs.Zones.{joined}
-use Rattle.device.specs.Words.{clockOf, overrideOf, settingsOf, zonesOf}
-use Rattle.device.specs.Holds.{situationOf, valuesAt}
+use Rattle.store.specs.declared.Settings.{Settings}
+use Rattle.store.specs.Sizes.{words}
+use Rattle.store.specs.Zones.{joined}
+use Rattle.store.specs.Words.{clockOf, overrideOf, settingsOf, zonesOf}
+use Rattle.holds.specs.Holds.{situationOf, valuesAt}
 use Rattle.device.specs.Refusals.{FirstAt, NoneHolds}
 use Rattle.device.specs.Start.{badSettings, startNumber, startAfter}
 use Rattle.device.specs.Commands.{isCapped, outcomeWith, commandNumber, commandAfter}

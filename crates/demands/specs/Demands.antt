@@ -18,12 +18,13 @@ use Rattle.frames.specs.Responses.{readResponse, answerNumber, responseItem, re
 use Rattle.frames.specs.RoundTrips.{FramedExact, FrameStands, RequestReadsBack, ResponseReadsBack, StatusReadsBack, RequestWritable, ResponseWritable, RequestWritesAgain, ResponseWritesAgain}
 use Rattle.frames.specs.Writing.{itemFrame, writingNumber, writtenOf, leftBy}
 use Rattle.frames.specs.declared.requests.Reading.{Reading}
-use Rattle.device.specs.declared.Settings.{Settings}
-use Rattle.device.specs.declared.Zone.{Zone}
-use Rattle.device.specs.Sizes.{helds}
-use Rattle.device.specs.Zones.{idOf, rankOf}
-use Rattle.device.specs.Holds.{Situation, situationOf, valueAt, shown, valuesAt}
-use Rattle.device.specs.Table.{Table, Expiry}
+use Rattle.store.specs.declared.Settings.{Settings}
+use Rattle.store.specs.declared.Zone.{Zone}
+use Rattle.store.specs.Sizes.{helds}
+use Rattle.store.specs.Zones.{idOf, rankOf}
+use Rattle.holds.specs.Holds.{Situation, situationOf, valueAt, shown, valuesAt}
+use Rattle.table_laws.specs.Table.{Table}
+use Rattle.call_laws.specs.Expiry.{Expiry}
 use Rattle.device.specs.Calls.{askNumber, askAnswer}
 use Rattle.planner.specs.Rows.{IsPlan}
 use Rattle.planner.specs.Plan.{numbersOf, front, planNumber, planAnswer, planSlice}

@@ -11,9 +11,9 @@ use Rattle.messages.specs.declared.Field.{Field}
 use Rattle.messages.specs.declared.Target.{Target}
 use Rattle.messages.specs.declared.Command.{Command}
 use Rattle.messages.specs.declared.Outcome.{Outcome}
-use Rattle.device.specs.declared.Settings.{Settings}
-use Rattle.device.specs.Sizes.{most}
-use Rattle.device.specs.Holds.{situationOf, valueAt, stateAt, shown}
+use Rattle.store.specs.declared.Settings.{Settings}
+use Rattle.store.specs.Sizes.{most}
+use Rattle.holds.specs.Holds.{situationOf, valueAt, stateAt, shown}
 use Rattle.device.specs.Calls.{joinAfter, leaveAfter, linkAfter}
 use Rattle.device.specs.Commands.{commandNumber, commandAfter, commandAnswer}
 use Rattle.device.specs.Start.{startAfter}

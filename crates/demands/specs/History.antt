@@ -5,14 +5,14 @@ use mathlib.Core.List.{List, [], _∷_}
 use mathlib.Core.Option.{Option, none, some, Option·getD}
 use lib.Dec.{eqb}
 use Rattle.messages.specs.declared.Command.{Command}
-use Rattle.device.specs.declared.Held.{Held}
-use Rattle.device.specs.declared.Zone.{Zone}
-use Rattle.device.specs.declared.Settings.{Settings}
+use Rattle.store.specs.declared.Held.{Held}
+use Rattle.store.specs.declared.Zone.{Zone}
+use Rattle.store.specs.declared.Settings.{Settings}
 use Rattle.device.specs.declared.Action.{Action}
-use Rattle.device.specs.Sizes.{helds}
-use Rattle.device.specs.Zones.{upTo, nothing, seatOf}
-use Rattle.device.specs.Holds.{Situation}
-use Rattle.device.specs.Calls.{sinceAfter}
+use Rattle.store.specs.Sizes.{helds}
+use Rattle.store.specs.Zones.{upTo, nothing, seatOf}
+use Rattle.holds.specs.Holds.{Situation}
+use Rattle.holds.specs.Links.{sinceAfter}
 use Rattle.device.specs.Commands.{action, untilOf, durationOf}
 
 -- THE LOG

@@ -5,13 +5,13 @@ use mathlib.Core.Logic.{_⊎_}
 use mathlib.Core.Bool.{Bool, true, false, cond}
 use mathlib.Core.List.{List, [], _∷_, List·Memᴰ}
 use Rattle.messages.specs.declared.Command.{Command}
-use Rattle.device.specs.declared.Held.{Held}
-use Rattle.device.specs.declared.Zone.{Zone}
-use Rattle.device.specs.declared.Settings.{Settings}
+use Rattle.store.specs.declared.Held.{Held}
+use Rattle.store.specs.declared.Zone.{Zone}
+use Rattle.store.specs.declared.Settings.{Settings}
 use Rattle.device.specs.declared.Action.{Action}
-use Rattle.device.specs.Sizes.{slots, helds}
-use Rattle.device.specs.Zones.{idOf, nothing, isJoined, heldOf}
-use Rattle.device.specs.Words.{zoneAt}
+use Rattle.store.specs.Sizes.{slots, helds}
+use Rattle.store.specs.Zones.{idOf, nothing, isJoined, heldOf}
+use Rattle.store.specs.Words.{zoneAt}
 use Rattle.device.specs.Commands.{action, untilOf, durationOf}
 use Rattle.demands.specs.Run.{Call, run}
 use Rattle.demands.specs.History.{Told, joins, leaves, links, commands, overrides, passes, Log, about, recordBy}

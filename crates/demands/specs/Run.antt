@@ -2,7 +2,7 @@
 use Prim.Native.Nat.{ℕ}
 use mathlib.Core.Bool.{true, false}
 use mathlib.Core.List.{List, [], _∷_}
-use Rattle.device.specs.declared.Settings.{Settings}
+use Rattle.store.specs.declared.Settings.{Settings}
 use Rattle.device.specs.Start.{startAfter}
 use Rattle.device.specs.Calls.{joinNumber, joinAfter, leaveNumber, leaveAfter, linkNumber, linkAfter, overrideNumber, overrideAfter, clearNumber, clearAfter, askNumber, askAfter}
 use Rattle.planner.specs.Plan.{planNumber, planAfter}

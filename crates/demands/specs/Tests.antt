@@ -16,10 +16,10 @@ use Rattle.frames.specs.Requests.{Envelope, envelopeIn, servedAt, servedCommand
 use Rattle.frames.specs.Responses.{responseIn, responseItem, responseFits}
 use Rattle.frames.specs.Writing.{itemFrame}
 use Rattle.frames.specs.declared.requests.Reading.{Reading}
-use Rattle.device.specs.Sizes.{slots}
-use Rattle.device.specs.Zones.{slotOf, joined, zoneOf}
-use Rattle.device.specs.Words.{clockOf, overrideOf, settingsOf, zonesOf}
-use Rattle.device.specs.Holds.{situationOf}
+use Rattle.store.specs.Sizes.{slots}
+use Rattle.store.specs.Zones.{slotOf, joined, zoneOf}
+use Rattle.store.specs.Words.{clockOf, overrideOf, settingsOf, zonesOf}
+use Rattle.holds.specs.Holds.{situationOf}
 use Rattle.device.specs.Calls.{joinTests, leaveTests, linkTests, overrideTests, clearTests, askTests}
 use Rattle.device.specs.Commands.{commandTests}
 use Rattle.planner.specs.Plan.{planTests, planOf}

@@ -7,15 +7,16 @@ use native.Mathlib.Omega.{arith}
 use borrow.Author.Tests.{leb-true, ne-eqb}
 use lib.Dec.{leb}
 use lib.ListN.{getD, set}
-use Rattle.device.specs.Sizes.{slots}
-use Rattle.device.specs.Zones.{idOf, freeZone, newZone, linked, isJoined, isUp, slotOf, joined}
-use Rattle.device.specs.Words.{sinceOf, overrideOf, zonesOf}
-use Rattle.device.specs.Calls.{sinceAfter, zoneChange, badJoin}
-use Rattle.device.specs.declared.Zone.{Zone}
-use Rattle.device.proofs.Before.{never}
-use Rattle.device.proofs.Since.{since-up, since-down}
-use Rattle.device.proofs.Slots.{new-id, slot-id, joined-above, joined-below}
-use Rattle.device.proofs.Lens.{zones-length}
+use Rattle.store.specs.Sizes.{slots}
+use Rattle.store.specs.Zones.{idOf, freeZone, newZone, linked, isJoined, isUp, slotOf, joined}
+use Rattle.store.specs.Words.{sinceOf, overrideOf, zonesOf}
+use Rattle.holds.specs.Links.{sinceAfter}
+use Rattle.device.specs.Calls.{zoneChange, badJoin}
+use Rattle.store.specs.declared.Zone.{Zone}
+use Rattle.store.proofs.Tests.{never}
+use Rattle.holds.proofs.Since.{since-up, since-down}
+use Rattle.store.proofs.Slots.{new-id, slot-id, joined-above, joined-below}
+use Rattle.store.proofs.Lens.{zones-length}
 
 -- a change of a zone that is up afterwards, and of one that is down
 module _ (ws : List ℕ) (t i : ℕ) (x : Zone) where

@@ -10,21 +10,21 @@ use lib.ListN.{length, getD}
 use lib.Seq.{set-out}
 use Rattle.messages.specs.declared.Command.{Command}
 use Rattle.messages.specs.declared.Outcome.{Outcome}
-use Rattle.device.specs.Sizes.{helds, slots, words}
-use Rattle.device.specs.Zones.{idOf, freeZone, isJoined, isUp, slotOf, joined, zoneOf}
-use Rattle.device.specs.Words.{clockOf, sinceOf, overrideOf, settingsOf, zonesOf, applied, after}
-use Rattle.device.specs.Holds.{situationOf, withZone, valuesAt}
+use Rattle.store.specs.Sizes.{helds, slots, words}
+use Rattle.store.specs.Zones.{idOf, freeZone, isJoined, isUp, slotOf, joined, zoneOf}
+use Rattle.store.specs.Words.{clockOf, sinceOf, overrideOf, settingsOf, zonesOf, applied, after}
+use Rattle.holds.specs.Holds.{situationOf, withZone, valuesAt}
 use Rattle.device.specs.Refusals.{firstOf, late}
 use Rattle.device.specs.Calls.{zoneChange}
 use Rattle.device.specs.Commands.{isUnserved, commandTests, commandNumber, obeyed, commandAfter, commandAnswer, decisionOf, outcomeFor, enacted}
-use Rattle.device.specs.declared.Zone.{Zone}
-use Rattle.device.specs.declared.Change.{Change}
+use Rattle.store.specs.declared.Zone.{Zone}
+use Rattle.store.specs.declared.Change.{Change}
 use Rattle.device.specs.declared.Decision.{Decision}
-use Rattle.device.proofs.Runs.{length-upTo}
-use Rattle.device.proofs.Lens.{zones-length}
-use Rattle.device.proofs.Effects.{applied-settings, applied-zones, applied-since, applied-override}
-use Rattle.device.proofs.Slots.{seat, seat-joined, seat-slot}
-use Rattle.device.proofs.Answered.{refusal-keeps}
+use Rattle.store.proofs.Runs.{length-upTo}
+use Rattle.store.proofs.Lens.{zones-length}
+use Rattle.store.proofs.Effects.{applied-settings, applied-zones, applied-since, applied-override}
+use Rattle.store.proofs.Slots.{joinedSlot, slot-joined, found-slot}
+use Rattle.store.proofs.Answered.{refusal-keeps}
 use Rattle.device.proofs.Changes.{up-change, joined-there}
 
 -- no slot: as it stands
@@ -50,25 +50,25 @@ module _ (ws : List ℕ) (z t : ℕ) (c : Command) where
   numberAt i =
       firstOf (commandTests (clockOf ws) (ltb i slots) (getD (zonesOf ws) i freeZone .up) (settingsOf ws) (overrideOf ws) t c)
 
-  number-at : (i : ℕ) → i ≡ seat (zonesOf ws) z → numberAt i ≡ commandNumber ws z t c
+  number-at : (i : ℕ) → i ≡ joinedSlot (zonesOf ws) z → numberAt i ≡ commandNumber ws z t c
   unfolding commandNumber firstOf zoneOf
   number-at i e = go (joined (zonesOf ws) z) refl
     where
       there : ltb i slots ≡ joined (zonesOf ws) z
-      there = rw e (seat-joined (zonesOf ws) z)
+      there = rw e (slot-joined (zonesOf ws) z)
 
       go : (b : Bool) → joined (zonesOf ws) z ≡ b → numberAt i ≡ commandNumber ws z t c
-      go true j = rw (there, j, seat-slot (zonesOf ws) z i e (ltb-true i slots (there ∙ j)))
+      go true j = rw (there, j, found-slot (zonesOf ws) z i e (ltb-true i slots (there ∙ j)))
       go false j = rw (there, j)
 
-  pub decided : (i n : ℕ) → i ≡ seat (zonesOf ws) z → n ≡ numberAt i → n ≡ 0 → record { number = 0; slot = i; zone = obeyed (settingsOf ws) c t (getD (zonesOf ws) i freeZone) } ≡ decisionOf ws z t c
+  pub decided : (i n : ℕ) → i ≡ joinedSlot (zonesOf ws) z → n ≡ numberAt i → n ≡ 0 → record { number = 0; slot = i; zone = obeyed (settingsOf ws) c t (getD (zonesOf ws) i freeZone) } ≡ decisionOf ws z t c
   unfolding decisionOf zoneOf
   decided i n e f g =
       let m : commandNumber ws z t c ≡ 0 = sym (number-at i e) ∙ sym f ∙ g in
-      let s : i ≡ slotOf (zonesOf ws) z = seat-slot (zonesOf ws) z i e (ltb-true i slots (rw e (seat-joined (zonesOf ws) z) ∙ may-command m .0)) in
+      let s : i ≡ slotOf (zonesOf ws) z = found-slot (zonesOf ws) z i e (ltb-true i slots (rw e (slot-joined (zonesOf ws) z) ∙ may-command m .0)) in
       rw (eq-eqb (commandNumber ws z t c) 0 m, s)
 
-  pub undecided : (i n : ℕ) → i ≡ seat (zonesOf ws) z → n ≡ numberAt i → (n ≡ 0 → ⊥) → record { number = n; slot = slots; zone = freeZone } ≡ decisionOf ws z t c
+  pub undecided : (i n : ℕ) → i ≡ joinedSlot (zonesOf ws) z → n ≡ numberAt i → (n ≡ 0 → ⊥) → record { number = n; slot = slots; zone = freeZone } ≡ decisionOf ws z t c
   unfolding decisionOf
   undecided i n e f g =
       let m : n ≡ commandNumber ws z t c = f ∙ number-at i e in

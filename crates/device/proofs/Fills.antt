@@ -5,8 +5,8 @@ use mathlib.Core.List.{List}
 use native.Mathlib.Omega.{arith}
 use lib.ListN.{length, getD, set, take}
 use lib.Seq.{getD-set-other}
-use Rattle.device.specs.Zones.{upTo}
-use Rattle.device.proofs.Folds.{fill-turn}
+use Rattle.store.specs.Zones.{upTo}
+use Rattle.store.proofs.Folds.{fill-turn}
 
 -- worked over in place: below q stands the new, from q on the old
 abbrev pub Worked : {A : Type 0} → (ℕ → A) → A → List A → List A → ℕ → Type 0

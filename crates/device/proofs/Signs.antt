@@ -1,22 +1,17 @@
 -- Signed numbers of a request: below 0, or a natural number.
 use Prim.Native.Nat.{ℕ}
 use native.Mathlib.Omega.{arith}
-use mathlib.Core.Bool.{true, false, not}
+use mathlib.Core.Bool.{true, false}
 use mathlib.Core.Path.{_≡_, refl, sym, _∙_}
-use borrow.Author.Tests.{le-leb}
 use lib.Dec.{T, leb·suc-zero}
 use lib.IntN.{ℤ, pos, negsuc, natAbs}
-use lib.Signed.{ltZ, leZ, nonNeg}
+use lib.Signed.{ltZ, nonNeg}
 use Rattle.device.specs.Commands.{negative, natural, stated}
 use Rattle.messages.specs.declared.Amount.the-variants.{Absent, Is}
 
 pub is-neg : (z : ℤ) → ltZ z (pos 0) ≡ negative z
 is-neg (pos n) = leb·suc-zero n
 is-neg (negsuc n) = refl
-
-pub is-natural : (z : ℤ) → leZ (pos 0) z ≡ not (negative z)
-is-natural (pos n) = le-leb 0 n (omega arith)
-is-natural (negsuc n) = refl
 
 false≢true : true ≡ false → ⊥
 false≢true e = let b : _≡_ {A = ℕ} 0 1 = cc in omega arith

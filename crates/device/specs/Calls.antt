@@ -5,27 +5,20 @@ use mathlib.Core.List.{List, [], _∷_}
 use lib.Dec.{ltb, leb, eqb}
 use lib.ListN.{set, replicate}
 use lib.IntN.{negsuc}
-use Rattle.device.specs.Sizes.{slots, helds}
-use Rattle.device.specs.Zones.{freeZone, newZone, linked, slotOf, joined, zoneOf, anyUp}
-use Rattle.device.specs.Words.{clockOf, sinceOf, overrideOf, settingsOf, zonesOf, after}
-use Rattle.device.specs.Holds.{situationOf, valuesAt}
+use Rattle.store.specs.Sizes.{slots, helds}
+use Rattle.store.specs.Zones.{freeZone, newZone, linked, slotOf, joined, zoneOf}
+use Rattle.store.specs.Words.{clockOf, sinceOf, overrideOf, settingsOf, zonesOf, headChange, after}
+use Rattle.holds.specs.Links.{sinceAfter}
+use Rattle.holds.specs.Holds.{situationOf, valuesAt}
 use Rattle.device.specs.Refusals.{firstOf, late}
-use Rattle.device.specs.declared.Zone.{Zone}
-use Rattle.device.specs.declared.Change.{Change}
+use Rattle.store.specs.declared.Zone.{Zone}
+use Rattle.store.specs.declared.Change.{Change}
 use Rattle.device.specs.declared.Asked.{Asked}
-
--- the second since which no link is up, as a call at t moves it: "If the last up zone leaves and down ones remain, s is that second"
-unfoldable pub sinceAfter : List Zone → List Zone → ℕ → ℕ → ℕ
-sinceAfter old new t s = cond (anyUp old && not (anyUp new)) t s
 
 -- a change of slot i alone, at t
 unfoldable pub zoneChange : List ℕ → ℕ → ℕ → Zone → Change
 zoneChange ws t i x =
     record { time = t; slot = i; zone = x; since = sinceAfter (zonesOf ws) (set (zonesOf ws) i x) t (sinceOf ws); overridden = overrideOf ws }
-
--- a change of the clock and the override alone
-unfoldable pub headChange : List ℕ → ℕ → ℕ → Change
-headChange ws t o = record { time = t; slot = slots; zone = freeZone; since = sinceOf ws; overridden = o }
 
 -- 6: "id outside 1 to 255, or rank outside 1 to 4"
 unfoldable pub badJoin : ℕ → ℕ → Bool

@@ -15,15 +15,15 @@ use Rattle.messages.specs.declared.Limits.{Limits}
 use Rattle.messages.specs.declared.Setpoints.{Setpoints}
 use Rattle.messages.specs.declared.Command.{Command}
 use Rattle.messages.specs.declared.Outcome.{Outcome}
-use Rattle.device.specs.Sizes.{helds, slots, most}
-use Rattle.device.specs.Zones.{upTo, nothing, freeZone, holding, slotOf, joined, zoneOf, heldOf}
-use Rattle.device.specs.Words.{clockOf, sinceOf, overrideOf, settingsOf, zonesOf, after}
-use Rattle.device.specs.Holds.{isLimit, directionOf, supports, situationOf, withZone, valuesAt}
+use Rattle.store.specs.Sizes.{helds, slots, most}
+use Rattle.store.specs.Zones.{upTo, nothing, freeZone, holding, slotOf, joined, zoneOf, heldOf}
+use Rattle.store.specs.Words.{clockOf, sinceOf, overrideOf, settingsOf, zonesOf, after}
+use Rattle.holds.specs.Holds.{isLimit, directionOf, supports, situationOf, withZone, valuesAt}
 use Rattle.device.specs.Refusals.{firstOf, late}
 use Rattle.device.specs.Calls.{zoneChange}
-use Rattle.device.specs.declared.Held.{Held}
-use Rattle.device.specs.declared.Zone.{Zone}
-use Rattle.device.specs.declared.Settings.{Settings}
+use Rattle.store.specs.declared.Held.{Held}
+use Rattle.store.specs.declared.Zone.{Zone}
+use Rattle.store.specs.declared.Settings.{Settings}
 use Rattle.device.specs.declared.Action.{Action}
 use Rattle.device.specs.declared.said.Kind.{Kind}
 use Rattle.device.specs.declared.Decision.{Decision}

@@ -1,11 +1,4 @@
-pub mod Sizes
-pub mod Zones
-pub mod Words
-pub mod Holds
-pub mod Dues
 pub mod Refusals
 pub mod Calls
 pub mod Commands
-pub mod Table
 pub mod Start
-pub mod Pass

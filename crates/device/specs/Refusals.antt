@@ -6,8 +6,9 @@ use mathlib.Core.List.{List}
 use lib.Dec.{ltb, leb, eqb}
 use lib.ListN.{getD}
 unfoldable pub use Rattle.messages.specs.Refusals.{firstOf}
-use Rattle.device.specs.Sizes.{end}
-use Rattle.device.specs.Zones.{any}
+unfoldable pub use Rattle.store.specs.Times.{late}
+use Rattle.store.specs.Sizes.{end}
+use Rattle.store.specs.Zones.{any}
 
 -- the test in place `at` is the first to hold, and n is its number
 pub record FirstAt (l : List (Bool × ℕ)) (n : ℕ) : Type 0 where
@@ -21,7 +22,3 @@ NoneHolds l = (j : ℕ) → getD l j (false, 0) .0 ≡ false
 
 abbrev pub Numbered : List (Bool × ℕ) → Type 0
 Numbered l = any (λ x. eqb (x .1) 0) l ≡ false
-
--- 5: "A time below the last accepted call's, or past the end"
-unfoldable pub late : ℕ → ℕ → Bool
-late clock t = ltb t clock || leb end t

@@ -4,10 +4,10 @@ use mathlib.Core.Bool.{Bool, false, cond, not, _&&_, _||_}
 use mathlib.Core.List.{List, [], _∷_}
 use lib.Dec.{ltb, leb, eqb}
 use lib.ListN.{getD}
-use Rattle.device.specs.Sizes.{most, valueEnd}
-use Rattle.device.specs.Words.{fresh}
+use Rattle.store.specs.Sizes.{most, valueEnd}
+use Rattle.store.specs.Words.{fresh}
 use Rattle.device.specs.Refusals.{firstOf}
-use Rattle.device.specs.declared.Settings.{Settings}
+use Rattle.store.specs.declared.Settings.{Settings}
 
 -- "a contractual maximum per direction or none"
 unfoldable pub badMaximum : ℕ → Bool

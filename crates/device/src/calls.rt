@@ -3,9 +3,10 @@ ghost use mathlib.Core.Path.{_≡_};
 ghost use mathlib.Core.Bool.{true, false, cond};
 ghost use Prim.Native.Nat.{_<_};
 ghost use lib.ListN.{getD, set};
-ghost use Rattle.device.specs.Zones.{freeZone, newZone, linked};
-ghost use Rattle.device.specs.Words.{sinceOf, zonesOf};
-ghost use Rattle.device.specs.Calls.{sinceAfter, joinNumber, joinAfter, leaveNumber, leaveAfter, same, linkNumber, linkAfter, overrideWord, overrideNumber, overrideAfter, clearNumber, clearAfter, askAnswer, askAfter};
+ghost use Rattle.store.specs.Zones.{freeZone, newZone, linked};
+ghost use Rattle.store.specs.Words.{sinceOf, zonesOf};
+ghost use Rattle.holds.specs.Links.{sinceAfter};
+ghost use Rattle.device.specs.Calls.{joinNumber, joinAfter, leaveNumber, leaveAfter, same, linkNumber, linkAfter, overrideWord, overrideNumber, overrideAfter, clearNumber, clearAfter, askAnswer, askAfter};
 ghost use Rattle.device.specs.Start.{refusedSettings, startNumber, startAfter};
 use crate::Asked;
 use crate::Change;
@@ -17,10 +18,7 @@ use crate::Settings;
 use crate::State;
 use crate::VALUES;
 use crate::Zone;
-use crate::holds;
-use crate::links;
 use crate::refusals;
-use crate::store;
 
 fn refused_settings() -> Settings
     ensures { λ r. ⌜ r ≡ refusedSettings ⌝ }
@@ -65,7 +63,7 @@ pub fn join(d: &mut State, zone: u64, rank: u64, t: u64) -> u64
     ensures { λ r. ⌜ r ≡ joinNumber (now (d .entry)) zone rank t ⌝ }
     ensures { λ _. ⌜ now (d .exit) ≡ joinAfter (now (d .entry)) zone rank t ⌝ }
 {
-    if refusals::is_late(store::clock(d), t) {
+    if store::is_late(store::clock(d), t) {
         return 5;
     }
     if refusals::is_bad_join(zone, rank) {
@@ -93,10 +91,10 @@ pub fn leave(d: &mut State, zone: u64, t: u64) -> u64
     ensures { λ r. ⌜ r ≡ leaveNumber (now (d .entry)) zone t ⌝ }
     ensures { λ _. ⌜ now (d .exit) ≡ leaveAfter (now (d .entry)) zone t ⌝ }
 {
-    if refusals::is_late(store::clock(d), t) {
+    if store::is_late(store::clock(d), t) {
         return 5;
     }
-    let slot = store::seat_of(d, zone);
+    let slot = store::slot_of_joined(d, zone);
     if SLOTS <= slot {
         return 9;
     }
@@ -104,7 +102,7 @@ pub fn leave(d: &mut State, zone: u64, t: u64) -> u64
         time: t,
         slot: slot,
         zone: store::free_zone(),
-        since: links::since_without(d, slot, t),
+        since: holds::since_without(d, slot, t),
         overridden: store::overridden(d),
     };
     store::apply(d, change);
@@ -137,7 +135,7 @@ fn since_told(d: &State, slot: usize, up: bool, t: u64) -> u64
     if up {
         return store::since(d);
     }
-    links::since_without(d, slot, t)
+    holds::since_without(d, slot, t)
 }
 
 // A link is lost or back.
@@ -145,10 +143,10 @@ fn link(d: &mut State, zone: u64, up: bool, t: u64) -> u64
     ensures { λ r. ⌜ r ≡ linkNumber (now (d .entry)) zone up t ⌝ }
     ensures { λ _. ⌜ now (d .exit) ≡ linkAfter (now (d .entry)) zone up t ⌝ }
 {
-    if refusals::is_late(store::clock(d), t) {
+    if store::is_late(store::clock(d), t) {
         return 5;
     }
-    let slot = store::seat_of(d, zone);
+    let slot = store::slot_of_joined(d, zone);
     if SLOTS <= slot {
         return 9;
     }
@@ -191,7 +189,7 @@ pub fn set_override(d: &mut State, reason: u64, direction: u64, t: u64) -> u64
     ensures { λ r. ⌜ r ≡ overrideNumber (now (d .entry)) reason direction t ⌝ }
     ensures { λ _. ⌜ now (d .exit) ≡ overrideAfter (now (d .entry)) reason direction t ⌝ }
 {
-    if refusals::is_late(store::clock(d), t) {
+    if store::is_late(store::clock(d), t) {
         return 5;
     }
     if refusals::go_together(store::is_manager(d), reason, direction) {
@@ -205,7 +203,7 @@ pub fn clear_override(d: &mut State, t: u64) -> u64
     ensures { λ r. ⌜ r ≡ clearNumber (now (d .entry)) t ⌝ }
     ensures { λ _. ⌜ now (d .exit) ≡ clearAfter (now (d .entry)) t ⌝ }
 {
-    if refusals::is_late(store::clock(d), t) {
+    if store::is_late(store::clock(d), t) {
         return 5;
     }
     if store::overridden(d) == 0 {
@@ -219,7 +217,7 @@ pub fn ask(d: &mut State, t: u64) -> Asked
     ensures { λ r. ⌜ r ≡ askAnswer (now (d .entry)) t ⌝ }
     ensures { λ _. ⌜ now (d .exit) ≡ askAfter (now (d .entry)) t ⌝ }
 {
-    if refusals::is_late(store::clock(d), t) {
+    if store::is_late(store::clock(d), t) {
         return Asked {
             number: 5,
             values: [-1; VALUES],

@@ -5,11 +5,8 @@ use crate::SLOTS;
 use crate::Settings;
 use crate::State;
 use crate::content;
-use crate::holds;
 use crate::obey;
 use crate::outcomes;
-use crate::refusals;
-use crate::store;
 use messages::Command;
 use messages::Outcome;
 ghost use mathlib.Core.Path.{_≡_};
@@ -32,7 +29,7 @@ fn number_of(
     if content::is_unserved(c) {
         return 4;
     }
-    if refusals::is_late(clock, t) {
+    if store::is_late(clock, t) {
         return 5;
     }
     if !there {
@@ -48,7 +45,7 @@ fn number_of(
 pub fn decide(d: &State, zone: u64, t: u64, c: Command) -> Decision
     ensures { λ r. ⌜ r ≡ decisionOf (now (d .entry)) zone t c ⌝ }
 {
-    let slot = store::seat_of(d, zone);
+    let slot = store::slot_of_joined(d, zone);
     let x = store::zone_at(d, slot);
     let s = store::settings_at(d);
     let n = number_of(

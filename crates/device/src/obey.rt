@@ -11,8 +11,8 @@ use crate::said::says;
 use messages::Command;
 ghost use mathlib.Core.Path.{_≡_};
 ghost use lib.ListN.{getD};
-ghost use Rattle.device.specs.Sizes.{helds};
-ghost use Rattle.device.specs.Zones.{upTo, nothing};
+ghost use Rattle.store.specs.Sizes.{helds};
+ghost use Rattle.store.specs.Zones.{upTo, nothing};
 ghost use Rattle.device.specs.Commands.{topOf, action, untilOf, done, obeyed};
 
 // The most that quantity q may be: a limit's contractual maximum, and none for the others.

@@ -1,18 +1,10 @@
 // The tests of the calls: one function for each rule of a refusal.
 ghost use mathlib.Core.Path.{_≡_};
-ghost use Rattle.device.specs.Refusals.{late};
 ghost use Rattle.device.specs.Calls.{badJoin, goTogether};
 ghost use Rattle.device.specs.Start.{badMaximum, badSettings};
-use crate::END;
 use crate::MOST;
 use crate::Settings;
 use crate::VALUE_END;
-
-pub fn is_late(clock: u64, t: u64) -> bool
-    ensures { λ r. ⌜ r ≡ late clock t ⌝ }
-{
-    t < clock || END <= t
-}
 
 pub fn is_bad_join(zone: u64, rank: u64) -> bool
     ensures { λ r. ⌜ r ≡ badJoin zone rank ⌝ }

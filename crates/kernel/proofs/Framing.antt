@@ -22,7 +22,7 @@ use Rattle.frames.specs.Responses.{responseItem, statusAlone}
 use Rattle.frames.specs.Writing.{itemFrame, writingNumber, writtenOf, leftBy}
 use Rattle.frames.specs.declared.prefix.Written.{Written}
 use Rattle.frames.specs.declared.requests.Reading.{Reading}
-use Rattle.device.specs.Sizes.{words}
+use Rattle.store.specs.Sizes.{words}
 use Rattle.device.specs.Commands.{commandNumber, commandAfter, commandAnswer, decisionOf, outcomeFor, enacted}
 use Rattle.device.specs.declared.Answer.{Answer}
 use Rattle.device.specs.declared.Decision.{Decision}

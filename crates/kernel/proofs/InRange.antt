@@ -18,11 +18,11 @@ use Rattle.messages.specs.declared.Response.{Response}
 use Rattle.frames.specs.Fields.{mostValue, most32}
 use Rattle.frames.specs.Requests.{requestNumber, requestWide, requestUnserved, servedCommand, servedAt, isServed, commandWide}
 use Rattle.frames.specs.Responses.{isStatus, stands, goesWith, fits, amountUpTo, isNothing, limitInRange, setpointInRange, responseFits, responseNumber, statusFits, statusNumber}
-use Rattle.device.specs.Sizes.{valueEnd}
-use Rattle.device.specs.Zones.{upTo, joined, zoneOf, anyUp}
-use Rattle.device.specs.Words.{settingsOf, clockOf, overrideOf, zonesOf}
+use Rattle.store.specs.Sizes.{valueEnd}
+use Rattle.store.specs.Zones.{upTo, joined, zoneOf, anyUp}
+use Rattle.store.specs.Words.{settingsOf, clockOf, overrideOf, zonesOf}
 use Rattle.device.specs.Refusals.{late}
-use Rattle.device.specs.Holds.{Situation, situationOf, inFailsafe, stateAt, present, shown, valuesAt, valueAt}
+use Rattle.holds.specs.Holds.{Situation, situationOf, inFailsafe, stateAt, present, shown, valuesAt, valueAt}
 use Rattle.device.specs.Commands.{commandNumber, commandAfter, commandAnswer, isCapped, outcomeWith, reasonOf, stated, natural, isUnserved, unsupported, setsLimits, invalid, belowTheMinimum}
 use Rattle.kernel.specs.Frame.{responseTo}
 

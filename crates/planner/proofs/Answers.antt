@@ -10,11 +10,12 @@ use lib.IntN.{ℤ, ℤ-discrete}
 use lib.ListN.{length, take, drop, length-append}
 use lib.Seq.{sets, sets-eq, take-append-seam}
 use borrow.Author.Tests.{lt-ltb, le-ltb, ne-eqb}
-use Rattle.device.specs.Sizes.{helds}
-use Rattle.device.specs.Words.{clockOf, overrideOf, applied, after}
-use Rattle.device.specs.Holds.{Situation, situationOf, valuesAt}
-use Rattle.device.specs.Refusals.{firstOf, late}
-use Rattle.device.specs.Calls.{headChange}
+use Rattle.store.specs.Sizes.{helds}
+use Rattle.store.specs.Words.{clockOf, overrideOf, applied, after}
+use Rattle.holds.specs.Holds.{Situation, situationOf, valuesAt}
+use Rattle.messages.specs.Refusals.{firstOf}
+use Rattle.store.specs.Times.{late}
+use Rattle.store.specs.Words.{headChange}
 use Rattle.planner.specs.Rows.{last, rowsOf, plan}
 use Rattle.planner.specs.Plan.{planOf, rowSize, numbersOf, planNumber, planAnswer, planAfter, front, planSlice}
 use Rattle.planner.specs.declared.Planned.{Planned}

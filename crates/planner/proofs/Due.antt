@@ -8,8 +8,8 @@ use native.Mathlib.Omega.{arith}
 use lib.Dec.{ltb}
 use lib.ListN.{length}
 use borrow.Author.Tests.{ltb-true, ltb-false}
-use Rattle.device.specs.Sizes.{end}
-use Rattle.device.specs.Dues.{nearer, nearest}
+use Rattle.store.specs.Sizes.{end}
+use Rattle.holds.specs.Dues.{nearer, nearest}
 
 -- x is r, or the least of the list past cur and before r
 pub record Least (cur r : ℕ) (ds : List ℕ) (x : ℕ) : Type 0 where

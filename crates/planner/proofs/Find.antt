@@ -9,13 +9,13 @@ use lib.IntN.{ℤ, pos}
 use lib.ListN.{length, set}
 use lib.Seq.{sets, length-sets}
 use borrow.Author.Tests.{lt-ltb, le-ltb}
-use Rattle.device.specs.Sizes.{end, slots, helds}
-use Rattle.device.specs.Holds.{Situation, situationOf, valueAt, shown, valuesAt}
-use Rattle.device.proofs.Runs.{length-upTo}
-use Rattle.device.specs.Dues.{dues, viewAt}
+use Rattle.store.specs.Sizes.{end, slots, helds}
+use Rattle.holds.specs.Holds.{Situation, situationOf, valueAt, shown, valuesAt}
+use Rattle.store.proofs.Runs.{length-upTo}
+use Rattle.holds.specs.Dues.{dues, viewAt}
 use Rattle.planner.specs.Plan.{planOf, rowSize, numbersOf}
 use Rattle.planner.specs.Walk.{alike, step}
-use Rattle.device.specs.declared.View.{View}
+use Rattle.holds.specs.declared.View.{View}
 use Rattle.planner.proofs.Due.{nearest-later}
 use Rattle.planner.proofs.Walk.{planOf-step, planOf-few}
 

@@ -6,7 +6,7 @@ use mathlib.Core.List.{List, [], _∷_, List·Memᴰ, List·Memᴰ·head, List·
 use native.Mathlib.Decide.{ℕ-discrete}
 use native.Mathlib.Omega.{arith}
 use lib.IntN.{ℤ, ℤ-discrete}
-use Rattle.device.specs.Holds.{Situation, valuesAt}
+use Rattle.holds.specs.Holds.{Situation, valuesAt}
 use Rattle.planner.specs.Plan.{planOf}
 use Rattle.planner.specs.Rows.{last, rowsOf, plan, Changes, Ascending, IsPlan}
 

@@ -9,10 +9,10 @@ use lib.Dec.{ltb}
 use lib.IntN.{ℤ}
 use lib.ListN.{length}
 use borrow.Author.Tests.{ltb-true, ltb-false, le-ltb}
-use Rattle.device.specs.Sizes.{end, slots, helds}
-use Rattle.device.specs.Holds.{Situation, situationOf, valuesAt}
-use Rattle.device.specs.Dues.{dues, nearest}
-use Rattle.device.proofs.Steady.{Idle, values-steady, dues-few}
+use Rattle.store.specs.Sizes.{end, slots, helds}
+use Rattle.holds.specs.Holds.{Situation, situationOf, valuesAt}
+use Rattle.holds.specs.Dues.{dues, nearest}
+use Rattle.holds.proofs.Steady.{Idle, values-steady, dues-few}
 use Rattle.planner.specs.Rows.{plan}
 use Rattle.planner.specs.Plan.{planOf}
 use Rattle.planner.specs.Walk.{alike, step, walk}

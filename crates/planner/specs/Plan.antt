@@ -5,11 +5,12 @@ use mathlib.Core.List.{List, [], _∷_, _++_}
 use lib.Dec.{ltb, eqb}
 use lib.IntN.{ℤ, pos}
 use lib.ListN.{length, drop}
-use Rattle.device.specs.Sizes.{helds}
-use Rattle.device.specs.Words.{clockOf, overrideOf, after}
-use Rattle.device.specs.Holds.{Situation, situationOf, valuesAt}
-use Rattle.device.specs.Refusals.{firstOf, late}
-use Rattle.device.specs.Calls.{headChange}
+use Rattle.store.specs.Sizes.{helds}
+use Rattle.store.specs.Words.{clockOf, overrideOf, after}
+use Rattle.holds.specs.Holds.{Situation, situationOf, valuesAt}
+use Rattle.messages.specs.Refusals.{firstOf}
+use Rattle.store.specs.Times.{late}
+use Rattle.store.specs.Words.{headChange}
 use Rattle.planner.specs.Rows.{plan}
 use Rattle.planner.specs.declared.Planned.{Planned}
 

@@ -4,7 +4,7 @@ use mathlib.Core.Path.{_≡_}
 use mathlib.Core.Logic.{_≢_, ite}
 use mathlib.Core.List.{List, [], _∷_, List·Memᴰ, List-discrete}
 use lib.IntN.{ℤ, ℤ-discrete}
-use Rattle.device.specs.Sizes.{end}
+use Rattle.store.specs.Sizes.{end}
 
 -- the last second: "up to 2^40 - 1"
 abbrev pub last : ℕ

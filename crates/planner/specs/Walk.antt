@@ -4,8 +4,8 @@ use mathlib.Core.Bool.{Bool, true, false, cond, _&&_}
 use mathlib.Core.List.{List, [], _∷_}
 use lib.Dec.{ltb, eqb}
 use lib.IntN.{ℤ, pos, negsuc}
-use Rattle.device.specs.Sizes.{end}
-use Rattle.device.specs.Dues.{nearest}
+use Rattle.store.specs.Sizes.{end}
+use Rattle.holds.specs.Dues.{nearest}
 
 unfoldable pub sameNumber : ℤ → ℤ → Bool
 sameNumber (pos a) (pos b) = eqb a b

@@ -1,19 +1,19 @@
 // The plan: each second after now at which what holds will change, and what holds from then on.
 mod rows;
 
-use device::State;
-use device::refusals::is_late;
-use device::store::apply_head;
-use device::store::clock;
-use device::store::overridden;
 use rows::ROOM;
 use rows::ROW;
+use store::State;
+use store::apply_head;
+use store::clock;
+use store::is_late;
+use store::overridden;
 ghost use mathlib.Core.Path.{_≡_};
 ghost use mathlib.Core.Bool.{false};
 ghost use lib.ListN.{length};
-ghost use Rattle.device.specs.Words.{clockOf, overrideOf, applied};
-ghost use Rattle.device.specs.Refusals.{late};
-ghost use Rattle.device.specs.Calls.{headChange};
+ghost use Rattle.store.specs.Words.{clockOf, overrideOf, applied};
+ghost use Rattle.store.specs.Times.{late};
+ghost use Rattle.store.specs.Words.{headChange};
 ghost use Rattle.planner.specs.Plan.{planAnswer, planAfter, planSlice};
 
 // The answer to a plan: its number, and the count of rows written.

@@ -1,18 +1,18 @@
 // The rows, six numbers each.
-use device::END;
-use device::HELDS;
-use device::SLOTS;
-use device::State;
-use device::VALUES;
-use device::holds::view;
+use holds::view_at;
+use store::END;
+use store::HELDS;
+use store::SLOTS;
+use store::State;
+use store::VALUES;
 ghost use mathlib.Core.Path.{_≡_};
 ghost use mathlib.Core.List.{_∷_, _++_};
 ghost use Prim.Native.Nat.{_+_, _*_, _<_, _≤_};
 ghost use lib.IntN.{pos};
 ghost use lib.ListN.{length, take, drop};
 ghost use lib.Seq.{sets};
-ghost use Rattle.device.specs.Sizes.{end, slots, helds};
-ghost use Rattle.device.specs.Holds.{situationOf};
+ghost use Rattle.store.specs.Sizes.{end, slots, helds};
+ghost use Rattle.holds.specs.Holds.{situationOf};
 ghost use Rattle.planner.specs.Plan.{planOf, rowSize, numbersOf};
 ghost use Rattle.planner.specs.Walk.{sameNumber, alike};
 
@@ -61,11 +61,11 @@ pub fn find(d: &State, t: u64, out: &mut [i64]) -> usize
     ensures { λ _. ⌜ now (out .exit) ≡ sets (now (out .entry)) 0 (numbersOf (planOf (situationOf (now (d .entry))) t)) ⌝ }
 {
     let mut count = 0;
-    let mut v = view(d, t);
+    let mut v = view_at(d, t);
     while v.next < END {
         let due = v.next;
         let last = v.values;
-        v = view(d, due);
+        v = view_at(d, due);
         let values = v.values;
         if !alike(values, last) {
             put_row(out, count * ROW, due, values);

@@ -2,7 +2,7 @@ use Prim.Native.Nat.{_*_, _≤_}
 use native.Mathlib.Omega.{arith}
 use borrow.Author.Needs.{needs}
 use lib.ListN.{length}
-use Rattle.device.proofs.Answered.{timed}
+use Rattle.store.proofs.Answered.{timed}
 use Rattle.planner.specs.Plan.{rowSize}
 use Rattle.planner.proofs.Walk.{planOf-few}
 use Rattle.planner.proofs.Answers.{late-ends, placed, ends}

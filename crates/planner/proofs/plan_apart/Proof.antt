@@ -5,7 +5,7 @@ use borrow.Author.Needs.{needs}
 use lib.IntN.{pos}
 use lib.ListN.{length, replicate}
 use lib.Seq.{length-sets}
-use Rattle.device.specs.Sizes.{slots, helds}
+use Rattle.store.specs.Sizes.{slots, helds}
 use Rattle.planner.specs.Plan.{rowSize}
 use Rattle.planner.proofs.Walk.{planOf-few}
 use Rattle.planner.proofs.Answers.{full-ends, copied, ends}

@@ -1,4 +1,4 @@
-use Rattle.device.proofs.Tests.{via}
+use Rattle.store.proofs.Tests.{via}
 use mathlib.Core.Path.{refl}
 use borrow.Author.Needs.{needs}
 use Rattle.capi.proofs.requests.cekarum_write_request.Statement.{statement}

@@ -1,7 +1,7 @@
 use native.Mathlib.Omega.{arith}
 use Rattle.device.specs.Refusals.{firstOf}
 use Rattle.device.specs.Calls.{askNumber, askAnswer, askAfter}
-use Rattle.device.proofs.Answered.{refused, accepted, timed}
+use Rattle.store.proofs.Answered.{refused, accepted, timed}
 use Rattle.device.proofs.calls.ask.Statement.{statement}
 use Rattle.device.proofs.calls.ask.Tie as tie
 

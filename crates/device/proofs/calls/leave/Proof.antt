@@ -1,9 +1,9 @@
 use native.Mathlib.Omega.{arith}
-use Rattle.device.specs.Words.{zonesOf}
+use Rattle.store.specs.Words.{zonesOf}
 use Rattle.device.specs.Refusals.{firstOf}
 use Rattle.device.specs.Calls.{leaveNumber, leaveAfter, zoneChange}
-use Rattle.device.proofs.Slots.{seated, not-seated, seat-slot}
-use Rattle.device.proofs.Answered.{refused, accepted, timed}
+use Rattle.store.proofs.Slots.{found, not-found, found-slot}
+use Rattle.store.proofs.Answered.{refused, accepted, timed}
 use Rattle.device.proofs.calls.leave.Statement.{statement}
 use Rattle.device.proofs.calls.leave.Tie as tie
 
@@ -15,6 +15,6 @@ leave-spec =
     (λ c κs. tt) (λ c κs. tt)
     (λ c. refused _ 5 _ _ (rw (timed _ _ _ _ _ (c .before .before .clock .ensures) (c .before .is-late .ensures) (c .if1 .taken))) (λ e. omega arith))
     (λ c κs. tt)
-    (λ c. refused _ 9 _ _ (rw (timed _ _ _ _ _ (c .before .before .before .before .before .clock .ensures) (c .before .before .before .before .is-late .ensures) (c .before .before .before .if1 .left), not-seated _ _ _ (c .before .seat-of .ensures) (c .if2 .taken))) (λ e. omega arith))
+    (λ c. refused _ 9 _ _ (rw (timed _ _ _ _ _ (c .before .before .before .before .before .clock .ensures) (c .before .before .before .before .is-late .ensures) (c .before .before .before .if1 .left), not-found _ _ _ (c .before .slot-of-joined .ensures) (c .if2 .taken))) (λ e. omega arith))
     (λ c κs. tt) (λ c κs. tt) (λ c κs. tt) (λ c κs. tt)
-    (λ c. accepted _ _ _ _ _ (rw (timed _ _ _ _ _ (c .before .before .before .before .before .before .before .before .before .before .before .before .clock .ensures) (c .before .before .before .before .before .before .before .before .before .before .before .is-late .ensures) (c .before .before .before .before .before .before .before .before .before .before .if1 .left), seated _ _ _ (c .before .before .before .before .before .before .before .before .seat-of .ensures) (c .before .before .before .before .before .before .before .if2 .left))) (c .apply .ensures) (rw (c .before .before .before .before .before .before .free-zone .ensures, c .before .before .before .before .since-without .ensures, c .before .before .overridden .ensures, seat-slot (zonesOf (c .before .before .before .before .before .before .before .before .before .before .before .before .before .before .args .d .now)) (c .before .before .before .before .before .before .before .before .before .before .before .before .before .before .args .zone) _ (c .before .before .before .before .before .before .before .before .seat-of .ensures) (c .before .before .before .before .before .before .before .if2 .left)))))
+    (λ c. accepted _ _ _ _ _ (rw (timed _ _ _ _ _ (c .before .before .before .before .before .before .before .before .before .before .before .before .clock .ensures) (c .before .before .before .before .before .before .before .before .before .before .before .is-late .ensures) (c .before .before .before .before .before .before .before .before .before .before .if1 .left), found _ _ _ (c .before .before .before .before .before .before .before .before .slot-of-joined .ensures) (c .before .before .before .before .before .before .before .if2 .left))) (c .apply .ensures) (rw (c .before .before .before .before .before .before .free-zone .ensures, c .before .before .before .before .since-without .ensures, c .before .before .overridden .ensures, found-slot (zonesOf (c .before .before .before .before .before .before .before .before .before .before .before .before .before .before .args .d .now)) (c .before .before .before .before .before .before .before .before .before .before .before .before .before .before .args .zone) _ (c .before .before .before .before .before .before .before .before .slot-of-joined .ensures) (c .before .before .before .before .before .before .before .if2 .left)))))

@@ -6,8 +6,8 @@ use native.Mathlib.Omega.{arith}
 use borrow.Author.Tests.{le-ltb, ne-eqb}
 use Rattle.device.specs.Refusals.{firstOf}
 use Rattle.device.specs.Calls.{overrideNumber, overrideAfter, goTogether}
-use Rattle.device.proofs.Tests.{via}
-use Rattle.device.proofs.Answered.{refused, accepted, timed}
+use Rattle.store.proofs.Tests.{via}
+use Rattle.store.proofs.Answered.{refused, accepted, timed}
 use Rattle.device.proofs.calls.set_override.Statement.{statement}
 use Rattle.device.proofs.calls.set_override.Tie as tie
 

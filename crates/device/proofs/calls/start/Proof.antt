@@ -1,6 +1,6 @@
 use Rattle.device.specs.Refusals.{firstOf}
 use Rattle.device.specs.Start.{startNumber, startAfter}
-use Rattle.device.proofs.Tests.{via}
+use Rattle.store.proofs.Tests.{via}
 use Rattle.device.proofs.calls.start.Statement.{statement}
 use Rattle.device.proofs.calls.start.Tie as tie
 

@@ -9,6 +9,6 @@ decide-spec =
     (tie.spec
     (λ c κs. search needs) (λ c κs. search needs) (λ c κs. search needs) (λ c κs. search needs)
     (λ c κs. search needs) (λ c κs. search needs) (λ c κs. search needs)
-    (λ c. rw (c .obeyed .ensures, c .before .before .before .before .before .settings-at .ensures, c .before .before .before .before .before .before .zone-at .ensures) (decided _ _ _ _ (c .before .before .before .before .before .before .before .seat-of .result) (c .before .before .number-of .result) (c .before .before .before .before .before .before .before .seat-of .ensures) (rw (c .before .before .before .overridden .ensures, c .before .before .before .before .clock .ensures, c .before .before .before .before .before .settings-at .ensures, c .before .before .before .before .before .before .zone-at .ensures) at (c .before .before .number-of .ensures)) (c .before .if1 .taken)))
+    (λ c. rw (c .obeyed .ensures, c .before .before .before .before .before .settings-at .ensures, c .before .before .before .before .before .before .zone-at .ensures) (decided _ _ _ _ (c .before .before .before .before .before .before .before .slot-of-joined .result) (c .before .before .number-of .result) (c .before .before .before .before .before .before .before .slot-of-joined .ensures) (rw (c .before .before .before .overridden .ensures, c .before .before .before .before .clock .ensures, c .before .before .before .before .before .settings-at .ensures, c .before .before .before .before .before .before .zone-at .ensures) at (c .before .before .number-of .ensures)) (c .before .if1 .taken)))
     (λ c κs. search needs)
-    (λ c. rw (c .free-zone .ensures) (undecided _ _ _ _ (c .before .before .before .before .before .before .before .seat-of .result) (c .before .before .number-of .result) (c .before .before .before .before .before .before .before .seat-of .ensures) (rw (c .before .before .before .overridden .ensures, c .before .before .before .before .clock .ensures, c .before .before .before .before .before .settings-at .ensures, c .before .before .before .before .before .before .zone-at .ensures) at (c .before .before .number-of .ensures)) (c .before .if1 .left))))
+    (λ c. rw (c .free-zone .ensures) (undecided _ _ _ _ (c .before .before .before .before .before .before .before .slot-of-joined .result) (c .before .before .number-of .result) (c .before .before .before .before .before .before .before .slot-of-joined .ensures) (rw (c .before .before .before .overridden .ensures, c .before .before .before .before .clock .ensures, c .before .before .before .before .before .settings-at .ensures, c .before .before .before .before .before .before .zone-at .ensures) at (c .before .before .number-of .ensures)) (c .before .if1 .left))))

@@ -1,5 +1,5 @@
 use borrow.Author.Tests.{eq-eqb, ne-eqb}
-use Rattle.device.specs.Words.{after}
+use Rattle.store.specs.Words.{after}
 use Rattle.device.specs.Commands.{enacted}
 use borrow.Author.Needs.{needs}
 use Rattle.device.proofs.commands.enact.Statement.{statement}

@@ -1,5 +1,5 @@
 use Rattle.device.specs.Refusals.{firstOf}
-use Rattle.device.proofs.Tests.{via}
+use Rattle.store.proofs.Tests.{via}
 use borrow.Author.Needs.{needs}
 use Rattle.device.proofs.commands.number_of.Statement.{statement}
 use Rattle.device.proofs.commands.number_of.Tie as tie

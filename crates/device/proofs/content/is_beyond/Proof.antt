@@ -1,5 +1,5 @@
 -- The test of the name comes first, as in the definition.
-use Rattle.device.proofs.Tests.{via}
+use Rattle.store.proofs.Tests.{via}
 use borrow.Author.Needs.{needs}
 use Rattle.device.proofs.content.is_beyond.Statement.{statement}
 use Rattle.device.proofs.content.is_beyond.Tie as tie

@@ -1,4 +1,4 @@
-use Rattle.device.proofs.Tests.{via}
+use Rattle.store.proofs.Tests.{via}
 use borrow.Author.Needs.{needs}
 use Rattle.device.proofs.content.is_stopped.Statement.{statement}
 use Rattle.device.proofs.content.is_stopped.Tie as tie

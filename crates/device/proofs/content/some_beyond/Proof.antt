@@ -4,9 +4,9 @@ use mathlib.Core.Path.{_≡_}
 use mathlib.Core.Bool.{false}
 use native.Mathlib.Omega.{arith}
 use borrow.Author.Needs.{needs}
-use Rattle.device.specs.Sizes.{helds}
+use Rattle.store.specs.Sizes.{helds}
 use Rattle.device.specs.Commands.{beyond, says, someOf}
-use Rattle.device.proofs.Tests.{via}
+use Rattle.store.proofs.Tests.{via}
 use Rattle.device.proofs.Quantities.{some-none, some-here, some-turn, some-end}
 use Rattle.device.proofs.content.some_beyond.Statement.{statement}
 use Rattle.device.proofs.content.some_beyond.Tie as tie

@@ -3,10 +3,10 @@ use native.Mathlib.Omega.{arith}
 use borrow.Author.Needs.{needs}
 use lib.ListN.{length, getD, length-set}
 use Prim.Native.Nat.{_-_, _≤_}
-use Rattle.device.specs.Sizes.{helds}
+use Rattle.store.specs.Sizes.{helds}
 use Rattle.device.specs.Commands.{action, done}
-use Rattle.device.specs.Zones.{upTo, nothing}
-use Rattle.device.proofs.Folds.{fill-end, length-of}
+use Rattle.store.specs.Zones.{upTo, nothing}
+use Rattle.store.proofs.Folds.{fill-end, length-of}
 use Rattle.device.proofs.Fills.{Worked, work-turn}
 use Rattle.device.proofs.obey.helds_after.Statement.{statement}
 use Rattle.device.proofs.obey.helds_after.Tie as tie

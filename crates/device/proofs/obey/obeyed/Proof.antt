@@ -1,5 +1,5 @@
 use Rattle.device.specs.Commands.{obeyed}
-use Rattle.device.specs.Zones.{heldOf}
+use Rattle.store.specs.Zones.{heldOf}
 use borrow.Author.Needs.{needs}
 use Rattle.device.proofs.obey.obeyed.Statement.{statement}
 use Rattle.device.proofs.obey.obeyed.Tie as tie

@@ -1,5 +1,5 @@
 use mir.Facts.{toZ-ofZ}
-use Rattle.device.proofs.Tests.{via}
+use Rattle.store.proofs.Tests.{via}
 use Rattle.device.proofs.Signs.{left-out, put-in}
 use borrow.Author.Needs.{needs}
 use Rattle.device.proofs.outcomes.stated.Statement.{statement}

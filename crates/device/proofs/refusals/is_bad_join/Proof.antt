@@ -1,6 +1,6 @@
 use borrow.Author.Tests.{lt-ltb, le-leb, lt-leb}
 use Rattle.device.specs.Calls.{badJoin}
-use Rattle.device.proofs.Tests.{ltb-not}
+use Rattle.store.proofs.Tests.{ltb-not}
 use Rattle.device.proofs.refusals.is_bad_join.Statement.{statement}
 use Rattle.device.proofs.refusals.is_bad_join.Tie as tie
 

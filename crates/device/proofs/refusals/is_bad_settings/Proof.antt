@@ -1,7 +1,7 @@
 use borrow.Author.Needs.{needs}
 use borrow.Author.Tests.{lt-ltb, le-ltb, le-leb, lt-leb}
 use Rattle.device.specs.Start.{badSettings}
-use Rattle.device.proofs.Tests.{via}
+use Rattle.store.proofs.Tests.{via}
 use Rattle.device.proofs.refusals.is_bad_settings.Statement.{statement}
 use Rattle.device.proofs.refusals.is_bad_settings.Tie as tie
 

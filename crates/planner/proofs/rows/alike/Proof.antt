@@ -7,7 +7,7 @@ use mir.Val.{SFits}
 use mir.ValLaws.{toZ-ofZ}
 use mir.Syntax.{w64}
 use lib.ListN.{getD, drop}
-use Rattle.device.specs.Sizes.{helds}
+use Rattle.store.specs.Sizes.{helds}
 use Rattle.planner.specs.Walk.{alike}
 use Rattle.planner.proofs.Alike.{alike-turn, alike-stop, alike-end}
 use Rattle.planner.proofs.rows.alike.Statement.{statement}

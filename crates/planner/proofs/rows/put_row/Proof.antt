@@ -10,7 +10,7 @@ use mir.ValLaws.{toZ-ofZ, toZ-pos}
 use mir.Syntax.{w64}
 use native.Mathlib.Numerals.{add-one}
 use native.Mathlib.Nat.{add-zero}
-use Rattle.device.specs.Sizes.{helds}
+use Rattle.store.specs.Sizes.{helds}
 use Rattle.planner.proofs.Written.{run-turn, run-end}
 use Rattle.planner.proofs.rows.put_row.Statement.{statement}
 use Rattle.planner.proofs.rows.put_row.Tie as tie

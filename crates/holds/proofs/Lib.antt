@@ -1,0 +1,7 @@
+pub mod Since
+pub mod LinkRow
+pub mod Placed
+pub mod Ends
+pub mod Claims
+pub mod Shows
+pub mod Steady

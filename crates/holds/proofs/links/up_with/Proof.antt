@@ -1,0 +1,14 @@
+use mathlib.Core.Path.{_∙_, ap, sym}
+use Rattle.store.specs.declared.Zone.{Zone}
+use Rattle.holds.proofs.Placed.{placed-here, placed-other}
+use borrow.Author.Needs.{needs}
+use Rattle.holds.proofs.links.up_with.Statement.{statement}
+use Rattle.holds.proofs.links.up_with.Tie as tie
+
+pub up-with-spec : {M : Type 1} → statement M
+up-with-spec =
+    tie.close
+    (tie.spec
+    (λ c. rw (placed-here (c .before .args .d .now) (c .before .args .slot) (c .before .args .zone) (c .before .args .i) (c .before .pre) (c .if1 .taken)))
+    (λ c κs. search needs)
+    (λ c. c .up-at .ensures ∙ ap (λ (x : Zone). x .up) (sym (placed-other (c .before .before .args .d .now) (c .before .before .args .slot) (c .before .before .args .zone) (c .before .before .args .i) (c .before .if1 .left)))))

@@ -1,0 +1,24 @@
+use Prim.Native.Nat.{_-_, _≤_}
+use native.Mathlib.Omega.{arith}
+use borrow.Author.Needs.{needs}
+use Rattle.store.specs.Sizes.{slots}
+use Rattle.store.specs.Words.{zonesOf}
+use Rattle.store.proofs.Lens.{zones-length}
+use Rattle.holds.proofs.Claims.{Passed, pass-none, pass-turn, pass-end}
+use Rattle.holds.proofs.tops.tops.Statement.{statement}
+use Rattle.holds.proofs.tops.tops.Tie as tie
+
+abbrev Inv-loop : tie.InvT-loop
+Inv-loop d t g₀ i₀ g i = (i ≤ slots) × Passed t (zonesOf d) i g
+
+abbrev μ-loop : tie.MeasureT-loop
+μ-loop d t g₀ i₀ g i = slots - i
+
+pub tops-spec : {M : Type 1} → statement M
+tops-spec =
+    tie.close
+    (tie.spec
+    Inv-loop μ-loop (λ c κs. search needs) (λ c. (omega arith, pass-none (c .before .args .t) (zonesOf (c .before .args .d .now)) _ (c .none-met .ensures .0) (c .none-met .ensures .1)))
+    (λ c κs. search needs) (λ c κs. search needs) (λ c. omega arith) (λ c. omega arith)
+    (λ c. (omega arith, pass-turn (c .before .before .before .before .before .args .t) (zonesOf (c .before .before .before .before .before .args .d .now)) (c .before .before .before .loop .i) _ _ _ (omega (arith, zones-length (c .before .before .before .before .before .args .d .now))) (c .before .zone-at .ensures) (c .before .before .before .loop .inv .1) (c .with-zone .ensures .0) (c .with-zone .ensures .1)))
+    (λ c. pass-end (c .before .before .before .args .t) (zonesOf (c .before .before .before .args .d .now)) (c .before .loop .i) _ (omega (arith, zones-length (c .before .before .before .args .d .now))) (c .before .loop .inv .1)))

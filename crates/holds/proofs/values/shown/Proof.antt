@@ -1,0 +1,14 @@
+use borrow.Author.Tests.{lt-ltb, le-ltb}
+use Rattle.holds.specs.Holds.{shown}
+use borrow.Author.Needs.{needs}
+use Rattle.holds.proofs.values.shown.Statement.{statement}
+use Rattle.holds.proofs.values.shown.Tie as tie
+
+pub shown-spec : {M : Type 1} → statement M
+unfolding shown
+shown-spec =
+    tie.close
+    (tie.spec
+    (λ c. search needs) (λ c. search needs) (λ c. search needs) (λ c. rw (c .enum-told .given .1))
+    (λ c. rw (c .before .before .a .given .1, lt-ltb _ _ (c .if1 .taken)))
+    (λ c. rw (c .before .before .a .given .1, le-ltb _ _ (c .if1 .left))))

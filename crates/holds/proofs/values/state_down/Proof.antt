@@ -1,0 +1,11 @@
+use borrow.Author.Tests.{eq-eqb, ne-eqb}
+use Rattle.holds.specs.Pass.{stateDown}
+use Rattle.holds.proofs.values.state_down.Statement.{statement}
+use Rattle.holds.proofs.values.state_down.Tie as tie
+
+pub state-down-spec : {M : Type 1} → statement M
+unfolding stateDown
+state-down-spec =
+    tie.close
+    (tie.spec
+    (λ c. rw (ne-eqb _ _ (c .if1 .taken))) (λ c. rw (eq-eqb _ _ (c .if1 .left))))

@@ -1,0 +1,36 @@
+-- The seconds at which what holds can change, and the next of them.
+use Prim.Native.Nat.{ℕ, _+_}
+use mathlib.Core.Bool.{cond, _&&_}
+use mathlib.Core.List.{List, [], _∷_, _++_, foldl}
+use lib.Dec.{ltb}
+use Rattle.store.specs.Sizes.{helds, end}
+use Rattle.store.specs.Zones.{upTo, heldOf, isJoined, anyJoined, anyUp}
+use Rattle.holds.specs.Holds.{Situation, valuesAt}
+use Rattle.store.specs.declared.Zone.{Zone}
+use Rattle.holds.specs.declared.View.{View}
+
+-- the seconds at which a joined zone's values end
+unfoldable pub zoneDues : Zone → List ℕ
+zoneDues x = cond (isJoined x) (upTo (λ q. heldOf x q .until) helds) []
+
+unfoldable pub heldDues : List Zone → List ℕ
+heldDues [] = []
+heldDues (x ∷ xs) = zoneDues x ++ heldDues xs
+
+-- the seconds at which what holds can change, links and override unmoved
+unfoldable pub dues : Situation → List ℕ
+dues s =
+    cond (anyUp (s .zones)) (heldDues (s .zones))
+    (cond (anyJoined (s .zones)) ((s .since + s .settings .duration) ∷ []) [])
+
+-- the nearer of r and, where it lies past cur, e
+unfoldable pub nearer : ℕ → ℕ → ℕ → ℕ
+nearer cur r e = cond (ltb cur e && ltb e r) e r
+
+-- the next due second past cur, or the end where there is none before it
+unfoldable pub nearest : ℕ → List ℕ → ℕ
+nearest cur ds = foldl (nearer cur) end ds
+
+-- what holds at t, and until when it cannot change
+abbrev pub viewAt : Situation → ℕ → View
+viewAt s t = record { values = valuesAt s t; next = nearest t (dues s) }

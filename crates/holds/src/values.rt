@@ -1,0 +1,216 @@
+// What holds at a second: the table of links, and the control state.
+use crate::View;
+use crate::links::link_row;
+use crate::links::link_row_with;
+use crate::tops::Met;
+use crate::tops::tops;
+use crate::tops::tops_with;
+use messages::Amount;
+use store::END;
+use store::Settings;
+use store::State;
+use store::VALUE_END;
+use store::VALUES;
+use store::Zone;
+use store::overridden;
+use store::settings_at;
+use store::since;
+ghost use mathlib.Core.Path.{_≡_};
+ghost use mathlib.Core.Bool.{cond, _&&_};
+ghost use mathlib.Core.List.{[], _∷_};
+ghost use Prim.Native.Nat.{_+_};
+ghost use lib.Dec.{ltb};
+ghost use Rattle.store.specs.Sizes.{end};
+ghost use Rattle.store.specs.Words.{sinceOf, overrideOf, settingsOf};
+ghost use Rattle.holds.specs.Holds.{supports, shown, situationOf, withZone, valuesAt};
+ghost use Rattle.holds.specs.Dues.{nearer, viewAt};
+ghost use Rattle.holds.specs.Pass.{shownIf, stateUp, stateDown, valuesUp, valuesDown};
+
+// Of the supported directions, 2 is both.
+pub fn supports(has: u64, d: u64) -> bool
+    ensures { λ r. ⌜ r ≡ supports has d ⌝ }
+{
+    if d < 2 {
+        if has == 2 {
+            return true;
+        }
+        return has == d;
+    }
+    false
+}
+
+// A value at the edges: -1 where it is absent, or too large to be one.
+pub fn shown(a: Amount) -> i64
+    ensures { λ r. ⌜ r ≡ shown a ⌝ }
+{
+    match a {
+        Amount::Absent => -1,
+        Amount::Is(v) => if v < VALUE_END { v as i64 } else { -1 },
+    }
+}
+
+fn shown_if(has: u64, d: u64, v: u64) -> i64
+    ensures { λ r. ⌜ r ≡ shownIf has d v ⌝ }
+{
+    if supports(has, d) {
+        return shown(Amount::Is(v));
+    }
+    -1
+}
+
+fn state_up(overridden: u64, a: i64, b: i64) -> i64
+    ensures { λ r. ⌜ r ≡ stateUp overridden a b ⌝ }
+{
+    if overridden != 0 {
+        return 4;
+    }
+    if 0 <= a {
+        return 2;
+    }
+    if 0 <= b {
+        return 2;
+    }
+    1
+}
+
+// The control state beside four values, some zone up.
+fn with_state(overridden: u64, a: i64, b: i64, c: i64, e: i64) -> [i64; VALUES]
+    ensures { λ r. ⌜ r ≡ stateUp overridden a b ∷ a ∷ b ∷ c ∷ e ∷ [] ⌝ }
+{
+    [state_up(overridden, a, b), a, b, c, e]
+}
+
+// The first row: some zone up. Where both directions are supported, no value is tested for its own.
+fn values_up(d: &State, g: Met) -> [i64; VALUES]
+    ensures { λ r. ⌜ r ≡ valuesUp (settingsOf (now (d .entry)) .directions) (overrideOf (now (d .entry))) g ⌝ }
+{
+    let has = settings_at(d).directions;
+    if has == 2 {
+        return with_state(
+            overridden(d),
+            shown(Amount::Is(g.limit0)),
+            shown(Amount::Is(g.limit1)),
+            shown(Amount::Is(g.set0)),
+            shown(Amount::Is(g.set1)),
+        );
+    }
+    with_state(
+        overridden(d),
+        shown_if(has, 0, g.limit0),
+        shown_if(has, 1, g.limit1),
+        shown_if(has, 0, g.set0),
+        shown_if(has, 1, g.set1),
+    )
+}
+
+// The end is tested by a difference: a sum could pass the largest word.
+fn failsafe_holds(since: u64, duration: u64, t: u64) -> bool
+    ensures { λ r. ⌜ r ≡ ltb t (since + duration) ⌝ }
+{
+    if t < since {
+        return true;
+    }
+    t - since < duration
+}
+
+fn state_down(overridden: u64) -> i64
+    ensures { λ r. ⌜ r ≡ stateDown overridden ⌝ }
+{
+    if overridden != 0 {
+        return 4;
+    }
+    0
+}
+
+// The other rows: no zone up.
+fn values_down(d: &State, joined: bool, t: u64) -> [i64; VALUES]
+    ensures { λ r. ⌜ r ≡ valuesDown (settingsOf (now (d .entry))) (overrideOf (now (d .entry))) (joined && ltb t (sinceOf (now (d .entry)) + settingsOf (now (d .entry)) .duration)) ⌝ }
+{
+    let s = settings_at(d);
+    if joined {
+        if failsafe_holds(since(d), s.duration, t) {
+            return [
+                3,
+                shown_if(s.directions, 0, s.failsafe[0]),
+                shown_if(s.directions, 1, s.failsafe[1]),
+                -1,
+                -1,
+            ];
+        }
+    }
+    [state_down(overridden(d)), -1, -1, -1, -1]
+}
+
+// What holds at t.
+pub fn values_at(d: &State, t: u64) -> [i64; VALUES]
+    ensures { λ r. ⌜ r ≡ valuesAt (situationOf (now (d .entry))) t ⌝ }
+{
+    let n = link_row(d);
+    if n == 2 {
+        return values_up(d, tops(d, t));
+    }
+    values_down(d, n == 1, t)
+}
+
+// What would hold at t with the given record in a slot's place; SLOTS and above are no slot.
+pub fn values_with(d: &State, slot: usize, zone: Zone, t: u64) -> [i64; VALUES]
+    ensures { λ r. ⌜ r ≡ valuesAt (withZone (situationOf (now (d .entry))) slot zone) t ⌝ }
+{
+    let n = link_row_with(d, slot, zone);
+    if n == 2 {
+        return values_up(d, tops_with(d, slot, zone, t));
+    }
+    values_down(d, n == 1, t)
+}
+
+fn nearer(cur: u64, r: u64, e: u64) -> u64
+    ensures { λ x. ⌜ x ≡ nearer cur r e ⌝ }
+{
+    if cur < e {
+        if e < r {
+            return e;
+        }
+        return r;
+    }
+    r
+}
+
+// A failsafe that ends past the end of time does not end. The sum of any two words could pass the largest.
+fn failsafe_end(since: u64, duration: u64, cur: u64) -> u64
+    ensures { λ r. ⌜ r ≡ nearer cur end (since + duration) ⌝ }
+{
+    if since < END {
+        if duration < END - since {
+            return nearer(cur, END, since + duration);
+        }
+        return END;
+    }
+    END
+}
+
+fn next_down(d: &State, joined: bool, t: u64) -> u64
+    ensures { λ r. ⌜ r ≡ cond joined (nearer t end (sinceOf (now (d .entry)) + settingsOf (now (d .entry)) .duration)) end ⌝ }
+{
+    if joined {
+        return failsafe_end(since(d), settings_at(d).duration, t);
+    }
+    END
+}
+
+// What holds at t, and until when it cannot change.
+pub fn view_at(d: &State, t: u64) -> View
+    ensures { λ r. ⌜ r ≡ viewAt (situationOf (now (d .entry))) t ⌝ }
+{
+    let n = link_row(d);
+    if n == 2 {
+        let g = tops(d, t);
+        return View {
+            values: values_up(d, g),
+            next: g.next,
+        };
+    }
+    View {
+        values: values_down(d, n == 1, t),
+        next: next_down(d, n == 1, t),
+    }
+}

@@ -1,0 +1,26 @@
+use lib.ListN.{length-set, length, take}
+use Rattle.store.specs.Sizes.{helds}
+use Rattle.store.proofs.Folds.{fill-turn, fill-end}
+use Rattle.store.specs.Zones.{upTo}
+use Rattle.store.specs.Words.{heldIn}
+use mathlib.Core.Path.{_≡_, refl}
+use Prim.Native.Nat.{_≤_, _-_}
+use native.Mathlib.Omega.{arith}
+use Rattle.store.proofs.lenses.helds_in.Statement.{statement}
+use Rattle.store.proofs.lenses.helds_in.Tie as tie
+
+abbrev Inv-loop : tie.InvT-loop
+Inv-loop s p hs₀ q₀ hs q = (q ≤ helds) × (length hs ≡ helds) × (take q hs ≡ upTo (heldIn s p) q)
+
+abbrev μ-loop : tie.MeasureT-loop
+μ-loop s p hs₀ q₀ hs q = helds - q
+
+pub helds-in-spec : {M : Type 1} → statement M
+unfolding upTo
+helds-in-spec =
+    tie.close
+    (tie.spec
+    Inv-loop μ-loop (λ c. (omega arith, refl, refl)) (λ c κs. omega arith) (λ c. omega arith)
+    (λ c. omega arith) (λ c. omega arith) (λ c. omega arith)
+    (λ c. (omega arith, simp length-set (c .before .before .loop .inv .1), fill-turn _ _ (c .before .before .loop .q) _ (omega arith) (c .before .before .loop .inv .2) (c .held-in .ensures)))
+    (λ c. fill-end _ _ (c .before .loop .q) helds (c .before .loop .inv .1) (omega arith) (omega arith) (c .before .loop .inv .2)))

@@ -1,0 +1,9 @@
+use Rattle.store.proofs.Slots.{slot-joined}
+use Rattle.store.proofs.lenses.is_joined.Statement.{statement}
+use Rattle.store.proofs.lenses.is_joined.Tie as tie
+
+pub is-joined-spec : {M : Type 1} → statement M
+is-joined-spec =
+    tie.close
+    (tie.spec
+    (λ c κs. tt) (λ c. rw (c .slot-of-joined .ensures) (slot-joined _ _)))

@@ -1,0 +1,15 @@
+use mathlib.Core.Path.{_≡_, sym, ap}
+use native.Mathlib.Omega.{arith}
+use lib.ListN.{length, List·getD-eq-default}
+use borrow.Author.Needs.{needs}
+use Rattle.store.specs.Sizes.{words}
+use Rattle.store.proofs.lenses.word.Statement.{statement}
+use Rattle.store.proofs.lenses.word.Tie as tie
+
+pub word-spec : {M : Type 1} → statement M
+word-spec =
+    tie.close
+    (tie.spec
+    (λ c. search needs) (λ c. search needs) (λ c. search needs) (λ c κs. tt)
+    (λ c. let l : length (c .all .result) ≡ words = search needs in
+    sym (List·getD-eq-default (c .before .before .args .d .now) 0 {n = c .before .before .args .i} (omega (arith, ap length (c .all .ensures))))))

@@ -1,0 +1,18 @@
+use Rattle.store.proofs.Lens.{zones-at, zones-past}
+use Rattle.store.specs.Zones.{freeZone}
+use Rattle.store.specs.Words.{zoneAt}
+use mathlib.Core.Path.{sym, _∙_}
+use borrow.Author.Needs.{needs}
+use Rattle.store.proofs.lenses.zone_at.Statement.{statement}
+use Rattle.store.proofs.lenses.zone_at.Tie as tie
+
+pub zone-at-spec : {M : Type 1} → statement M
+unfolding zoneAt
+zone-at-spec =
+    tie.close
+    (tie.spec
+    (λ c. search needs) (λ c. search needs) (λ c κs. search needs) (λ c. search needs) (λ c κs. search needs)
+    (λ c. search needs) (λ c κs. search needs)
+    (λ c. rw (c .before .before .word .ensures, c .before .word2 .ensures, c .helds-in .ensures) (sym (zones-at _ _ freeZone (c .before .before .before .if1 .taken))))
+    (λ c κs. search needs)
+    (λ c. c .free-zone .ensures ∙ sym (zones-past _ _ (c .before .if1 .left))))

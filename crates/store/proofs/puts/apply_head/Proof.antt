@@ -1,0 +1,10 @@
+use Rattle.store.proofs.Stores.{head-stored}
+use Rattle.store.proofs.puts.apply_head.Statement.{statement}
+use Rattle.store.proofs.puts.apply_head.Tie as tie
+
+pub apply-head-spec : {M : Type 1} → statement M
+apply-head-spec =
+    tie.close
+    (tie.spec
+    (λ c κs. tt) (λ c κs. tt)
+    (λ c. rw (c .put-word2 .ensures, c .before .before .put-word .ensures) (head-stored _ _ _)))

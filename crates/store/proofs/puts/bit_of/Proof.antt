@@ -1,0 +1,10 @@
+use Rattle.store.specs.Words.{bit}
+use Rattle.store.proofs.puts.bit_of.Statement.{statement}
+use Rattle.store.proofs.puts.bit_of.Tie as tie
+
+pub bit-of-spec : {M : Type 1} → statement M
+unfolding bit
+bit-of-spec =
+    tie.close
+    (tie.spec
+    (λ c. rw (c .if1 .taken)) (λ c. rw (c .if1 .left)))

@@ -1,0 +1,11 @@
+use Rattle.store.specs.Words.{fresh}
+use Rattle.store.proofs.puts.fresh.Statement.{statement}
+use Rattle.store.proofs.puts.fresh.Tie as tie
+
+pub fresh-spec : {M : Type 1} → statement M
+unfolding fresh
+fresh-spec =
+    tie.close
+    (tie.spec
+    (λ c κs. tt) (λ c κs. tt)
+    (λ c. rw (c .put-settings .ensures, c .before .setting-words .ensures)))

@@ -1,0 +1,10 @@
+use borrow.Author.Needs.{needs}
+use Rattle.store.proofs.puts.put_held.Statement.{statement}
+use Rattle.store.proofs.puts.put_held.Tie as tie
+
+pub put-held-spec : {M : Type 1} → statement M
+put-held-spec =
+    tie.close
+    (tie.spec
+    (λ c κs. search needs) (λ c. search needs) (λ c κs. search needs)
+    (λ c. rw (c .put-word2 .ensures, c .before .before .put-word .ensures)))

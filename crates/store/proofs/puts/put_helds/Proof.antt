@@ -1,0 +1,26 @@
+use Rattle.store.specs.Sizes.{helds}
+use Rattle.store.proofs.HeldWords.{store-start, store-turn, store-end}
+use Rattle.store.proofs.Folds.{length-of}
+use Rattle.store.specs.Words.{heldWords}
+use lib.Seq.{sets}
+use lib.ListN.{length, drop}
+use mathlib.Core.Path.{_≡_}
+use Prim.Native.Nat.{_≤_, _-_, _+_, _*_}
+use native.Mathlib.Omega.{arith}
+use Rattle.store.proofs.puts.put_helds.Statement.{statement}
+use Rattle.store.proofs.puts.put_helds.Tie as tie
+
+abbrev Inv-loop : tie.InvT-loop
+Inv-loop s₀ p hs q₀ s q = (q ≤ helds) × (sets s (p + 2 * q) (heldWords (drop q hs)) ≡ sets s₀ p (heldWords hs))
+
+abbrev μ-loop : tie.MeasureT-loop
+μ-loop s₀ p hs q₀ s q = helds - q
+
+pub put-helds-spec : {M : Type 1} → statement M
+put-helds-spec =
+    tie.close
+    (tie.spec
+    Inv-loop μ-loop (λ c. (omega arith, store-start _ _ _)) (λ c. omega arith) (λ c. omega arith)
+    (λ c. omega arith) (λ c. omega arith) (λ c κs. omega arith) (λ c. omega arith) (λ c. omega arith)
+    (λ c. (omega arith, store-turn _ _ _ _ (c .before .before .before .before .loop .q) _ _ (let l : length (c .before .before .before .before .before .args .t3) ≡ helds = search length-of in omega arith) (c .before .before .before .before .loop .inv .1) (c .put-held .ensures)))
+    (λ c. store-end _ _ _ (c .before .loop .q) _ (let l : length (c .before .before .args .t3) ≡ helds = search length-of in omega arith) (c .before .loop .inv .1)))

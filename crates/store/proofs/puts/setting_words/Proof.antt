@@ -1,0 +1,12 @@
+use borrow.Author.Needs.{needs}
+use Rattle.store.specs.Words.{settingWords}
+use Rattle.store.proofs.puts.setting_words.Statement.{statement}
+use Rattle.store.proofs.puts.setting_words.Tie as tie
+
+pub setting-words-spec : {M : Type 1} → statement M
+unfolding settingWords
+setting-words-spec =
+    tie.close
+    (tie.spec
+    (λ c κs. tt) (λ c κs. tt) (λ c. search needs) (λ c. search needs) (λ c. search needs) (λ c. search needs) (λ c κs. tt)
+    (λ c. rw (c .before .before .bit-of .ensures, c .before .bit-of2 .ensures, c .bit-of3 .ensures)))

@@ -1,0 +1,11 @@
+use borrow.Author.Tests.{lt-ltb, le-ltb}
+use Rattle.store.specs.Times.{late}
+use Rattle.store.proofs.times.is_late.Statement.{statement}
+use Rattle.store.proofs.times.is_late.Tie as tie
+
+pub is-late-spec : {M : Type 1} → statement M
+unfolding late
+is-late-spec =
+    tie.close
+    (tie.spec
+    (λ c. rw (lt-ltb _ _ (c .if1 .taken))) (λ c. rw (le-ltb _ _ (c .if1 .left))))

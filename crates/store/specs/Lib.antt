@@ -1,0 +1,4 @@
+pub mod Sizes
+pub mod Zones
+pub mod Words
+pub mod Times

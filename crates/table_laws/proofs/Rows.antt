@@ -1,0 +1,176 @@
+-- The four rows of the table of links, and the control state: what `Table` promises holds in every situation, at every second.
+use Prim.Native.Nat.{ℕ, _+_, _<_, _≤_}
+use mathlib.Core.Bool.{Bool, true, false, cond, not, _&&_, _||_}
+use mathlib.Core.Logic.{inl, inr}
+use mathlib.Core.Path.{_≡_, refl, sym, ap, _∙_}
+use mathlib.Core.List.{List, [], _∷_}
+use native.Mathlib.Decide.{decLt}
+use native.Mathlib.Omega.{arith}
+use borrow.Author.Tests.{lt-ltb, le-ltb, ltb-false}
+use lib.Dec.{ltb, eqb}
+use lib.ListN.{getD}
+use Rattle.messages.specs.Numbers.{AUTONOMOUS, CONTROLLED, LIMITED, FAILSAFE, OVERRIDE}
+use Rattle.messages.specs.declared.Amount.the-variants.{Absent, Is}
+use Rattle.store.specs.Zones.{idOf, rankOf, freeZone, any, isJoined, isUp, anyJoined, anyUp, heldOf}
+use Rattle.holds.specs.Holds.{isLimit, directionOf, supports, Claim, claimOf, goesBefore, winner, amountOf, Situation, inFailsafe, failsafeValue, valueAt, present, stateAt}
+use Rattle.messages.specs.Refusals.{firstOf}
+use Rattle.table_laws.specs.Table.{Unexpired, Some, SmallestLimit, NoBetter, BestSetpoint, SomeUp, NoneUp, StateOrder, Table}
+use Rattle.store.specs.declared.Zone.{Zone}
+use Rattle.store.proofs.Tests.{never}
+use Rattle.table_laws.proofs.Before.{not-earlier}
+use Rattle.table_laws.proofs.Winner.{claim-there, wins}
+
+-- no zone joined: none up
+joined-first : (zs : List Zone) → anyJoined zs ≡ false → anyUp zs ≡ false
+unfolding anyJoined anyUp any isUp
+joined-first [] e = refl
+joined-first (x ∷ zs) e = go (isJoined x) (x .up) (λ f. joined-first zs f) e
+  where
+    go : (a b : Bool) → (any isJoined zs ≡ false → any isUp zs ≡ false) → (a || any isJoined zs) ≡ false → ((a && b) || any isUp zs) ≡ false
+    go true b more f = absurd (never f)
+    go false b more f = more f
+
+module _ (s : Situation) (t : ℕ) where
+  abbrev supported : ℕ → Bool
+  supported q = supports (s .settings .directions) (directionOf q)
+
+  -- SOME ZONE UP
+  module _ (up : anyUp (s .zones) ≡ true) (q : ℕ) where
+    abbrev best : Claim
+    best = winner t q (s .zones)
+
+    from-best : supported q ≡ true → valueAt s t q ≡ amountOf best
+    unfolding valueAt
+    from-best e = rw (e, up)
+
+    amount-there : (c : Claim) (v : ℕ) → amountOf c ≡ Is v → (c .there ≡ true) × (c .value ≡ v)
+    amount-there c v = go (c .there) refl
+      where
+        go : (b : Bool) → c .there ≡ b → cond b (Is (c .value)) Absent ≡ Is v → (c .there ≡ true) × (c .value ≡ v)
+        go true e f = (e, cc)
+        go false e f = let z : _≡_ {A = ℕ} 0 1 = cc in absurd (omega arith)
+
+    amount-none : (c : Claim) → amountOf c ≡ Absent → c .there ≡ false
+    amount-none c = go (c .there) refl
+      where
+        go : (b : Bool) → c .there ≡ b → cond b (Is (c .value)) Absent ≡ Absent → b ≡ false
+        go true e f = let z : _≡_ {A = ℕ} 0 1 = cc in absurd (omega arith)
+        go false e f = refl
+
+    value-there : (v : ℕ) → valueAt s t q ≡ Is v → (best .there ≡ true) × (best .value ≡ v)
+    unfolding valueAt
+    value-there v = go (supported q) refl
+      where
+        go : (b : Bool) → supported q ≡ b → cond b (cond (anyUp (s .zones)) (amountOf best) (cond (inFailsafe s t) (failsafeValue (s .settings) q) Absent)) Absent ≡ Is v → (best .there ≡ true) × (best .value ≡ v)
+        go true e f = amount-there best v (rw up at f)
+        go false e f = let z : _≡_ {A = ℕ} 0 1 = cc in absurd (omega arith)
+
+    -- the best claim is that of a zone
+    same-value : (x : Zone) → Unexpired t q x → claimOf t q x ≡ best → heldOf x q .value ≡ best .value
+    same-value x u e = ap (λ (c : Claim). c .value) (sym (claim-there t q x u) ∙ e)
+
+    smallest-limit : isLimit q ≡ true → SmallestLimit s t q
+    unfolding goesBefore
+    smallest-limit l v e =
+        let b : (best .there ≡ true) × (best .value ≡ v) = value-there v e in
+        let w : Some t q (s .zones) (λ x. claimOf t q x ≡ best) = wins t q (s .zones) .held (b .0) in (
+          (w .0, w .1, w .2, same-value (getD (s .zones) (w .0) freeZone) (w .2) (w .3) ∙ b .1),
+          (λ i h u. rw (← b .1) (ltb-false _ _ (rw (l, claim-there t q (getD (s .zones) i freeZone) u) at (wins t q (s .zones) .first i h u)))),
+        )
+
+    no-better : (x y : Zone) → (rankOf x ≤ rankOf y) → (rankOf y ≡ rankOf x → idOf x ≤ idOf y) → NoBetter x y
+    no-better x y h f =
+        elim (decLt (rankOf x) (rankOf y)) [
+          | yes k ↦ inl k
+          | no k ↦ let e : rankOf y ≡ rankOf x = omega arith in inr (sym e, f e)
+        ]
+
+    best-setpoint : isLimit q ≡ false → BestSetpoint s t q
+    unfolding goesBefore
+    best-setpoint l v e =
+        let b : (best .there ≡ true) × (best .value ≡ v) = value-there v e in
+        let w : Some t q (s .zones) (λ x. claimOf t q x ≡ best) = wins t q (s .zones) .held (b .0) in
+        let x : Zone = getD (s .zones) (w .0) freeZone in
+        let r : rankOf x ≡ best .rank = ap (λ (c : Claim). c .rank) (sym (claim-there t q x (w .2)) ∙ w .3) in
+        let j : idOf x ≡ best .id = ap (λ (c : Claim). c .id) (sym (claim-there t q x (w .2)) ∙ w .3) in (
+          w .0,
+          w .1,
+          w .2,
+          (
+            same-value x (w .2) (w .3) ∙ b .1,
+            λ i h u.
+                let y : Zone = getD (s .zones) i freeZone in
+                let n : (best .rank ≤ rankOf y) × (rankOf y ≡ best .rank → best .id ≤ idOf y) = not-earlier (rankOf y) (idOf y) (best .rank) (best .id) (rw (l, claim-there t q y u) at (wins t q (s .zones) .first i h u)) in
+                no-better x y (rw r (n .0)) (λ k. rw j (n .1 (k ∙ r))),
+          ),
+        )
+
+    pub some-up : SomeUp s t q
+    some-up =
+        record {
+          limit = smallest-limit;
+          setpoint = best-setpoint;
+          absent = λ e. (λ f. wins t q (s .zones) .none .0 (amount-none best (sym (from-best e) ∙ f)), λ f. from-best e ∙ rw (wins t q (s .zones) .none .1 f));
+        }
+
+  -- ZONES JOINED, NONE UP
+  module _ (down : anyUp (s .zones) ≡ false) (joined : anyJoined (s .zones) ≡ true) where
+    row-is : inFailsafe s t ≡ ltb t (s .since + s .settings .duration)
+    unfolding inFailsafe
+    row-is = rw (down, joined)
+
+    in-row : t < s .since + s .settings .duration → (stateAt s t ≡ FAILSAFE) × ((q : ℕ) → supported q ≡ true → valueAt s t q ≡ failsafeValue (s .settings) q)
+    unfolding stateAt valueAt
+    in-row h =
+        let r : inFailsafe s t ≡ true = row-is ∙ lt-ltb t (s .since + s .settings .duration) h in
+        (rw r, λ q e. rw (e, down, r))
+
+    out-of-row : inFailsafe s t ≡ false → (q : ℕ) → valueAt s t q ≡ Absent
+    unfolding valueAt
+    out-of-row r q = rw (down, r) (go (supported q))
+      where
+        go : (b : Bool) → cond b Absent Absent ≡ Absent
+        go true = refl
+        go false = refl
+
+    other-state : (a b c : Bool) → cond a OVERRIDE (cond b LIMITED (cond c CONTROLLED AUTONOMOUS)) ≡ FAILSAFE → ⊥
+    other-state true b c e = omega arith
+    other-state false true c e = omega arith
+    other-state false false true e = omega arith
+    other-state false false false e = omega arith
+
+    past-row : s .since + s .settings .duration ≤ t → (stateAt s t ≡ FAILSAFE → ⊥) × ((q : ℕ) → valueAt s t q ≡ Absent)
+    unfolding stateAt
+    past-row h =
+        let r : inFailsafe s t ≡ false = row-is ∙ le-ltb t (s .since + s .settings .duration) h in
+        (λ e. other-state (not (eqb (s .override) 0)) (present (valueAt s t 0) || present (valueAt s t 1)) (anyUp (s .zones)) (rw r at e), out-of-row r)
+
+    pub none-up : NoneUp s t
+    none-up = record { before = in-row; past = past-row }
+
+  -- THE REST
+  none-joined : anyJoined (s .zones) ≡ false → (q : ℕ) → valueAt s t q ≡ Absent
+  unfolding valueAt inFailsafe
+  none-joined e q = rw (joined-first (s .zones) e, e) (go (supported q))
+    where
+      go : (b : Bool) → cond b Absent Absent ≡ Absent
+      go true = refl
+      go false = refl
+
+  unsupported-absent : (q : ℕ) → supported q ≡ false → valueAt s t q ≡ Absent
+  unfolding valueAt
+  unsupported-absent q e = rw e
+
+  state-order : StateOrder s t
+  unfolding stateAt firstOf
+  state-order = refl
+
+  pub table : Table s t
+  table =
+      record {
+        someUp = some-up;
+        noneUp = none-up;
+        noneJoined = none-joined;
+        unsupported = unsupported-absent;
+        state = state-order;
+      }

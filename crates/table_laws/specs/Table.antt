@@ -1,0 +1,76 @@
+-- What the table of links promises, in the tender's words: one statement for all quantities and directions.
+use Prim.Native.Nat.{ℕ, _+_, _<_, _≤_}
+use mathlib.Core.Bool.{true, false, cond, not, _||_}
+use mathlib.Core.Logic.{_⊎_, _↔_}
+use mathlib.Core.Path.{_≡_}
+use mathlib.Core.List.{List, [], _∷_}
+use lib.Dec.{ltb, eqb}
+use lib.ListN.{length, getD}
+use Rattle.messages.specs.Numbers.{CONTROLLED, LIMITED, FAILSAFE, OVERRIDE}
+use Rattle.messages.specs.declared.Amount.the-variants.{Absent, Is}
+use Rattle.store.specs.Sizes.{helds, most}
+use Rattle.store.specs.Zones.{idOf, rankOf, freeZone, isJoined, anyJoined, anyUp, heldOf}
+use Rattle.holds.specs.Holds.{isLimit, directionOf, supports, noClaim, claimOf, goesBefore, winner, Situation, inFailsafe, failsafeValue, valueAt, present, stateAt}
+use Rattle.messages.specs.Refusals.{firstOf}
+use Rattle.store.specs.declared.Zone.{Zone}
+use Rattle.store.specs.declared.Settings.{Settings}
+
+-- a zone that is joined and whose value of quantity q has not expired at t
+abbrev pub Unexpired : ℕ → ℕ → Zone → Type 0
+Unexpired t q x = (isJoined x ≡ true) × (t < heldOf x q .until)
+
+-- what P says holds of some slot's zone with an unexpired value; of each
+abbrev pub Some : ℕ → ℕ → List Zone → (Zone → Type 0) → Type 0
+Some t q zs P = (i : ℕ) × (i < length zs) × Unexpired t q (getD zs i freeZone) × P (getD zs i freeZone)
+
+abbrev pub Each : ℕ → ℕ → List Zone → (Zone → Type 0) → Type 0
+Each t q zs P = (i : ℕ) → i < length zs → Unexpired t q (getD zs i freeZone) → P (getD zs i freeZone)
+
+-- the winning claim is an unexpired one, and none goes before it; there is a winner exactly when there is one
+pub record Wins (t q : ℕ) (zs : List Zone) : Type 0 where
+  pub held : winner t q zs .there ≡ true → Some t q zs (λ x. claimOf t q x ≡ winner t q zs)
+  pub first : Each t q zs (λ x. goesBefore q (claimOf t q x) (winner t q zs) ≡ false)
+  pub none : (winner t q zs .there ≡ false) ↔ Each t q zs (λ x. ⊥)
+
+-- "smallest unexpired of all joined zones"
+abbrev pub SmallestLimit : Situation → ℕ → ℕ → Type 0
+SmallestLimit s t q =
+    (v : ℕ) → valueAt s t q ≡ Is v → Some t q (s .zones) (λ x. heldOf x q .value ≡ v) × Each t q (s .zones) (λ y. v ≤ heldOf y q .value)
+
+-- "from the best rank that has one; equal rank, smaller id"
+abbrev pub NoBetter : Zone → Zone → Type 0
+NoBetter x y = (rankOf x < rankOf y) ⊎ ((rankOf x ≡ rankOf y) × (idOf x ≤ idOf y))
+
+abbrev pub BestSetpoint : Situation → ℕ → ℕ → Type 0
+BestSetpoint s t q =
+    (v : ℕ) → valueAt s t q ≡ Is v → Some t q (s .zones) (λ x. (heldOf x q .value ≡ v) × Each t q (s .zones) (λ y. NoBetter x y))
+
+-- the first row: "some zone up"; absent exactly when no joined zone has an unexpired value
+pub record SomeUp (s : Situation) (t q : ℕ) : Type 0 where
+  pub limit : isLimit q ≡ true → SmallestLimit s t q
+  pub setpoint : isLimit q ≡ false → BestSetpoint s t q
+  pub absent : supports (s .settings .directions) (directionOf q) ≡ true → (valueAt s t q ≡ Absent) ↔ Each t q (s .zones) (λ x. ⊥)
+
+-- the second and third rows: the failsafe limit holds below since + duration, and from that second on nothing does
+pub record NoneUp (s : Situation) (t : ℕ) : Type 0 where
+  pub before : t < s .since + s .settings .duration → (stateAt s t ≡ FAILSAFE) × ((q : ℕ) → supports (s .settings .directions) (directionOf q) ≡ true → valueAt s t q ≡ failsafeValue (s .settings) q)
+  pub past : s .since + s .settings .duration ≤ t → (stateAt s t ≡ FAILSAFE → ⊥) × ((q : ℕ) → valueAt s t q ≡ Absent)
+
+-- "FAILSAFE in the second row; else OVERRIDE if set; else LIMITED if a limit is present; else CONTROLLED if a zone is up"; else AUTONOMOUS, which is 0
+abbrev pub StateOrder : Situation → ℕ → Type 0
+StateOrder s t =
+    stateAt s t
+    ≡ firstOf (
+    (inFailsafe s t, FAILSAFE)
+    ∷ (not (eqb (s .override) 0), OVERRIDE)
+    ∷ (present (valueAt s t 0) || present (valueAt s t 1), LIMITED)
+    ∷ (anyUp (s .zones), CONTROLLED)
+    ∷ [])
+
+-- the whole table
+pub record Table (s : Situation) (t : ℕ) : Type 0 where
+  pub someUp : anyUp (s .zones) ≡ true → (q : ℕ) → SomeUp s t q
+  pub noneUp : anyUp (s .zones) ≡ false → anyJoined (s .zones) ≡ true → NoneUp s t
+  pub noneJoined : anyJoined (s .zones) ≡ false → (q : ℕ) → valueAt s t q ≡ Absent
+  pub unsupported : (q : ℕ) → supports (s .settings .directions) (directionOf q) ≡ false → valueAt s t q ≡ Absent
+  pub state : StateOrder s t
