@@ -1,10 +1,10 @@
 -- Demand 2, proved.
-use Rattle.cbor.proofs.Payload.{payload-exact, one-item}
-use Rattle.frames.proofs.Trips.{framed-exact}
-use Rattle.frames.proofs.RequestBack.{request-reads-back}
-use Rattle.frames.proofs.RequestAgain.{request-writes-again}
-use Rattle.frames.proofs.ResponseBack.{response-reads-back, status-reads-back}
-use Rattle.frames.proofs.ResponseAgain.{response-writes-again}
+use Rattle.cbor_laws.proofs.Payload.{payload-exact, one-item}
+use Rattle.frame_laws.proofs.Trips.{framed-exact}
+use Rattle.frame_laws.proofs.RequestBack.{request-reads-back}
+use Rattle.frame_laws.proofs.RequestAgain.{request-writes-again}
+use Rattle.frame_laws.proofs.ResponseBack.{response-reads-back, status-reads-back}
+use Rattle.frame_laws.proofs.ResponseAgain.{response-writes-again}
 use Rattle.device.proofs.Rows.{table}
 use Rattle.device.proofs.Expiry.{expiry}
 use Rattle.conformance.proofs.Laws.{exact, ordered}

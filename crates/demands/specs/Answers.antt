@@ -7,13 +7,13 @@ use mathlib.Core.List.{List, [], _∷_, _++_}
 use mathlib.Core.Option.{Option, none, some, bind}
 use lib.Dec.{leb}
 use lib.ListN.{length}
-use Rattle.cbor.specs.Bytes.{putWhole}
+use Rattle.bytes.specs.Bytes.{putWhole}
 use Rattle.cbor.specs.Item.{Item, payloadOf}
 use Rattle.messages.specs.declared.Command.{Command}
 use Rattle.messages.specs.declared.Request.{Request}
 use Rattle.messages.specs.declared.Response.{Response}
 use Rattle.frames.specs.Prefix.{framed, payloadIn}
-use Rattle.frames.specs.Fields.{mapIn}
+use Rattle.map_fields.specs.Fields.{mapIn}
 use Rattle.frames.specs.Requests.{Envelope, envelopeIn, servedAt, servedCommand, commandIn}
 use Rattle.frames.specs.Responses.{isStatus, responseItem}
 use Rattle.frames.specs.Writing.{itemFrame}

@@ -5,12 +5,12 @@ use mathlib.Core.Logic.{_≢_}
 use mathlib.Core.List.{List, [], _∷_}
 use lib.IntN.{ℤ, pos, negsuc}
 use lib.ListN.{length, replicate}
-use Rattle.cbor.specs.Bytes.{putWhole}
-use Rattle.cbor.specs.Laws.{PayloadExact, OneItem}
+use Rattle.bytes.specs.Bytes.{putWhole}
+use Rattle.cbor_laws.specs.Laws.{PayloadExact, OneItem}
 use Rattle.messages.specs.declared.Amount.the-variants.{Is}
 use Rattle.messages.specs.declared.Command.{Command}
 use Rattle.frames.specs.Requests.{readRequest}
-use Rattle.frames.specs.RoundTrips.{FramedExact, RequestReadsBack, ResponseReadsBack, StatusReadsBack, RequestWritesAgain, ResponseWritesAgain}
+use Rattle.frame_laws.specs.RoundTrips.{FramedExact, RequestReadsBack, ResponseReadsBack, StatusReadsBack, RequestWritesAgain, ResponseWritesAgain}
 use Rattle.frames.specs.Writing.{writingNumber, writtenOf, leftBy}
 use Rattle.device.specs.declared.Settings.{Settings}
 use Rattle.device.specs.declared.Zone.{Zone}
