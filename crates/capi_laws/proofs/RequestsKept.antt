@@ -14,8 +14,8 @@ use Rattle.messages.specs.Refusals.{firstOf}
 use Rattle.frames.specs.Requests.{isServed, servedAt, readRequest, requestItem, requestWide, requestUnserved, requestNumber}
 use Rattle.frames.specs.Writing.{itemFrame}
 use Rattle.frames.specs.declared.requests.Reading.{Reading}
-use Rattle.frames.proofs.RequestBack.{request-reads-back}
-use Rattle.frames.proofs.RequestAgain.{request-writable}
+use Rattle.frame_laws.proofs.RequestBack.{request-reads-back}
+use Rattle.frame_laws.proofs.RequestAgain.{request-writable}
 use Rattle.capi.specs.Requests.{fieldOf, targetOf, aimOf, limitsOf, setpointsOf, limitKind, setpointKind, commandOf, requestOf, flatField, flatTarget, hasAim, aimed, flatSet, flatClear, flatRequest, flatReading}
 use Rattle.capi_laws.specs.Inverse.{RequestKept, Plain, ReadPlain, FlatReadsBack}
 

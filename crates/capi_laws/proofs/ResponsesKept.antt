@@ -11,13 +11,13 @@ use Rattle.messages.specs.declared.LimitResult.{LimitResult}
 use Rattle.messages.specs.declared.SetpointResult.{SetpointResult}
 use Rattle.messages.specs.declared.Outcome.{Outcome}
 use Rattle.messages.specs.declared.Response.{Response}
-use Rattle.frames.specs.Fields.{mostValue}
+use Rattle.map_fields.specs.Fields.{mostValue}
 use Rattle.frames.specs.Requests.{servedCommand}
 use Rattle.frames.specs.Responses.{isStatus, stands, readResponse, responseItem, amountUpTo, limitInRange, setpointInRange, goesWith, isNothing, fits, responseFits, responseNumber}
 use Rattle.frames.specs.Writing.{itemFrame}
 use Rattle.frames.specs.declared.responses.Answer.{Answer}
-use Rattle.frames.proofs.ResponseBack.{response-reads-back}
-use Rattle.frames.proofs.ResponseAgain.{response-writable}
+use Rattle.frame_laws.proofs.ResponseBack.{response-reads-back}
+use Rattle.frame_laws.proofs.ResponseAgain.{response-writable}
 use Rattle.store.specs.Sizes.{valueEnd}
 use Rattle.holds.specs.Holds.{shown}
 use Rattle.capi.specs.Responses.{amountOf, limitOf, setpointOf, outcomeOf, responseOf, flat, flatResponse, flatAnswer}

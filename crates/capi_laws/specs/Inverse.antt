@@ -8,7 +8,7 @@ use Rattle.messages.specs.declared.Request.{Request}
 use Rattle.messages.specs.declared.Response.{Response}
 use Rattle.frames.specs.Requests.{isServed, readRequest, requestItem, requestNumber}
 use Rattle.frames.specs.Responses.{readResponse, responseItem, responseNumber}
-use Rattle.frames.specs.RoundTrips.{Command64}
+use Rattle.frame_laws.specs.RoundTrips.{Command64}
 use Rattle.frames.specs.Writing.{itemFrame}
 use Rattle.frames.specs.declared.requests.Reading.{Reading}
 use Rattle.frames.specs.declared.responses.Answer.{Answer}

@@ -8,12 +8,12 @@ use native.Mathlib.Omega.{arith}
 use lib.ListN.{length, getD, drop}
 use lib.Dec.{leb, ltb, eqb}
 use borrow.Author.Tests.{lt-leb, le-leb, le-ltb, lt-ltb, ltb-true, leb-true, leb-false, eqb-true, eq-eqb}
-use Rattle.cbor.specs.Bytes.{numberAt, bytesOf, Bytes, Stands}
+use Rattle.bytes.specs.Bytes.{numberAt, bytesOf, Bytes, Stands}
 use Rattle.cbor.specs.Head.{Arg, infoOf, widthOf, headBytes, headLen, wideAt, argAt, allowed, withMajor, headAt, Within}
 use Rattle.cbor.specs.Laws.{HeadReadsBack, HeadExact}
 use Rattle.cbor.specs.declared.heads.Head.{Head}
-use Rattle.cbor.proofs.Order.{below}
-use Rattle.cbor.proofs.Numbers.{at-first, past, room, cons-at, bytes-length, number-of, number-there, number-fits}
+use Rattle.bytes.proofs.Order.{below}
+use Rattle.bytes.proofs.NumberLaws.{at-first, past, room, cons-at, bytes-length, number-of, number-there, number-fits}
 use Rattle.cbor.proofs.Widths.{info-low, width-low, info-small, info-high, width-enough, width-small, head-length}
 
 never : {A : Type 0} (a b : Bool) → cond a (cond b false false) false ≡ true → A

@@ -10,12 +10,12 @@ use borrow.Author.Tests.{lt-ltb, le-ltb, le-leb, lt-leb, leb-true, eq-eqb, ne-eq
 use native.Mathlib.Nat.{add-zero}
 use native.Mathlib.Numerals.{add-one}
 use native.Mathlib.Omega.{arith}
-use Rattle.cbor.specs.Bytes.{numberAt, bytesOf, put, putWhole, pastWhole}
+use Rattle.bytes.specs.Bytes.{numberAt, bytesOf, put, putWhole, pastWhole}
 use Rattle.cbor.specs.Head.{Arg, infoOf, widthOf, headLen, headBytes, headOf, argAt, argOrZero, allowed, withMajor, headAt}
 use Rattle.cbor.specs.declared.heads.Head.{Head}
-use Rattle.cbor.proofs.Order.{below}
+use Rattle.bytes.proofs.Order.{below}
 use Rattle.cbor.proofs.Widths.{From, info-low, info-small, head-length}
-use Rattle.cbor.proofs.Puts.{has-room, stored, not-stored}
+use Rattle.bytes.proofs.PutLaws.{has-room, stored, not-stored}
 
 -- an argument of more than one byte
 module _ (s : List ℕ) (q i : ℕ) (high : 24 ≤ i) where

@@ -9,13 +9,13 @@ use native.Mathlib.Omega.{arith}
 use lib.ListN.{length, take, drop, length-append}
 use lib.Dec.{leb, eqb}
 use borrow.Author.Tests.{ne-eqb, lt-leb}
-use Rattle.cbor.specs.Bytes.{Bytes}
+use Rattle.bytes.specs.Bytes.{Bytes}
 use Rattle.cbor.specs.Head.{headBytes, headAt}
 use Rattle.cbor.specs.Item.{Item, Items, Pairs, Got, got, bad, andThen, keyAt, itemsAt, pairsAt, stringAt, fromHead, itemAt, restAt, endOf, pastOf, levels, payloadOf, isSome, encode, encodeItems, encodePairs, count, countPairs}
 use Rattle.cbor.specs.declared.heads.Head.{Head}
 use Rattle.cbor.specs.declared.items.Key.{Key}
 use Rattle.cbor.specs.declared.items.End.{End}
-use Rattle.cbor.proofs.Order.{below, one-more}
+use Rattle.bytes.proofs.Order.{below, one-more}
 use Rattle.cbor.proofs.Widths.{head-length, len-positive}
 use Rattle.cbor.proofs.HeadLaws.{head-found}
 use Rattle.cbor.proofs.Sound.{Sound, item-sound, key-found, allowed-rest}

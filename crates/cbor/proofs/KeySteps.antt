@@ -11,7 +11,7 @@ use Rattle.cbor.specs.Head.{Arg, widthOf, argAt, argOrZero, allowed, wit
 use Rattle.cbor.specs.Item.{keyFrom, keyOf, keyAt, least}
 use Rattle.cbor.specs.declared.heads.Head.{Head}
 use Rattle.cbor.specs.declared.items.Key.{Key}
-use Rattle.cbor.proofs.Order.{below}
+use Rattle.bytes.proofs.Order.{below}
 use Rattle.cbor.proofs.HeadSteps.{head-end, head-low, arg-low, wide-none, wide-some, wide-not}
 
 -- a key against the one before

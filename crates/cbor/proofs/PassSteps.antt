@@ -9,18 +9,17 @@ use native.Mathlib.Omega.{arith}
 use lib.ListN.{length}
 use lib.Dec.{eqb}
 use borrow.Author.Tests.{lt-ltb, le-ltb, eq-eqb, ne-eqb, eqb-true}
-use Rattle.cbor.specs.Bytes.{Bytes}
+use Rattle.bytes.specs.Bytes.{Bytes}
 use Rattle.cbor.specs.Head.{headAt}
 use Rattle.cbor.specs.Item.{Item, Pairs, Got, got, bad, keyAt, pairsAt, itemAt, pastOf, levels, payloadOf, isSome, Ok}
 use Rattle.cbor.specs.Scan.{sight, sightOf, pairsIn, sightsOf, wordsOf}
 use Rattle.cbor.specs.Pass.{blank, noteAt, noted, noteHead, noteKey, Left}
 use Rattle.cbor.specs.declared.heads.Head.{Head}
 use Rattle.cbor.specs.declared.items.Key.{Key}
-use Rattle.cbor.proofs.Order.{below, one-more}
+use Rattle.bytes.proofs.Order.{below, one-more}
 use Rattle.cbor.proofs.Sound.{then-inv, key-found, Sound, item-sound}
-use Rattle.cbor.proofs.Complete.{majorOf, argOf}
 use Rattle.cbor.proofs.ItemSteps.{pairs-none, pairs-more, pairs-next, by-head, rest-map, item-bad, item-got}
-use Rattle.cbor.proofs.Walks.{read-head-of, pairs-step}
+use Rattle.cbor.proofs.Seen.{majorOf, argOf, read-head-of, pairs-step}
 use Rattle.cbor.proofs.Passes.{within, pass-exact}
 
 module _ {X : Type 0} where

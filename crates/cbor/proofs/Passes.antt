@@ -17,8 +17,8 @@ use Rattle.cbor.specs.Scan.{noSight, sightOf, sightsIn, pairsIn, wordsOf
 use Rattle.cbor.specs.Pass.{blank, noteAt, noted, noteHead, noteKey}
 use Rattle.cbor.specs.Laws.{SightExact}
 use Rattle.cbor.specs.declared.sights.Sight.{Sight}
-use Rattle.cbor.proofs.Order.{below}
-use Rattle.cbor.proofs.SameValues.{none-below}
+use Rattle.bytes.proofs.Order.{below}
+use Rattle.cbor.proofs.Seen.{none-below}
 
 -- one note
 module _ (l : List ℕ) (k : ℕ) (x : Sight) where

@@ -9,13 +9,13 @@ use lib.ListN.{length, take, drop, length-append, length-take, length-drop, take
 use lib.Seq.{drop-drop, getD-take, getD-drop}
 use lib.Dec.{leb, eqb}
 use borrow.Author.Tests.{leb-true, eqb-true, eqb-false, lt-leb}
-use Rattle.cbor.specs.Bytes.{Bytes, Stands}
+use Rattle.bytes.specs.Bytes.{Bytes, Stands}
 use Rattle.cbor.specs.Head.{headBytes, headAt, Within}
 use Rattle.cbor.specs.Item.{Item, Items, Pairs, Got, got, bad, andThen, keyOf, keyAt, keyed, itemsAt, pairsAt, fromHead, itemAt, encode, encodeItems, encodePairs, count, countPairs, Ok, OkItems, OkPairs}
 use Rattle.cbor.specs.declared.heads.Head.{Head}
 use Rattle.cbor.specs.declared.items.Key.{Key}
-use Rattle.cbor.proofs.Order.{below}
-use Rattle.cbor.proofs.Numbers.{zero-past}
+use Rattle.bytes.proofs.Order.{below}
+use Rattle.bytes.proofs.NumberLaws.{zero-past}
 use Rattle.cbor.proofs.HeadLaws.{HeadFound, head-found}
 
 -- one run of bytes behind the other

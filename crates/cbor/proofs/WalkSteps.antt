@@ -4,16 +4,12 @@ use mathlib.Core.Path.{_≡_, sym, ap, _∙_}
 use mathlib.Core.Bool.{true, false}
 use mathlib.Core.List.{List}
 use borrow.Author.Tests.{lt-ltb, le-ltb, eq-eqb, ne-eqb}
-use Rattle.cbor.specs.Head.{headAt}
 use Rattle.cbor.specs.Item.{itemAt, keyAt, endOf}
-use Rattle.cbor.specs.Find.{passed, stepAt, stopped, onward, seekAt, findFrom, findAt}
-use Rattle.cbor.specs.declared.heads.Head.{Head}
+use Rattle.cbor.specs.Find.{passed, stepAt, stopped, onward, seekAt}
 use Rattle.cbor.specs.declared.items.Key.{Key}
 use Rattle.cbor.specs.declared.items.End.{End}
 use Rattle.cbor.specs.declared.pairs.Step.{Step}
-use Rattle.cbor.specs.declared.pairs.Stop.{Stop}
-use Rattle.cbor.specs.declared.pairs.Found.{Found}
-use Rattle.cbor.proofs.Order.{one-more}
+use Rattle.bytes.proofs.Order.{one-more}
 
 -- a look at a pair
 module _ (s : List ℕ) (d key p : ℕ) (h : Key) (e : h ≡ keyAt s 0 p) where
@@ -55,28 +51,3 @@ module _ (s : List ℕ) (d key p n : ℕ) where
 
     pub walk-past : (e′ : ℕ) → t ≡ Step.Past e′ → seekAt s d key (n - 1) e′ ≡ seekAt s d key n p
     walk-past e′ w = sym (next ∙ rw w)
-
--- the map whose head is at p
-module _ (s : List ℕ) (p key d : ℕ) where
-  pub find-deep : d ≡ 0 → Found.Nothing ≡ findAt s d key p
-  unfolding findAt
-  find-deep z = rw z
-
-  module _ (nz : d ≡ 0 → ⊥) (h : Head) (e : h ≡ headAt s p) where
-    within : (f : Found) → f ≡ findFrom s (suc (d - 1)) key h → f ≡ findAt s d key p
-    unfolding findAt
-    within f g = g ∙ ap (λ (k : ℕ). findFrom s k key h) (sym (one-more d nz)) ∙ ap (findFrom s d key) e
-
-    pub find-no-head : h ≡ Head.Bad → Found.Nothing ≡ findAt s d key p
-    find-no-head w = within _ (rw w)
-
-    module _ (m n q : ℕ) (w : h ≡ Head.Is m n q) where
-      pub find-no-map : (m ≡ 5 → ⊥) → Found.Nothing ≡ findAt s d key p
-      find-no-map ne = within _ (rw (w, ne-eqb m 5 ne))
-
-      module _ (z : m ≡ 5) (t : Stop) (g : t ≡ seekAt s (d - 1) key n q) where
-        pub find-there : t .there ≡ true → Found.At (t .at) ≡ findAt s d key p
-        find-there b = within _ (rw (w, z, ← g, b))
-
-        pub find-not : t .there ≡ false → Found.Nothing ≡ findAt s d key p
-        find-not b = within _ (rw (w, z, ← g, b))

@@ -8,8 +8,8 @@ use mathlib.Core.Bool.{Bool, true, false, cond}
 use lib.Dec.{eqb}
 use Rattle.cbor.specs.Head.{infoOf, widthOf, headLen, headBytes}
 use Rattle.cbor.specs.Laws.{HeadLength, HeadShort}
-use Rattle.cbor.proofs.Order.{below}
-use Rattle.cbor.proofs.Numbers.{bytes-length}
+use Rattle.bytes.proofs.Order.{below}
+use Rattle.bytes.proofs.NumberLaws.{bytes-length}
 
 pub info-low : (v : ℕ) → v < 24 → infoOf v ≡ v
 unfolding infoOf

@@ -4,14 +4,11 @@ use mathlib.Core.Bool.{Bool, true, false, cond}
 use mathlib.Core.List.{List}
 use mathlib.Core.Option.{Option, some, none}
 use lib.Dec.{ltb, eqb}
-use Rattle.cbor.specs.Head.{headAt}
 use Rattle.cbor.specs.Item.{Item, Pairs, itemAt, keyAt, endOf}
-use Rattle.cbor.specs.declared.heads.Head.{Head}
 use Rattle.cbor.specs.declared.items.Key.{Key}
 use Rattle.cbor.specs.declared.items.End.{End}
 use Rattle.cbor.specs.declared.pairs.Step.{Step}
 use Rattle.cbor.specs.declared.pairs.Stop.{Stop}
-use Rattle.cbor.specs.declared.pairs.Found.{Found}
 
 -- the value under a key
 unfoldable pub valueOf : Pairs → ℕ → Option Item
@@ -44,16 +41,3 @@ onward Step.Halt p n f = stopped false p (suc n)
 unfoldable pub seekAt : List ℕ → ℕ → ℕ → ℕ → ℕ → Stop
 seekAt s d key zero p = stopped false p 0
 seekAt s d key (suc n) p = onward (stepAt s d key p) p n (seekAt s d key n)
-
-abbrev pub foundBy : Stop → Found
-foundBy w = cond (w .there) (Found.At (w .at)) Found.Nothing
-
--- what is under a key of the map whose head is given
-abbrev pub findFrom : List ℕ → ℕ → ℕ → Head → Found
-findFrom s zero key h = Found.Nothing
-findFrom s (suc d) key (Head.Is m n q) = cond (eqb m 5) (foundBy (seekAt s d key n q)) Found.Nothing
-findFrom s (suc d) key Head.Bad = Found.Nothing
-
--- the position of the value under a key of the map at p, which has at most d levels
-unfoldable pub findAt : List ℕ → ℕ → ℕ → ℕ → Found
-findAt s d key p = findFrom s d key (headAt s p)

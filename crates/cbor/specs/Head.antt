@@ -5,7 +5,7 @@ use mathlib.Core.Bool.{Bool, true, false, cond}
 use mathlib.Core.List.{List, [], _∷_}
 use lib.ListN.{length, getD}
 use lib.Dec.{ltb, leb, eqb}
-use Rattle.cbor.specs.Bytes.{numberAt, bytesOf}
+use Rattle.bytes.specs.Bytes.{numberAt, bytesOf}
 use Rattle.cbor.specs.declared.heads.Head.{Head}
 
 -- the additional information of the shortest head of an argument

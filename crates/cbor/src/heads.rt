@@ -1,17 +1,14 @@
 // Heads: a major type and an argument in its shortest form.
-use crate::bytes::be16;
-use crate::bytes::be32;
-use crate::bytes::be64;
-use crate::bytes::has_room;
-use crate::bytes::put16;
-use crate::bytes::put32;
-use crate::bytes::put64;
+use bytes::get_u16;
+use bytes::get_u32;
+use bytes::get_u64;
+use bytes::has_room;
 ghost use mathlib.Core.Path.{_≡_};
 ghost use mathlib.Core.Bool.{cond};
 ghost use Prim.Native.Nat.{_+_, _≤_, _<_};
 ghost use lib.ListN.{length};
 ghost use lib.Dec.{ltb};
-ghost use Rattle.cbor.specs.Bytes.{bytesOf, put, putWhole, pastWhole};
+ghost use Rattle.bytes.specs.Bytes.{bytesOf, put, putWhole, pastWhole};
 ghost use Rattle.cbor.specs.Head.{infoOf, widthOf, headLen, headOf, argAt, argOrZero, headAt};
 
 // A head: its major type, its argument and the position past it.
@@ -86,13 +83,13 @@ fn wider(s: &[u8], at: usize, info: u64) -> u64
         if left < 4 {
             return 0;
         }
-        return unless_below(be32(s, at), 65536);
+        return unless_below(get_u32(s, at), 65536);
     }
     if info == 27 {
         if left < 8 {
             return 0;
         }
-        return unless_below(be64(s, at), 4294967296);
+        return unless_below(get_u64(s, at), 4294967296);
     }
     0
 }
@@ -115,7 +112,7 @@ pub(crate) fn wide(s: &[u8], at: usize, info: u64) -> u64
     if left < 2 {
         return 0;
     }
-    unless_below(be16(s, at), 256)
+    unless_below(get_u16(s, at), 256)
 }
 
 // The head at `at`.
@@ -144,6 +141,31 @@ pub fn read_head(s: &[u8], at: usize) -> Head
         }
     }
     Head::Bad
+}
+
+// Stores the low two, four and eight bytes of `v`, for which there is room: to test it again here costs a tenth of a frame.
+fn put16(out: &mut [u8], at: usize, v: u64)
+    requires { ⌜ at + 2 ≤ length (now out) ⌝ }
+    ensures { λ _. ⌜ now (out .exit) ≡ put (now (out .entry)) at (bytesOf 2 v) ⌝ }
+{
+    out[at] = (v / 256 % 256) as u8;
+    out[at + 1] = (v % 256) as u8;
+}
+
+fn put32(out: &mut [u8], at: usize, v: u64)
+    requires { ⌜ at + 4 ≤ length (now out) ⌝ }
+    ensures { λ _. ⌜ now (out .exit) ≡ put (now (out .entry)) at (bytesOf 4 v) ⌝ }
+{
+    put16(out, at, v / 65536);
+    put16(out, at + 2, v);
+}
+
+fn put64(out: &mut [u8], at: usize, v: u64)
+    requires { ⌜ at + 8 ≤ length (now out) ⌝ }
+    ensures { λ _. ⌜ now (out .exit) ≡ put (now (out .entry)) at (bytesOf 8 v) ⌝ }
+{
+    put32(out, at, v / 4294967296);
+    put32(out, at + 4, v);
 }
 
 // Stores the bytes of an argument, behind the first byte of its head.

@@ -1,25 +1,19 @@
-// RFC 8949's strict subset: heads and integers read, items checked, a key of a map found, a payload scanned, heads written.
-mod bytes; // bytes.rt: numbers as bytes, read and written
+// RFC 8949's strict subset: heads read and written, items checked, a key of a map sought, a payload scanned.
 mod heads; // heads.rt: heads, read and written
-mod ints; // ints.rt: integers as 64 signed bits
 mod items; // items.rt: items, arrays and maps, checked
 mod pairs; // pairs.rt: the value under a key of a map
 mod sights; // sights.rt: one pass that checks a payload and keeps the heads under its small keys
 
-pub use bytes::get_u32;
-pub use bytes::put_u32;
 pub use heads::Head;
 pub use heads::head_len;
 pub use heads::put_head;
 pub use heads::read_head;
-pub use ints::Int;
-pub use ints::read_int;
 pub use items::DEPTH;
 pub use items::End;
 pub use items::check_item;
 pub use items::is_item;
-pub use pairs::Found;
-pub use pairs::find;
+pub use pairs::Stop;
+pub use pairs::seek;
 pub use sights::KEYS;
 pub use sights::SIGHTS;
 pub use sights::Sight;

@@ -1,24 +1,16 @@
 // The value under a key of a map.
-use crate::heads::Head;
-use crate::heads::read_head;
 use crate::items::End;
 use crate::items::Key;
 use crate::items::check_item;
 use crate::items::read_key;
 ghost use mathlib.Core.Path.{_≡_};
-ghost use Rattle.cbor.specs.Find.{stepAt, stopped, seekAt, findAt};
+ghost use Rattle.cbor.specs.Find.{stepAt, stopped, seekAt};
 
 // Where a walk over pairs stopped. There: at the value, `left` pairs behind it. Not there: at the first pair not passed, `left` counting it.
 pub struct Stop {
     pub there: bool,
     pub at: usize,
     pub left: u64,
-}
-
-// Where a value stands.
-pub enum Found {
-    At(usize),
-    Nothing,
 }
 
 // A look at one pair: its value where the key is the one sought, the position past it where its key is smaller, or a halt.
@@ -60,6 +52,7 @@ fn stopping(there: bool, at: usize, left: u64) -> Stop
 }
 
 // Walks from a pair, with `left` pairs left, to the key or to the first larger one; values have at most `depth` levels.
+// For maps whose keys are not small, as those of a Measurement: `scan` keeps the small ones.
 pub fn seek(s: &[u8], at: usize, left: u64, key: u64, depth: u64) -> Stop
     ensures { λ r. ⌜ r ≡ seekAt (now (s .entry)) depth key left at ⌝ }
 {
@@ -80,26 +73,4 @@ pub fn seek(s: &[u8], at: usize, left: u64, key: u64, depth: u64) -> Stop
         }
     }
     stopping(false, p, 0)
-}
-
-// The position of the value under a key of the map at `at`, which has at most `depth` levels.
-pub fn find(s: &[u8], at: usize, key: u64, depth: u64) -> Found
-    ensures { λ r. ⌜ r ≡ findAt (now (s .entry)) depth key at ⌝ }
-{
-    if depth == 0 {
-        return Found::Nothing;
-    }
-    match read_head(s, at) {
-        Head::Bad => Found::Nothing,
-        Head::Is(major, n, next) => {
-            if major != 5 {
-                return Found::Nothing;
-            }
-            let w = seek(s, next, n, key, depth - 1);
-            if w.there {
-                return Found::At(w.at);
-            }
-            Found::Nothing
-        }
-    }
 }

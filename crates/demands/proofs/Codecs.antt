@@ -13,7 +13,7 @@ use Rattle.messages.specs.declared.Command.{Command}
 use Rattle.messages.specs.declared.Request.{Request}
 use Rattle.messages.specs.declared.Response.{Response}
 use Rattle.frames.specs.Prefix.{framed, payloadIn}
-use Rattle.frames.specs.Fields.{mapIn}
+use Rattle.map_fields.specs.Fields.{mapIn}
 use Rattle.frames.specs.Requests.{Envelope, envelopeIn, servedAt, servedCommand, withCommand, fromEnvelope, fromPayload, readRequest, readingNumber, requestItem, requestWide, requestUnserved, requestNumber}
 use Rattle.frames.specs.Responses.{responseIn, answerOf, answerIn, answerFrom, readResponse, answerNumber, responseItem, responseFits, responseNumber}
 use Rattle.frames.specs.Writing.{itemFrame, writingNumber}

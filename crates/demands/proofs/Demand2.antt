@@ -3,18 +3,18 @@ use mathlib.Core.Path.{_≡_, refl, subst}
 use mathlib.Core.List.{List, _++_}
 use Prim.Native.Nat.{ℕ}
 use lib.ListN.{length, drop}
-use Rattle.cbor.proofs.Payload.{payload-exact, one-item}
+use Rattle.cbor_laws.proofs.Payload.{payload-exact, one-item}
 use Rattle.messages.specs.declared.Request.{Request}
 use Rattle.messages.specs.declared.Response.{Response}
 use Rattle.frames.specs.Requests.{readRequest}
 use Rattle.frames.specs.Responses.{statusAlone}
 use Rattle.frames.specs.Writing.{writingNumber, writtenOf}
 use Rattle.frames.specs.declared.requests.Reading.{Reading}
-use Rattle.frames.proofs.Trips.{framed-exact, frame-stands}
-use Rattle.frames.proofs.RequestBack.{request-reads-back}
-use Rattle.frames.proofs.RequestAgain.{request-writable, request-writes-again}
-use Rattle.frames.proofs.ResponseBack.{response-reads-back, status-reads-back}
-use Rattle.frames.proofs.ResponseAgain.{response-writable, response-writes-again}
+use Rattle.frame_laws.proofs.Trips.{framed-exact, frame-stands}
+use Rattle.frame_laws.proofs.RequestBack.{request-reads-back}
+use Rattle.frame_laws.proofs.RequestAgain.{request-writable, request-writes-again}
+use Rattle.frame_laws.proofs.ResponseBack.{response-reads-back, status-reads-back}
+use Rattle.frame_laws.proofs.ResponseAgain.{response-writable, response-writes-again}
 use Rattle.table_laws.proofs.Rows.{table}
 use Rattle.call_laws.proofs.Expiry.{expiry}
 use Rattle.device.specs.Commands.{commandAnswer}

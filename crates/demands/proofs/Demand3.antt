@@ -8,7 +8,7 @@ use lib.Dec.{ltb, leb}
 use lib.IntN.{ℤ}
 use lib.ListN.{length}
 use borrow.Author.Tests.{leb-false, lt-ltb}
-use Rattle.cbor.specs.Bytes.{putWhole}
+use Rattle.bytes.specs.Bytes.{putWhole}
 use Rattle.frames.specs.Requests.{readRequest}
 use Rattle.kernel.specs.Frame.{frameOut}
 use Rattle.store.specs.Sizes.{end, valueEnd}

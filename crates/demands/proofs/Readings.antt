@@ -10,7 +10,7 @@ use borrow.Author.Tests.{eqb-true}
 use Rattle.cbor.specs.Item.{Item, payloadOf}
 use Rattle.messages.specs.declared.Command.{Command}
 use Rattle.frames.specs.Prefix.{framed, payloadIn}
-use Rattle.frames.specs.Fields.{mapIn}
+use Rattle.map_fields.specs.Fields.{mapIn}
 use Rattle.frames.specs.Requests.{Envelope, envelopeIn, servedAt, servedCommand, commandIn, withCommand, fromEnvelope, fromPayload, readRequest}
 use Rattle.frames.specs.Writing.{writingNumber}
 use Rattle.frames.specs.declared.requests.Reading.{Reading}

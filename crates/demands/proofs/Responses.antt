@@ -8,7 +8,7 @@ use lib.Dec.{leb, eqb}
 use lib.ListN.{length}
 use lib.Dec.{leb·zero}
 use borrow.Author.Tests.{eqb-true}
-use Rattle.cbor.specs.Bytes.{put, putWhole}
+use Rattle.bytes.specs.Bytes.{put, putWhole}
 use Rattle.messages.specs.Refusals
 use Rattle.messages.specs.declared.Request.{Request}
 use Rattle.frames.specs.Requests.{readRequest}

@@ -10,15 +10,13 @@ use lib.Dec.{ltb, eqb}
 use lib.IntN.{ℤ, pos, negsuc}
 use borrow.Author.Tests.{ltb-true}
 use Rattle.cbor.specs.Item.{Item, Pairs, payloadOf}
-use Rattle.cbor.specs.Int.{intOf}
 use Rattle.cbor.specs.Find.{valueOf}
-use Rattle.cbor.specs.declared.ints.Int.{Int}
 use Rattle.messages.specs.declared.Field.{Field}
 use Rattle.messages.specs.declared.Aim.{Aim}
 use Rattle.messages.specs.declared.Limits.{Limits}
 use Rattle.messages.specs.declared.Command.{Command}
 use Rattle.frames.specs.Prefix.{framed, payloadIn}
-use Rattle.frames.specs.Fields.{mapIn, upTo, needed, optional, inside, signed, valueIn, durationIn, aimIn}
+use Rattle.map_fields.specs.Fields.{mapIn, upTo, needed, optional, inRange, signed, valueIn, durationIn, aimIn}
 use Rattle.frames.specs.Requests.{Envelope, envelopeIn, servedAt, servedCommand, limitsIn, targetOf, setpointsOf, commandIn, withCommand, fromEnvelope, fromPayload, readRequest}
 use Rattle.frames.specs.declared.requests.Reading.{Reading}
 use Rattle.store.specs.declared.Settings.{Settings}
@@ -69,15 +67,15 @@ any-map : {X Y : Type 0} (Q : Y → Type 0) (o : Option X) (f : X → Y) → ((x
 any-map Q none f k = tt
 any-map Q (some x) f k = k x
 
-small-int : (n : ℕ) (z : ℤ) → (n < 2 ^ 63 → natural z < valueEnd) → Every SmallField (inside (cond (ltb n (2 ^ 63)) (Int.Is z) Int.OutOfRange))
+small-int : (n : ℕ) (z : ℤ) → (n < 2 ^ 63 → natural z < valueEnd) → Every SmallField (inRange n z)
 small-int n z k = go (ltb n (2 ^ 63)) refl
   where
-    go : (b : Bool) → ltb n (2 ^ 63) ≡ b → Every SmallField (inside (cond b (Int.Is z) Int.OutOfRange))
+    go : (b : Bool) → ltb n (2 ^ 63) ≡ b → Every SmallField (cond b (some (Field.Value z)) none)
     go true e = k (ltb-true n (2 ^ 63) e)
     go false e = tt
 
 small-signed : (null : Bool) (i : Item) → Every SmallField (signed null i)
-unfolding signed intOf
+unfolding signed
 small-signed null (Item.uint v) = small-int v (pos v) (λ h. h)
 small-signed null (Item.nint v) = small-int v (negsuc v) (λ h. omega arith)
 small-signed null (Item.bytes b) = tt

@@ -7,15 +7,15 @@ use mathlib.Core.List.{List, _++_}
 use mathlib.Core.Option.{some}
 use lib.IntN.{ℤ, pos, negsuc}
 use lib.ListN.{length, replicate, drop}
-use Rattle.cbor.specs.Bytes.{putWhole}
-use Rattle.cbor.specs.Laws.{PayloadExact, OneItem}
+use Rattle.bytes.specs.Bytes.{putWhole}
+use Rattle.cbor_laws.specs.Laws.{PayloadExact, OneItem}
 use Rattle.messages.specs.declared.Amount.the-variants.{Is}
 use Rattle.messages.specs.declared.Command.{Command}
 use Rattle.messages.specs.declared.Request.{Request}
 use Rattle.messages.specs.declared.Response.{Response}
 use Rattle.frames.specs.Requests.{Envelope, readRequest, readingNumber, requestItem, requestNumber}
 use Rattle.frames.specs.Responses.{readResponse, answerNumber, responseItem, responseNumber, statusAlone}
-use Rattle.frames.specs.RoundTrips.{FramedExact, FrameStands, RequestReadsBack, ResponseReadsBack, StatusReadsBack, RequestWritable, ResponseWritable, RequestWritesAgain, ResponseWritesAgain}
+use Rattle.frame_laws.specs.RoundTrips.{FramedExact, FrameStands, RequestReadsBack, ResponseReadsBack, StatusReadsBack, RequestWritable, ResponseWritable, RequestWritesAgain, ResponseWritesAgain}
 use Rattle.frames.specs.Writing.{itemFrame, writingNumber, writtenOf, leftBy}
 use Rattle.frames.specs.declared.requests.Reading.{Reading}
 use Rattle.store.specs.declared.Settings.{Settings}

@@ -11,7 +11,7 @@ use Rattle.messages.specs.declared.Command.{Command}
 use Rattle.messages.specs.declared.Request.{Request}
 use Rattle.messages.specs.declared.Response.{Response}
 use Rattle.frames.specs.Prefix.{framed, payloadIn}
-use Rattle.frames.specs.Fields.{mapIn}
+use Rattle.map_fields.specs.Fields.{mapIn}
 use Rattle.frames.specs.Requests.{Envelope, envelopeIn, servedAt, servedCommand, commandIn, readRequest, requestItem, requestWide, requestUnserved}
 use Rattle.frames.specs.Responses.{responseIn, responseItem, responseFits}
 use Rattle.frames.specs.Writing.{itemFrame}

@@ -9,23 +9,40 @@ use lib.Dec.{eqb}
 use borrow.Author.Tests.{eq-eqb, ne-eqb}
 use Rattle.cbor.specs.Item.{Item, Pairs, payloadOf, isSome}
 use Rattle.cbor.specs.Find.{valueOf}
-use Rattle.cbor.specs.Scan.{pairsIn, sightIn, sightsOf, wordsOf}
+use Rattle.cbor.specs.Scan.{sightOf, pairsIn, sightIn, sightsOf, wordsOf}
 use Rattle.cbor.specs.declared.sights.Sight.{Sight}
 use Rattle.messages.specs.declared.Amount.{Amount}
 use Rattle.messages.specs.declared.Outcome.{Outcome}
 use Rattle.messages.specs.declared.Response.{Response}
 use Rattle.frames.specs.Prefix.{framed, payloadIn}
-use Rattle.frames.specs.Fields.{upTo, truth, mapIn, needed, most32, mostValue, successIn}
+use Rattle.map_fields.specs.Fields.{upTo, truth, mapIn, needed, most32, mostValue, successIn}
 use Rattle.frames.specs.Requests.{servedCommand}
 use Rattle.frames.specs.Responses.{isStatus, stands, statusIn, limitResultIn, setpointResultIn, outcomeIn, noResult, resultIn, responseIn, answerOf, answerIn, answerFrom, readResponse}
-use Rattle.frames.specs.Sights.{found, Reads, UintReads, MapReads, amountOf, Shown, Inside, OutcomeReads, ResultReads, BodyReads, resultFrom}
+use Rattle.map_fields.specs.Sights.{found, Reads, UintReads, MapReads, amountOf, Shown, Inside}
+use Rattle.frames.specs.Sights.{OutcomeReads, ResultReads, BodyReads, resultFrom}
 use Rattle.frames.specs.declared.responses.Answer.{Answer}
 use Rattle.frames.specs.declared.responses.Effect.{Effect}
 use Rattle.frames.specs.declared.responses.Targets.{Targets}
 use Rattle.frames.specs.declared.responses.Result.{Result}
-use Rattle.frames.proofs.Joined.{via, and-left, and-right}
-use Rattle.frames.proofs.Parts.{top, low, then, last}
+use Rattle.map_fields.proofs.Joined.{via, and-left, and-right}
+use Rattle.map_fields.proofs.BySight.{reads-by}
+use Rattle.map_fields.proofs.Parts.{top, low, then, last}
 use Rattle.frames.proofs.Requested.{is-some, is-none}
+
+-- NOTHING
+absent-sight : (o : Option Item) → noResult o ≡ found (eqb (sightOf o .major) 8) Outcome.Nothing
+unfolding sightOf
+absent-sight none = refl
+absent-sight (some (Item.uint v)) = refl
+absent-sight (some (Item.nint v)) = refl
+absent-sight (some (Item.bytes b)) = refl
+absent-sight (some (Item.text b)) = refl
+absent-sight (some (Item.array is)) = refl
+absent-sight (some (Item.map m)) = refl
+absent-sight (some (Item.simple v)) = refl
+
+pub absent-reads : (k : Sight) → Reads k noResult (eqb (k .major) 8) Outcome.Nothing
+absent-reads k = reads-by _ (λ k. eqb (k .major) 8) (λ k. Outcome.Nothing) absent-sight k _ refl
 
 module _ (ws : List ℕ) where
   -- RESULTS

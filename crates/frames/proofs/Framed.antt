@@ -8,7 +8,7 @@ use lib.ListN.{length, take, drop, length-drop}
 use lib.Seq.{take-all}
 use borrow.Author.Tests.{leb-true}
 use Rattle.frames.specs.Prefix.{framed, payloadIn}
-use Rattle.frames.proofs.Joined.{and-left}
+use Rattle.map_fields.proofs.Joined.{and-left}
 
 pub long-enough : (frame : List ℕ) (b : Bool) → b ≡ framed frame → b ≡ true → 5 ≤ length frame
 unfolding framed

@@ -1,20 +1,7 @@
 -- What the proofs of several functions use, and the laws that callers cite.
-pub mod Joined
-pub mod Signs
-pub mod BySight
-pub mod Parts
 pub mod Framed
 pub mod Requested
 pub mod Answered
-pub mod Added
-pub mod Maps
-pub mod FieldsBack
-pub mod FieldsAgain
-pub mod Trips
-pub mod RequestBack
-pub mod RequestAgain
-pub mod ResponseBack
-pub mod ResponseAgain
 pub mod Writes
 pub mod Sends
 pub mod Numbered

@@ -2,13 +2,13 @@
 use Prim.Native.Nat.{ℕ}
 use mathlib.Core.Path.{_≡_, sym, ap, _∙_}
 use mathlib.Core.Bool.{Bool, true, false, _&&_}
-use lib.Dec.{leb, ltb}
+use lib.Dec.{leb}
 use Rattle.messages.specs.Refusals.{firstOf}
 use Rattle.messages.specs.declared.Response.{Response}
-use Rattle.frames.specs.Fields.{most32}
+use Rattle.map_fields.specs.Fields.{most32}
 use Rattle.frames.specs.Requests.{servedCommand}
-use Rattle.frames.specs.Responses.{isStatus, fits, responseNumber, responseFits, statusNumber, statusFits}
-use Rattle.frames.proofs.Joined.{and-same}
+use Rattle.frames.specs.Responses.{isStatus, fits, responseNumber, responseFits}
+use Rattle.map_fields.proofs.Joined.{and-same}
 
 module _ (c : ℕ) (r : Response) (a : Bool) (ae : a ≡ servedCommand c) where
   pub number-unserved : a ≡ false → 4 ≡ responseNumber c r
@@ -27,16 +27,3 @@ module _ (c : ℕ) (r : Response) (a : Bool) (ae : a ≡ servedCommand c) where
     pub number-wide : t ≡ false → 3 ≡ responseNumber c r
     unfolding responseNumber firstOf
     number-wide z = rw (sym ae ∙ y, sym whole ∙ z)
-
-module _ (i s : ℕ) (p t : Bool) (pe : p ≡ isStatus s) (te : t ≡ (leb i most32 && (p && ltb 0 s))) where
-  alone : t ≡ statusFits i s
-  unfolding statusFits
-  alone = te ∙ ap (λ (x : Bool). leb i most32 && (x && ltb 0 s)) pe
-
-  pub status-whole : t ≡ true → 0 ≡ statusNumber i s
-  unfolding statusNumber firstOf
-  status-whole z = rw (sym alone ∙ z)
-
-  pub status-wide : t ≡ false → 3 ≡ statusNumber i s
-  unfolding statusNumber firstOf
-  status-wide z = rw (sym alone ∙ z)

@@ -16,15 +16,16 @@ use Rattle.messages.specs.declared.Amount.{Amount}
 use Rattle.messages.specs.declared.Setpoints.{Setpoints}
 use Rattle.messages.specs.declared.Command.{Command}
 use Rattle.frames.specs.Prefix.{framed, payloadIn}
-use Rattle.frames.specs.Fields.{mapIn, needed, most32, valueIn, aimIn}
+use Rattle.map_fields.specs.Fields.{mapIn, needed, most32, valueIn, aimIn}
 use Rattle.frames.specs.Requests.{envelopeIn, limitsIn, setpointsOf, commandIn, servedAt, servedCommand, fromEnvelope, fromPayload, readRequest}
-use Rattle.frames.specs.Sights.{Reads, UintReads, MapReads, amountOf, durationOf, aimOf, Shown, Inside, EnvelopeReads, CommandReads, ClearReads, MessageReads, parametersFrom}
-use Rattle.frames.specs.declared.fields.Value.{Value}
+use Rattle.map_fields.specs.Sights.{Reads, UintReads, MapReads, amountOf, durationOf, aimOf, Shown, Inside}
+use Rattle.frames.specs.Sights.{EnvelopeReads, CommandReads, ClearReads, MessageReads, parametersFrom}
+use Rattle.map_fields.specs.declared.readers.Value.{Value}
 use Rattle.frames.specs.declared.requests.Reading.{Reading}
 use Rattle.frames.specs.declared.requests.Values.{Values}
 use Rattle.frames.specs.declared.requests.Parameters.{Parameters}
-use Rattle.frames.proofs.Joined.{via}
-use Rattle.frames.proofs.Parts.{top, low, then, last, mapped, duration-amount, aim-amount}
+use Rattle.map_fields.proofs.Joined.{via}
+use Rattle.map_fields.proofs.Parts.{top, low, then, last, mapped, duration-amount, aim-amount}
 
 module _ (ws : List ℕ) where
   -- THE ENVELOPE

@@ -1,18 +1,20 @@
 -- A payload behind its length, in a lent buffer. Assumes nothing.
-use Prim.Native.Nat.{ℕ, _+_, _-_, _≤_, _<_}
+use Prim.Native.Nat.{ℕ, _+_, _≤_, _<_, _^_}
 use mathlib.Core.Path.{_≡_, refl, sym, ap, subst, _∙_}
 use mathlib.Core.List.{List, _++_}
 use native.Mathlib.Omega.{arith}
 use lib.ListN.{length, take, length-append}
-use lib.Seq.{paste, sets-eq, length-take-le}
+use lib.Seq.{length-take-le}
 use borrow.Author.Tests.{le-leb, lt-leb, ne-eqb}
-use Rattle.cbor.specs.Bytes.{bytesOf, put, putWhole}
+use Rattle.bytes.specs.Bytes.{bytesOf, put, putWhole}
 use Rattle.cbor.specs.Item.{Item, encode}
-use Rattle.cbor.proofs.Numbers.{bytes-length}
-use Rattle.cbor.proofs.Puts.{put-whole, put-put, length-put}
+use Rattle.bytes.proofs.NumberLaws.{bytes-length}
+use Rattle.bytes.proofs.PutLaws.{put-whole, put-put, length-put}
 use Rattle.messages.specs.Refusals.{firstOf}
 use Rattle.frames.specs.Prefix.{frameOf}
-use Rattle.frames.specs.Puts.{Adds}
+use Rattle.frames.specs.Sizes.{payloadRoom}
+use Rattle.map_fields.specs.Puts.{Adds, Puts}
+use Rattle.map_fields.proofs.Added.{puts-fit}
 use Rattle.frames.specs.Writing.{itemFrame, writingNumber, refusedWith, writtenOf, leftBy}
 use Rattle.frames.specs.declared.prefix.Written.{Written}
 
@@ -41,13 +43,7 @@ module _ (pl out : List ℕ) (n : ℕ) (le : n ≤ length pl) where
   pub send-refused : length out < n + 4 → (w : Written) → w ≡ refusedWith 15 → Writes 0 (frameOf (take n pl)) out w out
   send-refused h w e = writes-long (frameOf (take n pl)) out (omega (arith, frame-length)) w e
 
-  pasted : (s : List ℕ) → 4 + n ≤ length s → paste s 4 pl n ≡ put s 4 (take n pl)
-  unfolding put
-  pasted s h =
-      let l = length-take-le n pl le in
-      sym (sets-eq (take n pl) s 4 (omega arith) ∙ rw l refl)
-
-  pub send-whole : n + 4 ≤ length out → (t left : List ℕ) → t ≡ putWhole out 0 (bytesOf 4 n) → left ≡ paste t 4 pl n → (w : Written) → w ≡ record { number = 0; length = n + 4 } → Writes 0 (frameOf (take n pl)) out w left
+  pub send-whole : n + 4 ≤ length out → (t left : List ℕ) → t ≡ putWhole out 0 (bytesOf 4 n) → left ≡ putWhole t 4 (take n pl) → (w : Written) → w ≡ record { number = 0; length = n + 4 } → Writes 0 (frameOf (take n pl)) out w left
   unfolding frameOf
   send-whole h t left e f w x =
       let b = bytes-length 4 n in
@@ -55,13 +51,17 @@ module _ (pl out : List ℕ) (n : ℕ) (le : n ≤ length pl) where
       let k = length-put out (bytesOf 4 n) 0 in
       let l = length-take-le n pl le in
       writes-whole (frameOf (take n pl)) out (omega (arith, frame-length)) w (x ∙ ap (λ (m : ℕ). record { number = 0; length = m }) (sym frame-length)) left
-      (f ∙ ap (λ (q : List ℕ). paste q 4 pl n) (e ∙ p .0) ∙ pasted (put out 0 (bytesOf 4 n)) (omega arith)
+      (f ∙ ap (λ (q : List ℕ). putWhole q 4 (take n pl)) (e ∙ p .0) ∙ put-whole (put out 0 (bytesOf 4 n)) (take n pl) 4 (omega arith) .0
       ∙ ap (λ (q : ℕ). put (put out 0 (bytesOf 4 n)) q (take n pl)) (omega arith) ∙ put-put out (bytesOf 4 n) (take n pl) 0 ∙ ap (λ (q : ℕ). put out 0 (bytesOf 4 q ++ take n pl)) (sym l))
 
+-- what was put at the front of a buffer that has the room is a payload that can be sent
+pub send-room : {s t a : List ℕ} {q : ℕ} → payloadRoom ≤ length s → Puts s 0 a payloadRoom t q → (q ≤ length t) × (q < 2 ^ 32)
+send-room h x = let a = puts-fit h x in (omega (arith, a .moved, a .short, a .kept), omega (arith, a .moved, a .short))
+
 -- a payload that was written from the front of a local buffer
-pub send-item : (i : Item) (buf local out left : List ℕ) (room n : ℕ) (w : Written) → Adds buf 0 (encode i) room local n → Writes 0 (frameOf (take n local)) out w left → Writes 0 (itemFrame i) out w left
+pub send-item : (i : Item) (buf local out left : List ℕ) (n : ℕ) (w : Written) → Adds buf 0 (encode i) payloadRoom local n → Writes 0 (frameOf (take n local)) out w left → Writes 0 (itemFrame i) out w left
 unfolding itemFrame
-send-item i buf local out left room n w a h = rw (← a .grows) h
+send-item i buf local out left n w a h = rw (← a .grows) h
 
 pub no-refusal : (m n : ℕ) (frame out left : List ℕ) (w : Written) → m ≡ n → m ≡ 0 → Writes 0 frame out w left → Writes n frame out w left
 no-refusal m n frame out left w e z h = subst (λ (k : ℕ). Writes k frame out w left) (sym z ∙ e) h

@@ -13,11 +13,11 @@ use Rattle.messages.specs.declared.Request.{Request}
 use Rattle.messages.specs.declared.Response.{Response}
 use Rattle.messages.specs.declared.LimitResult.{LimitResult}
 use Rattle.messages.specs.declared.SetpointResult.{SetpointResult}
-use Rattle.frames.specs.Fields.{Fields, present, valueItem, durationItem, amountItem, truthItem}
+use Rattle.map_fields.specs.Fields.{Fields, present, valueItem, durationItem, amountItem, truthItem}
 use Rattle.frames.specs.Requests.{limitsFields, commandFields, requestFields, requestItem}
 use Rattle.frames.specs.Responses.{mapItem, limitFields, setpointFields, clearFields, outcomeItem, responseFields, responseItem}
-use Rattle.frames.specs.Puts.{pairBytes, fieldBytes, pairsOf}
-use Rattle.frames.proofs.Added.{map-bytes, fields-more, fields-one, count-more, count-none}
+use Rattle.map_fields.specs.Puts.{pairBytes, fieldBytes, pairsOf}
+use Rattle.map_fields.proofs.Added.{map-bytes, fields-more, fields-one, count-more, count-none}
 
 pub pairs-small : (o : Option Item) → pairsOf o ≤ 1
 pairs-small (some i) = omega arith

@@ -1,8 +1,6 @@
 pub mod Prefix
-pub mod Fields
 pub mod Requests
 pub mod Responses
 pub mod Writing
-pub mod Puts
+pub mod Sizes
 pub mod Sights
-pub mod RoundTrips

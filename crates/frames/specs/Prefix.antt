@@ -4,7 +4,7 @@ use mathlib.Core.Bool.{Bool, _&&_}
 use mathlib.Core.List.{List, _++_}
 use lib.ListN.{length, drop}
 use lib.Dec.{leb, eqb}
-use Rattle.cbor.specs.Bytes.{numberAt, bytesOf}
+use Rattle.bytes.specs.Bytes.{numberAt, bytesOf}
 
 -- "four bytes of length, most significant first, equal to the payload that follows; nothing after it"
 unfoldable pub frameOf : List ℕ → List ℕ

@@ -16,7 +16,7 @@ use Rattle.messages.specs.declared.Setpoints.{Setpoints}
 use Rattle.messages.specs.declared.Command.{Command}
 use Rattle.messages.specs.declared.Request.{Request}
 use Rattle.frames.specs.Prefix.{framed, payloadIn}
-use Rattle.frames.specs.Fields.{upTo, mapIn, needed, most32, durationIn, valueIn, aimIn, valueItem, durationItem, aimItem, Fields, present}
+use Rattle.map_fields.specs.Fields.{upTo, mapIn, needed, most32, durationIn, valueIn, aimIn, valueItem, durationItem, aimItem, Fields, present}
 use Rattle.frames.specs.declared.requests.Reading.{Reading}
 
 -- READING

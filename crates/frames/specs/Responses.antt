@@ -13,7 +13,7 @@ use Rattle.messages.specs.declared.SetpointResult.{SetpointResult}
 use Rattle.messages.specs.declared.Outcome.{Outcome}
 use Rattle.messages.specs.declared.Response.{Response}
 use Rattle.frames.specs.Prefix.{framed, payloadIn}
-use Rattle.frames.specs.Fields.{upTo, truth, mapIn, needed, most32, mostValue, amountIn, successIn, truthItem, amountItem, Fields, present}
+use Rattle.map_fields.specs.Fields.{upTo, truth, mapIn, needed, most32, mostValue, amountIn, successIn, truthItem, amountItem, Fields, present}
 use Rattle.frames.specs.Requests.{servedCommand}
 use Rattle.frames.specs.declared.responses.Answer.{Answer}
 

@@ -4,7 +4,7 @@ use mathlib.Core.Bool.{cond, not}
 use mathlib.Core.List.{List, [], _∷_}
 use lib.ListN.{length}
 use lib.Dec.{leb, eqb}
-use Rattle.cbor.specs.Bytes.{put}
+use Rattle.bytes.specs.Bytes.{put}
 use Rattle.cbor.specs.Item.{Item, encode}
 use Rattle.messages.specs.Refusals.{firstOf}
 use Rattle.frames.specs.Prefix.{frameOf}

@@ -1,10 +1,7 @@
 // Frames: requests and responses behind their length, read and written.
-mod fields; // fields.rt: the fields of a map, read
 mod prefix; // prefix.rt: the length prefix, tested and written
-mod puts; // puts.rt: the fields of a map, written
 mod requests; // requests.rt: requests, read
 mod responses; // responses.rt: responses, read
-mod tests; // tests.rt: tests joined
 mod write_requests; // write_requests.rt: requests, written
 mod write_responses; // write_responses.rt: responses, written
 
@@ -18,4 +15,3 @@ pub use responses::read_response;
 pub use write_requests::write_request;
 pub use write_responses::frame_response;
 pub use write_responses::write_response;
-pub use write_responses::write_status;

@@ -1,8 +1,7 @@
 // The length prefix: tested, and written with the payload.
 ghost use mathlib.Core.Path.{_≡_};
-ghost use Prim.Native.Nat.{_+_, _≤_, _<_, _^_};
+ghost use Prim.Native.Nat.{_≤_, _<_, _^_};
 ghost use lib.ListN.{length, take};
-ghost use lib.Seq.{paste};
 ghost use Rattle.frames.specs.Prefix.{framed, frameOf};
 ghost use Rattle.frames.specs.Writing.{refusedWith, writtenOf, leftBy};
 
@@ -27,7 +26,7 @@ pub fn is_framed(frame: &[u8]) -> bool
     if MOST < n {
         return false;
     }
-    cbor::get_u32(frame, 0) == n as u64
+    bytes::get_u32(frame, 0) == n as u64
 }
 
 // Refuses with n, and writes nothing.
@@ -37,18 +36,6 @@ pub fn refused(n: u64) -> Written
     Written {
         number: n,
         length: 0,
-    }
-}
-
-// Stores the first n bytes of `from` at `at`.
-fn copy(out: &mut [u8], at: usize, from: &[u8], n: usize)
-    requires { ⌜ (at + n ≤ length (now out)) × (n ≤ length (now from)) ⌝ }
-    ensures { λ _. ⌜ now (out .exit) ≡ paste (now (out .entry)) at (now (from .entry)) n ⌝ }
-{
-    let mut i = 0;
-    while i < n {
-        out[at + i] = from[i];
-        i += 1;
     }
 }
 
@@ -62,8 +49,8 @@ pub fn send(out: &mut [u8], payload: &[u8], n: usize) -> Written
     if out.len() < all {
         return refused(15);
     }
-    cbor::put_u32(out, 0, n as u64);
-    copy(out, 4, payload, n);
+    bytes::put_u32(out, 0, n as u64);
+    bytes::put_bytes(out, 4, payload, n);
     Written {
         number: 0,
         length: all,

@@ -1,12 +1,12 @@
 // Requests, read. Place k of the sights is key k of the payload, place 6 + k is key k of the parameters.
-use crate::fields::amount_of;
-use crate::fields::is_map;
-use crate::fields::is_uint;
-use crate::fields::read_value;
+use map_fields::amount_of;
+use map_fields::is_map;
+use map_fields::is_uint;
+use map_fields::read_value;
 use crate::prefix::is_framed;
-use crate::tests::all4;
-use crate::tests::all5;
-use crate::tests::both;
+use map_fields::all4;
+use map_fields::all5;
+use map_fields::both;
 use cbor::Sights;
 use cbor::sight_at;
 use messages::Aim;
@@ -20,7 +20,8 @@ use messages::Target;
 ghost use mathlib.Core.Path.{_≡_};
 ghost use Rattle.cbor.specs.Item.{payloadOf};
 ghost use Rattle.frames.specs.Requests.{fromPayload, readRequest, servedCommand, servedAt, limitsIn, targetOf, setpointsOf};
-ghost use Rattle.frames.specs.Sights.{durationOf, aimOf, Inside, EnvelopeReads, CommandReads, ClearReads, MessageReads};
+ghost use Rattle.map_fields.specs.Sights.{durationOf, aimOf, Inside};
+ghost use Rattle.frames.specs.Sights.{EnvelopeReads, CommandReads, ClearReads, MessageReads};
 
 // A request; the message id of one that is not served; a refusal number.
 pub enum Reading {

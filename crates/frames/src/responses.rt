@@ -1,17 +1,17 @@
 // Responses, read. Place k of the sights is key k of the payload, place 6 + k is key k of the result.
-use crate::fields::amount_of;
-use crate::fields::is_absent;
-use crate::fields::is_map;
-use crate::fields::is_success;
-use crate::fields::is_truth;
-use crate::fields::is_uint;
+use map_fields::amount_of;
+use map_fields::is_map;
+use map_fields::is_success;
+use map_fields::is_truth;
+use map_fields::is_uint;
 use crate::prefix::is_framed;
 use crate::requests::MOST32;
 use crate::requests::is_command;
-use crate::tests::all3;
-use crate::tests::all5;
-use crate::tests::both;
-use crate::tests::either;
+use map_fields::all3;
+use map_fields::all5;
+use map_fields::both;
+use map_fields::either;
+use cbor::Sight;
 use cbor::Sights;
 use cbor::sight_at;
 use messages::LimitResult;
@@ -19,8 +19,10 @@ use messages::Outcome;
 use messages::Response;
 use messages::SetpointResult;
 ghost use mathlib.Core.Path.{_≡_};
-ghost use Rattle.frames.specs.Responses.{isStatus, stands, limitResultIn, setpointResultIn, answerFrom, readResponse};
-ghost use Rattle.frames.specs.Sights.{Inside, OutcomeReads, ResultReads, BodyReads};
+ghost use Rattle.messages.specs.declared.Outcome.{Outcome};
+ghost use Rattle.map_fields.specs.Sights.{Reads, Inside};
+ghost use Rattle.frames.specs.Responses.{isStatus, stands, limitResultIn, setpointResultIn, noResult, answerFrom, readResponse};
+ghost use Rattle.frames.specs.Sights.{OutcomeReads, ResultReads, BodyReads};
 
 // A response, or a refusal number.
 pub enum Answer {
@@ -132,6 +134,13 @@ fn read_outcome(sights: &Sights, command: u64) -> Result
         return Result::Is(Outcome::Success);
     }
     Result::Wrong
+}
+
+// Whether nothing is there.
+fn is_absent(k: Sight) -> bool
+    ensures { λ r. ⌜ Reads k noResult r Outcome.Nothing ⌝ }
+{
+    k.major == 8
 }
 
 // The result that stands at a status, or its absence.

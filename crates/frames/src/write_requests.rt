@@ -2,16 +2,16 @@
 use crate::prefix::Written;
 use crate::prefix::refused;
 use crate::prefix::send;
-use crate::puts::count_amount;
-use crate::puts::count_value;
-use crate::puts::put_amount;
-use crate::puts::put_pair;
-use crate::puts::put_uint;
-use crate::puts::put_value;
+use map_fields::count_amount;
+use map_fields::count_value;
+use map_fields::put_amount;
+use map_fields::put_map;
+use map_fields::put_uint;
+use map_fields::put_value;
 use crate::requests::MOST32;
 use crate::requests::is_served;
-use crate::tests::both;
-use crate::tests::either;
+use map_fields::both;
+use map_fields::either;
 use messages::Aim;
 use messages::Amount;
 use messages::Command;
@@ -24,9 +24,10 @@ ghost use mathlib.Core.Path.{_≡_};
 ghost use Prim.Native.Nat.{_+_, _≤_};
 ghost use lib.ListN.{length, take};
 ghost use Rattle.cbor.specs.Item.{encode, encodePairs, countPairs};
-ghost use Rattle.frames.specs.Fields.{present, aimItem, durationItem, amountItem};
+ghost use Rattle.map_fields.specs.Fields.{present, aimItem, durationItem, amountItem};
 ghost use Rattle.frames.specs.Requests.{fieldOf, limitsOf, limitsFields, commandFields, requestItem, aimWide, commandWide, isServed, requestWide, requestNumber};
-ghost use Rattle.frames.specs.Puts.{Adds, paramsRoom, payloadRoom};
+ghost use Rattle.map_fields.specs.Puts.{Puts};
+ghost use Rattle.frames.specs.Sizes.{paramsRoom, payloadRoom};
 ghost use Rattle.frames.specs.Writing.{itemFrame, writtenOf, leftBy};
 
 // More bytes than any payload written here has.
@@ -98,8 +99,7 @@ fn count_command(c: Command) -> u64
 }
 
 fn put_limits(out: &mut [u8], at: usize, l: Limits) -> usize
-    requires { ⌜ at + paramsRoom ≤ length (now out) ⌝ }
-    ensures { λ r. ⌜ Adds (now (out .entry)) at (encodePairs (present (limitsFields l))) paramsRoom (now (out .exit)) r ⌝ }
+    ensures { λ r. ⌜ Puts (now (out .entry)) at (encodePairs (present (limitsFields l))) paramsRoom (now (out .exit)) r ⌝ }
 {
     let c = l.consumption;
     let p = l.production;
@@ -112,8 +112,7 @@ fn put_limits(out: &mut [u8], at: usize, l: Limits) -> usize
 
 // The parameters' pairs.
 fn put_command(out: &mut [u8], at: usize, c: Command) -> usize
-    requires { ⌜ at + paramsRoom ≤ length (now out) ⌝ }
-    ensures { λ r. ⌜ Adds (now (out .entry)) at (encodePairs (present (commandFields c))) paramsRoom (now (out .exit)) r ⌝ }
+    ensures { λ r. ⌜ Puts (now (out .entry)) at (encodePairs (present (commandFields c))) paramsRoom (now (out .exit)) r ⌝ }
 {
     match c {
         Command::SetLimit(l) => put_limits(out, at, l),
@@ -126,8 +125,7 @@ fn put_command(out: &mut [u8], at: usize, c: Command) -> usize
 
 // The payload of a request.
 fn put_request(out: &mut [u8], r: Request) -> usize
-    requires { ⌜ payloadRoom ≤ length (now out) ⌝ }
-    ensures { λ n. ⌜ Adds (now (out .entry)) 0 (encode (requestItem r)) payloadRoom (now (out .exit)) n ⌝ }
+    ensures { λ n. ⌜ Puts (now (out .entry)) 0 (encode (requestItem r)) payloadRoom (now (out .exit)) n ⌝ }
 {
     let command = r.command;
     let a = cbor::put_head(out, 0, 5, 5);
@@ -135,7 +133,7 @@ fn put_request(out: &mut [u8], r: Request) -> usize
     let c = put_uint(out, b, 2, r.endpoint);
     let d = put_uint(out, c, 3, r.feature);
     let e = put_uint(out, d, 4, messages::wire_number(command));
-    let f = put_pair(out, e, 5, 5, count_command(command));
+    let f = put_map(out, e, 5, count_command(command));
     put_command(out, f, command)
 }
 

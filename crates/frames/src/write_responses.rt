@@ -2,20 +2,20 @@
 use crate::prefix::Written;
 use crate::prefix::refused;
 use crate::prefix::send;
-use crate::puts::count_amount;
-use crate::puts::put_amount;
-use crate::puts::put_pair;
-use crate::puts::put_truth;
-use crate::puts::put_uint;
+use map_fields::count_amount;
+use map_fields::put_amount;
+use map_fields::put_map;
+use map_fields::put_truth;
+use map_fields::put_uint;
 use crate::requests::MOST32;
 use crate::requests::is_command;
 use crate::responses::MOST_VALUE;
 use crate::responses::has_result;
 use crate::responses::is_status;
-use crate::tests::all3;
-use crate::tests::all4;
-use crate::tests::both;
-use crate::tests::either;
+use map_fields::all3;
+use map_fields::all4;
+use map_fields::both;
+use map_fields::either;
 use crate::write_requests::ROOM;
 use messages::Amount;
 use messages::LimitResult;
@@ -26,21 +26,21 @@ ghost use mathlib.Core.Path.{_≡_};
 ghost use Prim.Native.Nat.{_+_, _≤_};
 ghost use lib.ListN.{length};
 ghost use Rattle.cbor.specs.Item.{encode, encodePairs, countPairs};
-ghost use Rattle.frames.specs.Fields.{present};
-ghost use Rattle.frames.specs.Responses.{mapItem, limitFields, setpointFields, clearFields, outcomeItem, responseItem, amountUpTo, limitInRange, setpointInRange, goesWith, isNothing, fits, responseFits, responseNumber, statusAlone, statusFits, statusNumber};
-ghost use Rattle.frames.specs.Puts.{Adds, fieldBytes, pairsOf, outcomeRoom, payloadRoom};
+ghost use Rattle.map_fields.specs.Fields.{present};
+ghost use Rattle.frames.specs.Responses.{mapItem, limitFields, setpointFields, clearFields, outcomeItem, responseItem, amountUpTo, limitInRange, setpointInRange, goesWith, isNothing, fits, responseFits, responseNumber};
+ghost use Rattle.map_fields.specs.Puts.{Puts, fieldBytes, pairsOf};
+ghost use Rattle.frames.specs.Sizes.{outcomeRoom, payloadRoom};
 ghost use Rattle.frames.specs.Writing.{itemFrame, writtenOf, leftBy};
 
 // The result of SetLimit, under key 3.
 fn put_limit(out: &mut [u8], at: usize, l: LimitResult) -> usize
-    requires { ⌜ at + outcomeRoom ≤ length (now out) ⌝ }
-    ensures { λ r. ⌜ Adds (now (out .entry)) at (fieldBytes 3 (mapItem (limitFields l))) outcomeRoom (now (out .exit)) r ⌝ }
+    ensures { λ r. ⌜ Puts (now (out .entry)) at (fieldBytes 3 (mapItem (limitFields l))) outcomeRoom (now (out .exit)) r ⌝ }
 {
     let consumption = l.consumption;
     let production = l.production;
     let reason = l.reason;
     let n = 2 + count_amount(consumption) + count_amount(production) + count_amount(reason);
-    let a = put_pair(out, at, 3, 5, n);
+    let a = put_map(out, at, 3, n);
     let b = put_truth(out, a, 1, l.applied);
     let c = put_uint(out, b, 2, l.state);
     let d = put_amount(out, c, 3, consumption);
@@ -50,13 +50,12 @@ fn put_limit(out: &mut [u8], at: usize, l: LimitResult) -> usize
 
 // The result of SetSetpoint, under key 3.
 fn put_setpoint(out: &mut [u8], at: usize, l: SetpointResult) -> usize
-    requires { ⌜ at + outcomeRoom ≤ length (now out) ⌝ }
-    ensures { λ r. ⌜ Adds (now (out .entry)) at (fieldBytes 3 (mapItem (setpointFields l))) outcomeRoom (now (out .exit)) r ⌝ }
+    ensures { λ r. ⌜ Puts (now (out .entry)) at (fieldBytes 3 (mapItem (setpointFields l))) outcomeRoom (now (out .exit)) r ⌝ }
 {
     let consumption = l.consumption;
     let production = l.production;
     let n = 1 + count_amount(consumption) + count_amount(production);
-    let a = put_pair(out, at, 3, 5, n);
+    let a = put_map(out, at, 3, n);
     let b = put_truth(out, a, 1, true);
     let c = put_amount(out, b, 2, consumption);
     put_amount(out, c, 3, production)
@@ -64,16 +63,14 @@ fn put_setpoint(out: &mut [u8], at: usize, l: SetpointResult) -> usize
 
 // The result of a clear, under key 3.
 fn put_success(out: &mut [u8], at: usize) -> usize
-    requires { ⌜ at + outcomeRoom ≤ length (now out) ⌝ }
-    ensures { λ r. ⌜ Adds (now (out .entry)) at (fieldBytes 3 (mapItem clearFields)) outcomeRoom (now (out .exit)) r ⌝ }
+    ensures { λ r. ⌜ Puts (now (out .entry)) at (fieldBytes 3 (mapItem clearFields)) outcomeRoom (now (out .exit)) r ⌝ }
 {
-    let a = put_pair(out, at, 3, 5, 1);
+    let a = put_map(out, at, 3, 1);
     put_truth(out, a, 1, true)
 }
 
 fn put_outcome(out: &mut [u8], at: usize, o: Outcome) -> usize
-    requires { ⌜ at + outcomeRoom ≤ length (now out) ⌝ }
-    ensures { λ r. ⌜ Adds (now (out .entry)) at (fieldBytes 3 (outcomeItem o)) outcomeRoom (now (out .exit)) r ⌝ }
+    ensures { λ r. ⌜ Puts (now (out .entry)) at (fieldBytes 3 (outcomeItem o)) outcomeRoom (now (out .exit)) r ⌝ }
 {
     match o {
         Outcome::Nothing => at,
@@ -96,8 +93,7 @@ fn count_outcome(o: Outcome) -> u64
 
 // The payload of a response.
 fn put_response(out: &mut [u8], r: Response) -> usize
-    requires { ⌜ payloadRoom ≤ length (now out) ⌝ }
-    ensures { λ n. ⌜ Adds (now (out .entry)) 0 (encode (responseItem r)) payloadRoom (now (out .exit)) n ⌝ }
+    ensures { λ n. ⌜ Puts (now (out .entry)) 0 (encode (responseItem r)) payloadRoom (now (out .exit)) n ⌝ }
 {
     let outcome = r.outcome;
     let a = cbor::put_head(out, 0, 5, 2 + count_outcome(outcome));
@@ -190,15 +186,6 @@ fn response_number(command: u64, r: Response) -> u64
     4
 }
 
-fn status_number(id: u64, status: u64) -> u64
-    ensures { λ n. ⌜ n ≡ statusNumber id status ⌝ }
-{
-    if all3(id <= MOST32, is_status(status), 0 < status) {
-        return 0;
-    }
-    3
-}
-
 // Writes a frame that holds a response, whatever its numbers.
 pub fn frame_response(out: &mut [u8], r: Response) -> Written
     ensures { λ w. ⌜ w ≡ writtenOf 0 (itemFrame (responseItem r)) (length (now (out .entry))) ⌝ }
@@ -219,23 +206,4 @@ pub fn write_response(out: &mut [u8], command: u64, r: Response) -> Written
         return refused(number);
     }
     frame_response(out, r)
-}
-
-// Writes an answer with a status and no result, which names no command.
-pub fn write_status(out: &mut [u8], id: u64, status: u64) -> Written
-    ensures { λ w. ⌜ w ≡ writtenOf (statusNumber id status) (itemFrame (responseItem (statusAlone id status))) (length (now (out .entry))) ⌝ }
-    ensures { λ _. ⌜ now (out .exit) ≡ leftBy (statusNumber id status) (itemFrame (responseItem (statusAlone id status))) (now (out .entry)) ⌝ }
-{
-    let number = status_number(id, status);
-    if number != 0 {
-        return refused(number);
-    }
-    frame_response(
-        out,
-        Response {
-            id,
-            status,
-            outcome: Outcome::Nothing,
-        },
-    )
 }

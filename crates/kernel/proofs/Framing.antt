@@ -10,7 +10,7 @@ use native.Mathlib.Omega.{arith}
 use lib.Dec.{leb, eqb}
 use lib.ListN.{length}
 use borrow.Author.Tests.{eq-eqb, ne-eqb}
-use Rattle.cbor.specs.Bytes.{put, putWhole}
+use Rattle.bytes.specs.Bytes.{put, putWhole}
 use Rattle.messages.specs.Refusals.{firstOf}
 use Rattle.messages.specs.declared.Outcome.{Outcome}
 use Rattle.messages.specs.declared.Request.{Request}

@@ -15,7 +15,7 @@ use Rattle.messages.specs.declared.Command.{Command}
 use Rattle.messages.specs.declared.Outcome.{Outcome}
 use Rattle.messages.specs.declared.Request.{Request}
 use Rattle.messages.specs.declared.Response.{Response}
-use Rattle.frames.specs.Fields.{mostValue, most32}
+use Rattle.map_fields.specs.Fields.{mostValue, most32}
 use Rattle.frames.specs.Requests.{requestNumber, requestWide, requestUnserved, servedCommand, servedAt, isServed, commandWide}
 use Rattle.frames.specs.Responses.{isStatus, stands, goesWith, fits, amountUpTo, isNothing, limitInRange, setpointInRange, responseFits, responseNumber, statusFits, statusNumber}
 use Rattle.store.specs.Sizes.{valueEnd}

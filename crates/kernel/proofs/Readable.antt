@@ -5,8 +5,8 @@ use Prim.Native.Nat.{ℕ}
 use lib.Dec.{eqb}
 use Rattle.messages.specs.Numbers.{wireNumber}
 use Rattle.frames.specs.Responses.{stands}
-use Rattle.frames.proofs.RequestAgain.{request-writable}
-use Rattle.frames.proofs.ResponseBack.{response-reads-back, status-reads-back}
+use Rattle.frame_laws.proofs.RequestAgain.{request-writable}
+use Rattle.frame_laws.proofs.ResponseBack.{response-reads-back, status-reads-back}
 use Rattle.kernel.specs.Frame.{responseTo, responseFrame}
 use Rattle.kernel.specs.Laws.{ResponsesRead, UnservedReads}
 use Rattle.kernel.proofs.InRange.{response-writable, status-writable}

@@ -10,7 +10,7 @@ use Rattle.cbor.specs.Item.{Item, Pairs, payloadOf}
 use Rattle.cbor.specs.Find.{valueOf}
 use Rattle.messages.specs.declared.Command.{Command}
 use Rattle.frames.specs.Prefix.{framed, payloadIn}
-use Rattle.frames.specs.Fields.{upTo, mapIn, needed, most32}
+use Rattle.map_fields.specs.Fields.{upTo, mapIn, needed, most32}
 use Rattle.frames.specs.Requests.{Envelope, envelopeIn, servedAt, servedCommand, commandIn, withCommand, fromEnvelope, fromPayload, readRequest}
 use Rattle.frames.specs.declared.requests.Reading.{Reading}
 

@@ -1,11 +1,12 @@
 // Runs vectors through the checker and the readers. A line of the input is a name and bytes in hex; a line of the output is the name and
 // `refused`, or `accepted` and the item's heads in order: integers, strings as h'..' and t'..', false, true, null, and an array or a map with
 // its count before its elements. Behind a map stand the keys 0 to 31 that are found in it, each with its value's position.
-use cbor::Found;
 use cbor::Head;
-use cbor::Int;
+use cbor::Sight;
+use cbor::Stop;
 use libc::STDIN_FILENO;
 use libc::STDOUT_FILENO;
+use messages::Field;
 
 fn text(s: &[u8]) {
     io::write_all(STDOUT_FILENO, s);
@@ -90,24 +91,36 @@ fn below_zero(v: i64) -> u64 {
     natural(-1 - v)
 }
 
-fn show_int(s: &[u8], at: usize) {
-    match cbor::read_int(s, at) {
-        Int::Other => {
-            text(b" no integer");
-        }
-        Int::OutOfRange => {
-            text(b" out of range");
-        }
-        Int::Is(v) => {
-            if v < 0 {
-                text(b" -");
-                io::print_decimal(STDOUT_FILENO, above(below_zero(v)));
-            } else {
-                text(b" ");
-                io::print_decimal(STDOUT_FILENO, natural(v));
-            }
+// Shows a number that is not negative, or -1 - n.
+fn show_number(v: i64) {
+    if v < 0 {
+        text(b" -");
+        io::print_decimal(STDOUT_FILENO, above(below_zero(v)));
+    } else {
+        text(b" ");
+        io::print_decimal(STDOUT_FILENO, natural(v));
+    }
+}
+
+fn show_field(field: Field) {
+    match field {
+        Field::Absent => {}
+        Field::Null => {}
+        Field::Value(v) => {
+            show_number(v);
         }
     }
+}
+
+// Shows an integer by its head.
+fn show_int(major: u64, arg: u64) {
+    let value = map_fields::read_value(Sight { major, arg }, false);
+    let field = value.field;
+    if value.ok {
+        show_field(field);
+        return;
+    }
+    text(b" out of range");
 }
 
 // n + 1, where there is one.
@@ -168,7 +181,7 @@ fn show_head(s: &[u8], at: usize) -> usize {
         Head::Bad => s.len(),
         Head::Is(major, v, next) => {
             if major < 2 {
-                show_int(s, at);
+                show_int(major, v);
                 return next;
             }
             if major < 4 {
@@ -208,12 +221,20 @@ fn show_heads(s: &[u8]) {
 }
 
 fn show_key(s: &[u8], key: u64) {
-    match cbor::find(s, 0, key, cbor::DEPTH) {
-        Found::Nothing => {}
-        Found::At(p) => {
-            show_count(b" ", key);
-            show_count(b"@", p as u64);
+    match cbor::read_head(s, 0) {
+        Head::Bad => {}
+        Head::Is(major, n, next) => {
+            if major == 5 {
+                show_found(cbor::seek(s, next, n, key, cbor::DEPTH - 1), key);
+            }
         }
+    }
+}
+
+fn show_found(stop: Stop, key: u64) {
+    if stop.there {
+        show_count(b" ", key);
+        show_count(b"@", stop.at as u64);
     }
 }
 

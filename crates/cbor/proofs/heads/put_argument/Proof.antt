@@ -1,6 +1,6 @@
 use borrow.Author.Needs.{needs}
 use native.Mathlib.Omega.{arith}
-use Rattle.cbor.proofs.Puts.{put-width, put-nothing, put-one}
+use Rattle.bytes.proofs.PutLaws.{put-width, put-nothing, put-one}
 use Rattle.cbor.proofs.Widths.{arg-width-0, arg-width-1, arg-width-2, arg-width-4, arg-width-8}
 use Rattle.cbor.proofs.heads.put_argument.Statement.{statement}
 use Rattle.cbor.proofs.heads.put_argument.Tie as tie

@@ -2,7 +2,7 @@ use borrow.Author.Needs.{needs}
 use mathlib.Core.Path.{ap, _∙_}
 use native.Mathlib.Omega.{arith}
 use lib.ListN.{length, length-set}
-use Rattle.cbor.proofs.Puts.{has-room, length-put}
+use Rattle.bytes.proofs.PutLaws.{has-room, length-put}
 use Rattle.cbor.proofs.Widths.{info-small}
 use Rattle.cbor.proofs.HeadSteps.{fits, head-stored, head-not-stored, no-major}
 use Rattle.cbor.proofs.heads.put_head.Statement.{statement}

@@ -7,7 +7,7 @@ use borrow.Author.Needs.{needs}
 use lib.ListN.{length}
 use mathlib.Core.Path.{_≡_, refl, ap, _∙_}
 use Rattle.cbor.specs.Item.{itemAt, itemsAt, pairsAt, pastOf, least}
-use Rattle.cbor.proofs.Numbers.{all-bytes}
+use Rattle.bytes.proofs.NumberLaws.{all-bytes}
 use borrow.Fn.Kinds.{In}
 use borrow.Fn.PlainCycle.{Measures, is, falls, and}
 use Rattle.cbor.proofs.items.past_array.Reads as past-array

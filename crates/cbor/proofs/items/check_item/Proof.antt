@@ -1,4 +1,4 @@
-use Rattle.cbor.proofs.Numbers.{all-bytes}
+use Rattle.bytes.proofs.NumberLaws.{all-bytes}
 use Rattle.cbor.proofs.ItemSteps.{item-bad, item-got, end-bad, end-at}
 use borrow.Author.Needs.{needs}
 use Rattle.cbor.proofs.items.check_item.Statement.{statement}

@@ -7,7 +7,7 @@ use lib.ListN.{length}
 use mathlib.Core.Path.{refl, sym, ap}
 use Rattle.cbor.specs.Item.{itemAt, pairsAt, pastOf, least}
 use Rattle.cbor.specs.Pass.{noteKey}
-use Rattle.cbor.proofs.Numbers.{all-bytes}
+use Rattle.bytes.proofs.NumberLaws.{all-bytes}
 use Rattle.cbor.proofs.ItemSteps.{item-ends, head-ends, key-ends, item-bad, item-got, head-rest, item-rest, pairs-key, pairs-bad, item-no-head, rest-flat, rest-deep, rest-pairs}
 use Rattle.cbor.proofs.PassSteps.{left-bad, left-is, Onward, ends-none, ends-bad, ends-large, ends-next, value-plain, value-under, value-map}
 use borrow.Fn.Kinds.{In}

@@ -1,6 +1,6 @@
 use borrow.Author.Needs.{needs}
 use mathlib.Core.Path.{sym, _∙_}
-use Rattle.cbor.proofs.Numbers.{all-bytes}
+use Rattle.bytes.proofs.NumberLaws.{all-bytes}
 use Rattle.cbor.proofs.PassSteps.{scan-taken, scan-refused}
 use Rattle.cbor.proofs.sights.scan.Statement.{statement}
 use Rattle.cbor.proofs.sights.scan.Tie as tie

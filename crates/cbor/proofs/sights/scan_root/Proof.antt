@@ -3,7 +3,7 @@ use native.Mathlib.Omega.{arith}
 use mathlib.Core.Path.{sym, ap}
 use Rattle.cbor.specs.Item.{pastOf, levels}
 use Rattle.cbor.specs.Pass.{noteKey, blank}
-use Rattle.cbor.proofs.Numbers.{all-bytes}
+use Rattle.bytes.proofs.NumberLaws.{all-bytes}
 use Rattle.cbor.proofs.ItemSteps.{head-ends, head-rest, item-rest, item-no-head, rest-flat, rest-pairs}
 use Rattle.cbor.proofs.PassSteps.{left-bad, root-plain, root-map}
 use Rattle.cbor.proofs.sights.scan_root.Statement.{statement}

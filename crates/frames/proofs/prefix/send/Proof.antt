@@ -12,4 +12,4 @@ send-spec =
     (λ c. search needs) (λ c κs. search needs)
     (λ c. send-refused (c .before .before .before .before .args .payload .now) (c .before .before .before .before .args .out .now) (c .before .before .before .before .args .n) (c .before .before .before .before .pre .0) (omega (arith, c .before .if1 .taken)) _ (c .refused .ensures))
     (λ c κs. search needs) (λ c κs. search needs) (λ c. search needs)
-    (λ c. send-whole (c .before .before .before .before .before .before .before .before .before .before .before .args .payload .now) (c .before .before .before .before .before .before .before .before .before .before .before .args .out .now) (c .before .before .before .before .before .before .before .before .before .before .before .args .n) (c .before .before .before .before .before .before .before .before .before .before .before .pre .0) (omega (arith, c .before .before .before .before .before .before .before .before .if1 .left)) _ _ (c .before .before .before .before .before .before .put-u32 .ensures .1) (c .before .before .copy .ensures) _ refl))
+    (λ c. send-whole (c .before .before .before .before .before .before .before .before .before .before .before .args .payload .now) (c .before .before .before .before .before .before .before .before .before .before .before .args .out .now) (c .before .before .before .before .before .before .before .before .before .before .before .args .n) (c .before .before .before .before .before .before .before .before .before .before .before .pre .0) (omega (arith, c .before .before .before .before .before .before .before .before .if1 .left)) _ _ (c .before .before .before .before .before .before .put-u32 .ensures .1) (c .before .before .put-bytes .ensures .1) _ refl))

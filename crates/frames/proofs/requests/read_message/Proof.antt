@@ -1,5 +1,5 @@
 use mathlib.Core.Path.{_∙_}
-use Rattle.frames.proofs.Joined.{and-same}
+use Rattle.map_fields.proofs.Joined.{and-same}
 use Rattle.frames.proofs.Requested.{envelope-wrong, unserved, message-is, message-wrong}
 use borrow.Author.Needs.{needs}
 use Rattle.frames.proofs.requests.read_message.Statement.{statement}

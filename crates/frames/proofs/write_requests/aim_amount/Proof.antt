@@ -1,4 +1,4 @@
-use Rattle.frames.specs.Fields.{amountItem, aimItem}
+use Rattle.map_fields.specs.Fields.{amountItem, aimItem}
 use borrow.Author.Needs.{needs}
 use Rattle.frames.proofs.write_requests.aim_amount.Statement.{statement}
 use Rattle.frames.proofs.write_requests.aim_amount.Tie as tie

@@ -1,6 +1,6 @@
-use Rattle.frames.proofs.Added.{count-none}
+use Rattle.map_fields.proofs.Added.{count-none}
 use mathlib.Core.Path.{ap, sym, _∙_}
-use Rattle.frames.specs.Puts.{pairsOf}
+use Rattle.map_fields.specs.Puts.{pairsOf}
 use Rattle.frames.specs.Requests.{commandFields}
 use Rattle.frames.proofs.Writes.{one-count}
 use borrow.Author.Needs.{needs}

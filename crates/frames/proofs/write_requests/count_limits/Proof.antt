@@ -1,4 +1,4 @@
-use Rattle.frames.specs.Fields.{valueItem, amountItem}
+use Rattle.map_fields.specs.Fields.{valueItem, amountItem}
 use native.Mathlib.Omega.{arith}
 use Rattle.frames.proofs.Writes.{pairs-small, limits-count}
 use borrow.Author.Needs.{needs}

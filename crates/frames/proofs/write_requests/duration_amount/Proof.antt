@@ -1,5 +1,5 @@
 use borrow.Author.Tests.{eq-eqb, ne-eqb}
-use Rattle.frames.specs.Fields.{amountItem, durationItem}
+use Rattle.map_fields.specs.Fields.{amountItem, durationItem}
 use Rattle.frames.proofs.write_requests.duration_amount.Statement.{statement}
 use Rattle.frames.proofs.write_requests.duration_amount.Tie as tie
 

@@ -1,6 +1,6 @@
 use mathlib.Core.Path.{_∙_}
-use Rattle.frames.proofs.Joined.{and-same}
-use Rattle.frames.proofs.Joined.{via}
+use Rattle.map_fields.proofs.Joined.{and-same}
+use Rattle.map_fields.proofs.Joined.{via}
 use Rattle.messages.specs.Refusals.{firstOf}
 use Rattle.frames.specs.Requests.{requestNumber, requestUnserved}
 use borrow.Author.Needs.{needs}

@@ -1,4 +1,4 @@
-use Rattle.frames.proofs.Joined.{via}
+use Rattle.map_fields.proofs.Joined.{via}
 use Rattle.frames.specs.Responses.{fits}
 use borrow.Author.Needs.{needs}
 use Rattle.frames.proofs.write_responses.outcome_fits.Statement.{statement}

@@ -1,6 +1,6 @@
-use Rattle.frames.specs.Puts.{fieldBytes}
+use Rattle.map_fields.specs.Puts.{fieldBytes}
 use Rattle.frames.specs.Responses.{outcomeItem}
-use Rattle.frames.proofs.Added.{adds-none}
+use Rattle.map_fields.proofs.Added.{puts-none}
 use borrow.Author.Needs.{needs}
 use Rattle.frames.proofs.write_responses.put_outcome.Statement.{statement}
 use Rattle.frames.proofs.write_responses.put_outcome.Tie as tie
@@ -12,7 +12,7 @@ put-outcome-spec =
     (tie.spec
     (λ c. search needs) (λ c. search needs) (λ c κs. search needs) (λ c. search needs) (λ c κs. search needs)
     (λ c. search needs) (λ c κs. search needs)
-    (λ c. rw (c .enum-told .given .1) (adds-none (c .before .before .before .args .out .now) (c .before .before .before .args .at) _))
+    (λ c. rw (c .enum-told .given .1) (puts-none (c .before .before .before .args .out .now) (c .before .before .before .args .at) _))
     (λ c. search needs)
     (λ c. rw (c .before .before .before .before .before .o .given .1) (c .before .before .put-limit .ensures))
     (λ c. search needs)

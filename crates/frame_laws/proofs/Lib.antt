@@ -1,0 +1,9 @@
+-- The proofs of the laws, for callers to cite.
+pub mod Maps
+pub mod FieldsBack
+pub mod FieldsAgain
+pub mod Trips
+pub mod RequestBack
+pub mod RequestAgain
+pub mod ResponseBack
+pub mod ResponseAgain

@@ -1,0 +1,261 @@
+-- A request that was read can be written, and is the same bytes. Assumes nothing.
+use Prim.Native.Nat.{ℕ, _≤_}
+use mathlib.Core.Path.{_≡_, refl, sym, ap, subst, _∙_}
+use mathlib.Core.Bool.{Bool, true, false, cond, _&&_, _||_}
+use mathlib.Core.List.{List, [], _∷_}
+use mathlib.Core.Option.{Option, some, none, bind, Option·map}
+use native.Mathlib.Omega.{arith}
+use lib.Dec.{leb, ltb, eqb}
+use borrow.Author.Tests.{leb-true, eqb-true, eqb-false, le-ltb}
+use Rattle.cbor.specs.Item.{Item, Pairs, payloadOf, Ok, OkPairs, levels}
+use Rattle.cbor.specs.Find.{valueOf}
+use Rattle.messages.specs.Numbers.{wireNumber}
+use Rattle.messages.specs.Refusals.{firstOf}
+use Rattle.messages.specs.declared.Field.{Field}
+use Rattle.messages.specs.declared.Aim.{Aim}
+use Rattle.messages.specs.declared.Limits.{Limits}
+use Rattle.messages.specs.declared.Command.{Command}
+use Rattle.messages.specs.declared.Request.{Request}
+use Rattle.frames.specs.Prefix.{framed, payloadIn}
+use Rattle.map_fields.specs.Fields.{present, upTo, mapIn, needed, most32, durationIn, valueIn, aimIn, aimItem}
+use Rattle.frames.specs.Requests.{Envelope, envelopeIn, limitsIn, targetOf, setpointsOf, commandIn, servedAt, servedCommand, withCommand, fromEnvelope, fromPayload, readRequest, fieldOf, limitsOf, limitsFields, commandFields, requestFields, requestItem, commandWide, isServed, requestWide, requestUnserved, requestNumber}
+use Rattle.frames.specs.Writing.{itemFrame}
+use Rattle.frame_laws.specs.RoundTrips.{Field64, Target64, Command64, KeysTo, parameterKeys, PlainRequest, RequestWritable, RequestWritesAgain}
+use Rattle.frames.specs.declared.requests.Reading.{Reading}
+use Rattle.map_fields.proofs.Joined.{no-both, and-left, and-right}
+use Rattle.frame_laws.proofs.Maps.{OkFields, same-map, no-known}
+use Rattle.frame_laws.proofs.FieldsBack.{Allowed}
+use Rattle.frame_laws.proofs.FieldsAgain.{same-inside, bind-parts, map-part, uint-again, map-again, duration-again, aim-again, value-again}
+use Rattle.frame_laws.proofs.RequestBack.{limits-ascend, limits-ok, command-ok, request-ascend, request-ok}
+use Rattle.map_fields.proofs.Joined.{four}
+use Rattle.frame_laws.proofs.Trips.{item-in, frame-again, value-ok, map-ok}
+
+-- THE PARAMETERS
+-- what was read of a command's parameters, and that they are its fields where no key is unknown and no zero duration is written
+pub record Again (c : ℕ) (ps : Pairs) (x : Command) : Type 0 where
+  pub number : wireNumber x ≡ c
+  pub served : isServed x ≡ true
+  pub range : commandWide x ≡ false
+  pub bits : Command64 x
+  pub same : (lo d : ℕ) → OkPairs ps lo d → KeysTo (parameterKeys c) ps → (valueOf ps 3 ≡ some (Item.uint 0) → ⊥) → present (commandFields x) ≡ ps
+
+-- the same of the parameters of a Set command
+pub record AgainSet (null : Bool) (ps : Pairs) (l : Limits) : Type 0 where
+  pub range : (ltb most32 (l .duration) || ltb 255 (l .cause)) ≡ false
+  pub first : Field64 (l .consumption) × Allowed null (l .consumption)
+  pub second : Field64 (l .production) × Allowed null (l .production)
+  pub same : (lo d : ℕ) → OkPairs ps lo d → KeysTo 4 ps → (valueOf ps 3 ≡ some (Item.uint 0) → ⊥) → present (limitsFields l) ≡ ps
+
+module _ (null : Bool) (ps : Pairs) where
+  made : (x y : Field) (n k : ℕ) → valueIn null (valueOf ps 1) ≡ some x → valueIn null (valueOf ps 2) ≡ some y → durationIn (valueOf ps 3) ≡ some n → needed (upTo 255) (valueOf ps 4) ≡ some k → AgainSet null ps (record { consumption = x; production = y; duration = n; cause = k })
+  unfolding limitsFields
+  made x y n k ex ey en ek =
+      let a = value-again null (valueOf ps 1) x ex in
+      let b = value-again null (valueOf ps 2) y ey in
+      let c = duration-again (valueOf ps 3) n en in
+      let d = uint-again 255 (valueOf ps 4) k ek in
+      let l : Limits = record { consumption = x; production = y; duration = n; cause = k } in
+      record {
+        range = rw (le-ltb most32 n (c .0), le-ltb 255 k (d .1));
+        first = (a .1, a .2);
+        second = (b .1, b .2);
+        same = λ lo dd ok keys z. same-map ps (limitsFields l) lo dd ok (limits-ascend l) (limits-ok l dd (a .1) (b .1) (c .0) (d .1)) (a .0, (b .0, (c .1 z, (d .0, tt)))) (λ j h. keys j (no-known (limitsFields l) j (refl, (refl, (refl, (refl, tt)))) h));
+      }
+
+  pub set-again : (l : Limits) → limitsIn null ps ≡ some l → AgainSet null ps l
+  unfolding limitsIn
+  set-again l e =
+      let a = bind-parts (valueIn null (valueOf ps 1)) _ l e in
+      let b = bind-parts (valueIn null (valueOf ps 2)) _ l (a .2) in
+      let c = bind-parts (durationIn (valueOf ps 3)) _ l (b .2) in
+      let d = bind-parts (needed (upTo 255) (valueOf ps 4)) _ l (c .2) in
+      let q : record { consumption = a .0; production = b .0; duration = c .0; cause = d .0 } ≡ l = same-inside (d .2) in
+      subst (λ (x : Limits). AgainSet null ps x) q (made (a .0) (b .0) (c .0) (d .0) (a .1) (b .1) (c .1) (d .1))
+
+target-64 : (f : Field) → Field64 f → Target64 (targetOf f)
+target-64 Field.Absent h = tt
+target-64 Field.Null h = tt
+target-64 (Field.Value z) h = h
+
+-- without null a field is its target's
+same-field : (f : Field) → Allowed false f → fieldOf (targetOf f) ≡ f
+same-field Field.Absent h = refl
+same-field Field.Null h = absurd (no-both (sym h))
+same-field (Field.Value z) h = refl
+
+same-limits : (l : Limits) → Allowed false (l .consumption) → Allowed false (l .production) → limitsOf (setpointsOf l) ≡ l
+unfolding limitsOf setpointsOf
+same-limits l a b = rw (same-field (l .consumption) a, same-field (l .production) b)
+
+-- the parameters of a clear
+clear-same : (ps : Pairs) (a : Aim) → valueOf ps 1 ≡ aimItem a → (lo d : ℕ) → OkPairs ps lo d → KeysTo 1 ps → OkFields ((1, aimItem a) ∷ []) d → present ((1, aimItem a) ∷ []) ≡ ps
+clear-same ps a e lo d ok keys f = same-map ps ((1, aimItem a) ∷ []) lo d ok (omega arith, tt) f (e, tt) (λ j h. keys j (no-known ((1, aimItem a) ∷ []) j (refl, tt) h))
+
+module _ (ps : Pairs) where
+  again-limit : (x : Command) → Option·map Command.SetLimit (limitsIn true ps) ≡ some x → Again 1 ps x
+  unfolding commandFields commandWide
+  again-limit x e =
+      let p = map-part Command.SetLimit (limitsIn true ps) x e in
+      let s = set-again true ps (p .0) (p .1) in
+      subst (λ (y : Command). Again 1 ps y) (p .2) (record { number = refl; served = refl; range = s .range; bits = (s .first .0, s .second .0); same = s .same })
+
+  again-setpoint : (x : Command) → Option·map (λ l. Command.SetSetpoint (setpointsOf l)) (limitsIn false ps) ≡ some x → Again 3 ps x
+  unfolding commandFields commandWide setpointsOf
+  again-setpoint x e =
+      let p = map-part (λ (l : Limits). Command.SetSetpoint (setpointsOf l)) (limitsIn false ps) x e in
+      let s = set-again false ps (p .0) (p .1) in
+      subst (λ (y : Command). Again 3 ps y) (p .2)
+      (record {
+        number = refl;
+        served = refl;
+        range = s .range;
+        bits = (target-64 (p .0 .consumption) (s .first .0), target-64 (p .0 .production) (s .second .0));
+        same = λ lo d ok keys z. ap (λ (l : Limits). present (limitsFields l)) (same-limits (p .0) (s .first .1) (s .second .1)) ∙ s .same lo d ok keys z;
+      })
+
+  again-clear-limit : (x : Command) → Option·map Command.ClearLimit (aimIn (valueOf ps 1)) ≡ some x → Again 2 ps x
+  unfolding commandFields commandWide
+  again-clear-limit x e =
+      let p = map-part Command.ClearLimit (aimIn (valueOf ps 1)) x e in
+      let a = aim-again (valueOf ps 1) (p .0) (p .1) in
+      subst (λ (y : Command). Again 2 ps y) (p .2) (record { number = refl; served = refl; range = a .1; bits = tt; same = λ lo d ok keys z. clear-same ps (p .0) (a .0) lo d ok keys (command-ok (Command.ClearLimit (p .0)) d (a .1) tt) })
+
+  again-clear-setpoint : (x : Command) → Option·map Command.ClearSetpoint (aimIn (valueOf ps 1)) ≡ some x → Again 4 ps x
+  unfolding commandFields commandWide
+  again-clear-setpoint x e =
+      let p = map-part Command.ClearSetpoint (aimIn (valueOf ps 1)) x e in
+      let a = aim-again (valueOf ps 1) (p .0) (p .1) in
+      subst (λ (y : Command). Again 4 ps y) (p .2) (record { number = refl; served = refl; range = a .1; bits = tt; same = λ lo d ok keys z. clear-same ps (p .0) (a .0) lo d ok keys (command-ok (Command.ClearSetpoint (p .0)) d (a .1) tt) })
+
+  pub command-again : (c : ℕ) (x : Command) → servedCommand c ≡ true → commandIn c ps ≡ some x → Again c ps x
+  unfolding servedCommand commandIn
+  command-again c x s e = go (eqb c 1) (eqb c 2) (eqb c 3) refl refl refl e
+    where
+      go : (p q r : Bool) → eqb c 1 ≡ p → eqb c 2 ≡ q → eqb c 3 ≡ r
+          → cond p (Option·map Command.SetLimit (limitsIn true ps)) (cond q (Option·map Command.ClearLimit (aimIn (valueOf ps 1))) (cond r (Option·map (λ l. Command.SetSetpoint (setpointsOf l)) (limitsIn false ps)) (Option·map Command.ClearSetpoint (aimIn (valueOf ps 1))))) ≡ some x
+          → Again c ps x
+      go true q r a b d h = subst (λ (n : ℕ). Again n ps x) (sym (eqb-true c 1 a)) (again-limit x h)
+      go false true r a b d h = subst (λ (n : ℕ). Again n ps x) (sym (eqb-true c 2 b)) (again-clear-limit x h)
+      go false false true a b d h = subst (λ (n : ℕ). Again n ps x) (sym (eqb-true c 3 d)) (again-setpoint x h)
+      go false false false a b d h =
+          let f : c ≡ 4 = four c (eqb-false c 1 a) (eqb-false c 2 b) (eqb-false c 3 d) (leb-true 1 c (and-left _ _ s)) (leb-true c 4 (and-right (leb 1 c) _ s)) in
+          subst (λ (n : ℕ). Again n ps x) (sym f) (again-clear-setpoint x h)
+
+-- THE ENVELOPE
+pub record AgainEnvelope (ps : Pairs) (e : Envelope) : Type 0 where
+  pub first : (valueOf ps 1 ≡ some (Item.uint (e .id))) × (e .id ≤ most32)
+  pub second : (valueOf ps 2 ≡ some (Item.uint (e .endpoint))) × (e .endpoint ≤ 255)
+  pub third : (valueOf ps 3 ≡ some (Item.uint (e .feature))) × (e .feature ≤ 65535)
+  pub fourth : (valueOf ps 4 ≡ some (Item.uint (e .command))) × (e .command ≤ 65535)
+  pub fifth : valueOf ps 5 ≡ some (Item.map (e .parameters))
+
+envelope-again : (ps : Pairs) (e : Envelope) → envelopeIn ps ≡ some e → AgainEnvelope ps e
+unfolding envelopeIn
+envelope-again ps e h =
+    let a = bind-parts (needed (upTo most32) (valueOf ps 1)) _ e h in
+    let b = bind-parts (needed (upTo 255) (valueOf ps 2)) _ e (a .2) in
+    let c = bind-parts (needed (upTo 65535) (valueOf ps 3)) _ e (b .2) in
+    let d = bind-parts (needed (upTo 65535) (valueOf ps 4)) _ e (c .2) in
+    let m = bind-parts (needed mapIn (valueOf ps 5)) _ e (d .2) in
+    subst (λ (x : Envelope). AgainEnvelope ps x) (same-inside (m .2))
+    (record {
+      first = uint-again most32 (valueOf ps 1) (a .0) (a .1);
+      second = uint-again 255 (valueOf ps 2) (b .0) (b .1);
+      third = uint-again 65535 (valueOf ps 3) (c .0) (c .1);
+      fourth = uint-again 65535 (valueOf ps 4) (d .0) (d .1);
+      fifth = map-again (valueOf ps 5) (m .0) (m .1);
+    })
+
+-- THE MESSAGE
+abbrev requestOf : Envelope → Command → Request
+requestOf e c = record { id = e .id; endpoint = e .endpoint; feature = e .feature; command = c }
+
+-- what a request that was read was read from
+pub record ReadFrom (ps : Pairs) (r : Request) : Type 0 where
+  pub env : Envelope
+  pub command : Command
+  pub parts : AgainEnvelope ps env
+  pub at : servedAt (env .endpoint) (env .feature) ≡ true
+  pub again : Again (env .command) (env .parameters) command
+  pub is : requestOf env command ≡ r
+
+no-reading : {r : Request} (x : Reading) → x ≡ Reading.Is r → (n : ℕ) → x ≡ Reading.Refused n → ⊥
+no-reading x e n f = let z : _≡_ {A = ℕ} 0 1 = cc in omega arith
+
+message-again : (ps : Pairs) (r : Request) → fromEnvelope (envelopeIn ps) ≡ Reading.Is r → ReadFrom ps r
+unfolding fromEnvelope
+message-again ps r h = go (envelopeIn ps) refl h
+  where
+    with-one : (e : Envelope) → envelopeIn ps ≡ some e → (servedAt (e .endpoint) (e .feature) && servedCommand (e .command)) ≡ true → (o : Option Command) → commandIn (e .command) (e .parameters) ≡ o → withCommand e o ≡ Reading.Is r → ReadFrom ps r
+    with-one e q s (some c) x y =
+        record { env = e; command = c; parts = envelope-again ps e q; at = and-left _ _ s; again = command-again (e .parameters) (e .command) c (and-right (servedAt (e .endpoint) (e .feature)) _ s) x; is = cc }
+    with-one e q s none x y = absurd (no-reading _ y 3 refl)
+
+    served-one : (e : Envelope) → envelopeIn ps ≡ some e → (b : Bool) → (servedAt (e .endpoint) (e .feature) && servedCommand (e .command)) ≡ b → cond b (withCommand e (commandIn (e .command) (e .parameters))) (Reading.Unserved (e .id)) ≡ Reading.Is r → ReadFrom ps r
+    served-one e q true s y = with-one e q s (commandIn (e .command) (e .parameters)) refl y
+    served-one e q false s y = absurd (let z : _≡_ {A = ℕ} 0 1 = cc in omega arith)
+
+    go : (o : Option Envelope) → envelopeIn ps ≡ o → fromEnvelope o ≡ Reading.Is r → ReadFrom ps r
+    go (some e) q y = served-one e q (servedAt (e .endpoint) (e .feature) && servedCommand (e .command)) refl y
+    go none q y = absurd (no-reading _ y 3 refl)
+
+-- THE FRAME
+pub record Read (frame : List ℕ) (r : Request) : Type 0 where
+  pub prefix : framed frame ≡ true
+  pub item : Item
+  pub pairs : Pairs
+  pub payload : payloadOf (payloadIn frame) ≡ some item
+  pub map : mapIn item ≡ some pairs
+  pub from : ReadFrom pairs r
+
+request-read : (frame : List ℕ) (r : Request) → readRequest frame ≡ Reading.Is r → Read frame r
+unfolding readRequest fromPayload bind fromEnvelope
+request-read frame r h = go (framed frame) refl h
+  where
+    in-map : (i : Item) → payloadOf (payloadIn frame) ≡ some i → framed frame ≡ true → (o : Option Pairs) → mapIn i ≡ o → fromEnvelope (bind o envelopeIn) ≡ Reading.Is r → Read frame r
+    in-map i q f (some m) x y = record { prefix = f; item = i; pairs = m; payload = q; map = x; from = message-again m r y }
+    in-map i q f none x y = absurd (no-reading _ y 3 refl)
+
+    in-item : (o : Option Item) → payloadOf (payloadIn frame) ≡ o → framed frame ≡ true → fromPayload o ≡ Reading.Is r → Read frame r
+    in-item (some i) q f y = in-map i q f (mapIn i) refl y
+    in-item none q f y = absurd (no-reading _ y 2 refl)
+
+    go : (b : Bool) → framed frame ≡ b → cond b (fromPayload (payloadOf (payloadIn frame))) (Reading.Refused 1) ≡ Reading.Is r → Read frame r
+    go true f y = in-item (payloadOf (payloadIn frame)) refl f y
+    go false f y = absurd (no-reading _ y 1 refl)
+
+writable : (ps : Pairs) (r : Request) → ReadFrom ps r → Command64 (r .command) × (requestNumber r ≡ 0)
+unfolding requestNumber requestWide requestUnserved firstOf
+writable ps r f =
+    let p = f .parts in
+    subst (λ (x : Request). Command64 (x .command) × (requestNumber x ≡ 0)) (f .is)
+    (f .again .bits, rw (le-ltb most32 (f .env .id) (p .first .1), le-ltb 255 (f .env .endpoint) (p .second .1), le-ltb 65535 (f .env .feature) (p .third .1), f .again .range, f .at, f .again .served))
+
+pub request-writable : RequestWritable
+request-writable frame r h = let x = request-read frame r h in writable (x .pairs) r (x .from)
+
+same-request : (ps : Pairs) (r : Request) → ReadFrom ps r → Ok (Item.map ps) levels → PlainRequest ps → requestItem r ≡ Item.map ps
+unfolding requestItem requestFields
+same-request ps r f ok plain =
+    let p = f .parts in
+    let e = f .env in
+    let c = f .command in
+    let a = f .again in
+    let okp : OkPairs ps 0 7 = map-ok ps 7 ok in
+    let k = plain .parameters (e .command) (e .parameters) (p .fourth .0) (p .fifth) in
+    let s : present (commandFields c) ≡ e .parameters = a .same 0 6 (map-ok (e .parameters) 6 (value-ok ps 0 7 5 (Item.map (e .parameters)) okp (p .fifth))) (k .0) (k .1) in
+    let w : wireNumber c ≤ 65535 = omega (arith, a .number, p .fourth .1) in
+    subst (λ (x : Request). requestItem x ≡ Item.map ps) (f .is)
+    (ap Item.map
+    (same-map ps (requestFields (requestOf e c)) 0 7 okp (request-ascend (requestOf e c)) (request-ok (requestOf e c) (p .first .1) (p .second .1) (p .third .1) w (a .range) (a .bits))
+    (p .first .0, (p .second .0, (p .third .0, (p .fourth .0 ∙ ap (λ (n : ℕ). some (Item.uint n)) (sym (a .number)), (p .fifth ∙ ap (λ (m : Pairs). some (Item.map m)) (sym s), tt)))))
+    (λ j h. plain .envelope j (no-known (requestFields (requestOf e c)) j (refl, (refl, (refl, (refl, (refl, tt))))) h))))
+
+pub request-writes-again : RequestWritesAgain
+unfolding mapIn
+request-writes-again frame ok r ps h it plain =
+    let x = request-read frame r h in
+    let i : x .item ≡ Item.map ps = same-inside (sym (x .payload) ∙ it) in
+    let m : x .pairs ≡ ps = same-inside (sym (x .map) ∙ ap mapIn i) in
+    let f : ReadFrom ps r = subst (λ (q : Pairs). ReadFrom q r) m (x .from) in
+    ap itemFrame (same-request ps r f (item-in frame ok (Item.map ps) it .0) plain) ∙ frame-again frame ok (Item.map ps) it (x .prefix)

@@ -1,0 +1,211 @@
+-- A request that is written reads back equal. Assumes nothing.
+use Prim.Native.Nat.{ℕ, _^_, _≤_, _<_}
+use mathlib.Core.Path.{_≡_, refl, sym, ap, _∙_}
+use mathlib.Core.Bool.{Bool, true, false, _&&_, _||_}
+use mathlib.Core.List.{[], _∷_}
+use mathlib.Core.Option.{some, bind}
+use native.Mathlib.Omega.{arith}
+use lib.ListN.{length, length-append}
+use lib.Dec.{ltb}
+use borrow.Author.Tests.{ltb-false}
+use Rattle.cbor.specs.Item.{Item, Ok, encode, levels}
+use Rattle.cbor.proofs.Widths.{head-length, head-short}
+use Rattle.messages.specs.Numbers.{wireNumber}
+use Rattle.messages.specs.Refusals.{firstOf}
+use Rattle.messages.specs.declared.Field.{Field}
+use Rattle.messages.specs.declared.Target.{Target}
+use Rattle.messages.specs.declared.Limits.{Limits}
+use Rattle.messages.specs.declared.Setpoints.{Setpoints}
+use Rattle.messages.specs.declared.Command.{Command}
+use Rattle.messages.specs.declared.Request.{Request}
+use Rattle.map_fields.specs.Fields.{present, mapIn, needed, most32, aimItem}
+use Rattle.frames.specs.Requests.{envelopeIn, limitsIn, targetOf, setpointsOf, commandIn, servedAt, servedCommand, fromEnvelope, readRequest, fieldOf, limitsOf, limitsFields, commandFields, requestFields, requestItem, commandWide, isServed, requestWide, requestUnserved, requestNumber}
+use Rattle.map_fields.specs.Puts.{fieldBytes}
+use Rattle.frames.specs.Writing.{itemFrame}
+use Rattle.frame_laws.specs.RoundTrips.{Field64, Target64, Command64, RequestReadsBack, OneRequest}
+use Rattle.frames.specs.declared.requests.Reading.{Reading}
+use Rattle.map_fields.proofs.Joined.{no-both, and-left, and-right, or-left, or-right, not-is-false}
+use Rattle.frame_laws.proofs.Maps.{Ascending, values, OkFields, ShortFields, ok-map, map-short}
+use Rattle.frame_laws.proofs.FieldsBack.{Allowed, uint-back, duration-back, aim-back, value-back, ok-uint, ok-duration, ok-aim, ok-value, short-uint, short-duration, short-aim, short-value}
+use Rattle.frames.proofs.Requested.{read-map-of}
+use Rattle.frame_laws.proofs.Trips.{frame-payload, frame-framed}
+
+-- THE PARAMETERS OF A SET COMMAND
+module _ (l : Limits) where
+  pub limits-ascend : Ascending (limitsFields l) 0
+  unfolding limitsFields
+  limits-ascend = (omega arith, (omega arith, (omega arith, (omega arith, tt))))
+
+  pub limits-ok : (d : ℕ) → Field64 (l .consumption) → Field64 (l .production) → l .duration ≤ most32 → l .cause ≤ 255 → OkFields (limitsFields l) d
+  unfolding limitsFields
+  limits-ok d a b x y = (omega arith, ok-value (l .consumption) d a, (omega arith, ok-value (l .production) d b, (omega arith, ok-duration (l .duration) d (omega arith), (omega arith, ok-uint (l .cause) d (omega arith), tt))))
+
+  limits-short : ShortFields (limitsFields l) 18
+  unfolding limitsFields
+  limits-short = (short-value 1 (l .consumption), (short-value 2 (l .production), (short-duration 3 (l .duration), (short-uint 4 (l .cause), tt))))
+
+  limits-back : (null : Bool) → Allowed null (l .consumption) → Allowed null (l .production) → Field64 (l .consumption) → Field64 (l .production) → l .duration ≤ most32 → l .cause ≤ 255
+      → limitsIn null (present (limitsFields l)) ≡ some l
+  unfolding limitsIn bind limitsFields
+  limits-back null p q a b x y =
+      let v : (k : ℕ) → _ = λ (k : ℕ). values (limitsFields l) 0 k limits-ascend in
+      rw (v 1, v 2, v 3, v 4, value-back null (l .consumption) p a, value-back null (l .production) q b, duration-back (l .duration) x, uint-back 255 (l .cause) y)
+
+allowed-target : (t : Target) → Allowed false (fieldOf t)
+allowed-target Target.Absent = tt
+allowed-target (Target.Value z) = tt
+
+pub field-64 : (t : Target) → Target64 t → Field64 (fieldOf t)
+field-64 Target.Absent h = tt
+field-64 (Target.Value z) h = h
+
+same-target : (t : Target) → targetOf (fieldOf t) ≡ t
+same-target Target.Absent = refl
+same-target (Target.Value z) = refl
+
+same-setpoints : (l : Setpoints) → setpointsOf (limitsOf l) ≡ l
+unfolding setpointsOf limitsOf
+same-setpoints l = rw (same-target (l .consumption), same-target (l .production))
+
+allowed-all : (f : Field) → Allowed true f
+allowed-all Field.Absent = tt
+allowed-all Field.Null = refl
+allowed-all (Field.Value z) = tt
+
+-- THE PARAMETERS OF EACH COMMAND
+pub command-ascend : (c : Command) → Ascending (commandFields c) 0
+unfolding commandFields
+command-ascend (Command.SetLimit l) = limits-ascend l
+command-ascend (Command.ClearLimit a) = (omega arith, tt)
+command-ascend (Command.SetSetpoint l) = limits-ascend (limitsOf l)
+command-ascend (Command.ClearSetpoint a) = (omega arith, tt)
+command-ascend (Command.Unserved n) = tt
+
+wide-parts : (d k : ℕ) → (ltb most32 d || ltb 255 k) ≡ false → (d ≤ most32) × (k ≤ 255)
+wide-parts d k h = (ltb-false most32 d (or-left _ _ h), ltb-false 255 k (or-right (ltb most32 d) _ h))
+
+pub command-ok : (c : Command) (d : ℕ) → commandWide c ≡ false → Command64 c → OkFields (commandFields c) d
+unfolding commandFields commandWide limitsOf
+command-ok (Command.SetLimit l) d w h = let x = wide-parts (l .duration) (l .cause) w in limits-ok l d (h .0) (h .1) (x .0) (x .1)
+command-ok (Command.ClearLimit a) d w h = (omega arith, ok-aim a d w, tt)
+command-ok (Command.SetSetpoint l) d w h =
+    let x = wide-parts (l .duration) (l .cause) w in
+    limits-ok (limitsOf l) d (field-64 (l .consumption) (h .0)) (field-64 (l .production) (h .1)) (x .0) (x .1)
+command-ok (Command.ClearSetpoint a) d w h = (omega arith, ok-aim a d w, tt)
+command-ok (Command.Unserved n) d w h = tt
+
+command-short : (c : Command) → ShortFields (commandFields c) 18
+unfolding commandFields
+command-short (Command.SetLimit l) = limits-short l
+command-short (Command.ClearLimit a) = (short-aim 1 a, tt)
+command-short (Command.SetSetpoint l) = limits-short (limitsOf l)
+command-short (Command.ClearSetpoint a) = (short-aim 1 a, tt)
+command-short (Command.Unserved n) = tt
+
+command-few : (c : Command) → length (commandFields c) ≤ 4
+unfolding commandFields limitsFields
+command-few (Command.SetLimit l) = omega arith
+command-few (Command.ClearLimit a) = omega arith
+command-few (Command.SetSetpoint l) = omega arith
+command-few (Command.ClearSetpoint a) = omega arith
+command-few (Command.Unserved n) = omega arith
+
+command-back : (c : Command) → isServed c ≡ true → commandWide c ≡ false → Command64 c → commandIn (wireNumber c) (present (commandFields c)) ≡ some c
+unfolding commandIn commandFields commandWide limitsOf
+command-back (Command.SetLimit l) s w h =
+    let x = wide-parts (l .duration) (l .cause) w in
+    rw (limits-back l true (allowed-all (l .consumption)) (allowed-all (l .production)) (h .0) (h .1) (x .0) (x .1))
+command-back (Command.ClearLimit a) s w h = rw (values ((1, aimItem a) ∷ []) 0 1 (omega arith, tt), aim-back a w)
+command-back (Command.SetSetpoint l) s w h =
+    let x = wide-parts (l .duration) (l .cause) w in
+    rw (limits-back (limitsOf l) false (allowed-target (l .consumption)) (allowed-target (l .production)) (field-64 (l .consumption) (h .0)) (field-64 (l .production) (h .1)) (x .0) (x .1), same-setpoints l)
+command-back (Command.ClearSetpoint a) s w h = rw (values ((1, aimItem a) ∷ []) 0 1 (omega arith, tt), aim-back a w)
+command-back (Command.Unserved n) s w h = absurd (no-both (sym s))
+
+wire-served : (c : Command) → isServed c ≡ true → (wireNumber c ≤ 4) × (servedCommand (wireNumber c) ≡ true)
+unfolding servedCommand
+wire-served (Command.SetLimit l) s = (omega arith, refl)
+wire-served (Command.ClearLimit a) s = (omega arith, refl)
+wire-served (Command.SetSetpoint l) s = (omega arith, refl)
+wire-served (Command.ClearSetpoint a) s = (omega arith, refl)
+wire-served (Command.Unserved n) s = absurd (no-both (sym s))
+
+-- THE REQUEST
+pub no-test : (a b : Bool) → firstOf ((a, 3) ∷ (b, 4) ∷ []) ≡ 0 → (a ≡ false) × (b ≡ false)
+unfolding firstOf
+no-test true b e = absurd (let z : _≡_ {A = ℕ} 3 0 = e in omega arith)
+no-test false true e = absurd (let z : _≡_ {A = ℕ} 4 0 = e in omega arith)
+no-test false false e = (refl, refl)
+
+module _ (r : Request) where
+  pub request-ascend : Ascending (requestFields r) 0
+  unfolding requestFields
+  request-ascend = (omega arith, (omega arith, (omega arith, (omega arith, (omega arith, tt)))))
+
+  pub request-ok : r .id ≤ most32 → r .endpoint ≤ 255 → r .feature ≤ 65535 → wireNumber (r .command) ≤ 65535 → commandWide (r .command) ≡ false → Command64 (r .command) → OkFields (requestFields r) 7
+  unfolding requestFields
+  request-ok a b c d w h =
+      (omega arith, ok-uint (r .id) 7 (omega arith), (omega arith, ok-uint (r .endpoint) 7 (omega arith), (omega arith, ok-uint (r .feature) 7 (omega arith), (omega arith, ok-uint (wireNumber (r .command)) 7 (omega arith), (omega arith, ok-map (commandFields (r .command)) 6 (omega (arith, command-few (r .command))) (command-ascend (r .command)) (command-ok (r .command) 6 w h), tt)))))
+
+  pub request-few : length (requestFields r) < 2 ^ 64
+  unfolding requestFields
+  request-few = omega arith
+
+  inner-short : length (fieldBytes 5 (some (Item.map (present (commandFields (r .command)))))) ≤ 90
+  unfolding fieldBytes
+  inner-short =
+      let c = commandFields (r .command) in
+      rw length-append (omega (arith, head-length 0 5, head-short 5, map-short c 18 (command-short (r .command)) .1, command-few (r .command)))
+
+  request-short : (1 ≤ length (encode (requestItem r))) × (length (encode (requestItem r)) ≤ 459)
+  unfolding requestItem requestFields
+  request-short =
+      let h : ShortFields (requestFields r) 90 = (omega (arith, short-uint 1 (r .id)), (omega (arith, short-uint 2 (r .endpoint)), (omega (arith, short-uint 3 (r .feature)), (omega (arith, short-uint 4 (wireNumber (r .command))), (inner-short, tt))))) in
+      map-short (requestFields r) 90 h
+
+  module _ (h : Command64 (r .command)) (e : requestNumber r ≡ 0) where
+    parts : (requestWide r ≡ false) × (requestUnserved r ≡ false)
+    unfolding requestNumber
+    parts = no-test (requestWide r) (requestUnserved r) e
+
+    ranges : (r .id ≤ most32) × (r .endpoint ≤ 255) × (r .feature ≤ 65535) × (commandWide (r .command) ≡ false)
+    unfolding requestWide
+    ranges =
+        let w = parts .0 in
+        (ltb-false most32 (r .id) (or-left _ _ (or-left _ _ (or-left _ _ w))), ltb-false 255 (r .endpoint) (or-right (ltb most32 (r .id)) _ (or-left _ _ (or-left _ _ w))), ltb-false 65535 (r .feature) (or-right (ltb most32 (r .id) || ltb 255 (r .endpoint)) _ (or-left _ _ w)), or-right (ltb most32 (r .id) || ltb 255 (r .endpoint) || ltb 65535 (r .feature)) _ w)
+
+    served : (servedAt (r .endpoint) (r .feature) && isServed (r .command)) ≡ true
+    unfolding requestUnserved
+    served = not-is-false _ (parts .1)
+
+    is-served : isServed (r .command) ≡ true
+    is-served = and-right (servedAt (r .endpoint) (r .feature)) _ served
+
+    item-ok : Ok (requestItem r) levels
+    unfolding requestItem
+    item-ok =
+        ok-map (requestFields r) 7 request-few request-ascend (request-ok (ranges .0) (ranges .1) (ranges .2) (omega (arith, wire-served (r .command) is-served .0)) (ranges .3) h)
+
+    envelope-back : envelopeIn (present (requestFields r)) ≡ some (record { id = r .id; endpoint = r .endpoint; feature = r .feature; command = wireNumber (r .command); parameters = present (commandFields (r .command)) })
+    unfolding envelopeIn bind requestFields needed mapIn
+    envelope-back =
+        let v : (k : ℕ) → _ = λ (k : ℕ). values (requestFields r) 0 k request-ascend in
+        rw (v 1, v 2, v 3, v 4, v 5, uint-back most32 (r .id) (ranges .0), uint-back 255 (r .endpoint) (ranges .1), uint-back 65535 (r .feature) (ranges .2), uint-back 65535 (wireNumber (r .command)) (omega (arith, wire-served (r .command) is-served .0)))
+
+    message-back : fromEnvelope (envelopeIn (present (requestFields r))) ≡ Reading.Is r
+    unfolding fromEnvelope
+    message-back = rw (envelope-back, and-left (servedAt (r .endpoint) (r .feature)) (isServed (r .command)) served, wire-served (r .command) is-served .1, command-back (r .command) is-served (ranges .3) h)
+
+pub request-reads-back : RequestReadsBack
+unfolding mapIn requestItem
+request-reads-back r h e =
+    let s = request-short r in
+    read-map-of (itemFrame (requestItem r)) (requestItem r) (present (requestFields r)) (frame-framed (requestItem r) (s .0) (omega (arith, s .1))) (frame-payload (requestItem r) (item-ok r h e)) refl
+    ∙ message-back r h e
+
+pub one-request : OneRequest
+one-request r q hr hq er eq same =
+    let a = request-reads-back r hr er in
+    let b = request-reads-back q hq eq in
+    let c = ap readRequest same in
+    let d : Reading.Is r ≡ Reading.Is q = sym a ∙ c ∙ b in cc

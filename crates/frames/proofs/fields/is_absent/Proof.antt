@@ -1,9 +1,0 @@
-use Rattle.frames.proofs.BySight.{absent-reads}
-use Rattle.frames.proofs.fields.is_absent.Statement.{statement}
-use Rattle.frames.proofs.fields.is_absent.Tie as tie
-
-pub is-absent-spec : {M : Type 1} → statement M
-is-absent-spec =
-    tie.close
-    (tie.spec
-    (λ c. absent-reads _))

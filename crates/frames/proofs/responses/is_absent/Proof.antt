@@ -1,0 +1,9 @@
+use Rattle.frames.proofs.Answered.{absent-reads}
+use Rattle.frames.proofs.responses.is_absent.Statement.{statement}
+use Rattle.frames.proofs.responses.is_absent.Tie as tie
+
+pub is-absent-spec : {M : Type 1} → statement M
+is-absent-spec =
+    tie.close
+    (tie.spec
+    (λ c. absent-reads _))

@@ -1,9 +1,0 @@
-use borrow.Author.Needs.{needs}
-use Rattle.frames.proofs.tests.all3.Statement.{statement}
-use Rattle.frames.proofs.tests.all3.Tie as tie
-
-pub all3-spec : {M : Type 1} → statement M
-all3-spec =
-    tie.close
-    (tie.spec
-    (λ c κs. search needs) (λ c κs. search needs) (λ c. rw (c .both2 .ensures, c .before .both .ensures)))

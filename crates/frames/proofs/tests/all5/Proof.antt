@@ -1,9 +1,0 @@
-use borrow.Author.Needs.{needs}
-use Rattle.frames.proofs.tests.all5.Statement.{statement}
-use Rattle.frames.proofs.tests.all5.Tie as tie
-
-pub all5-spec : {M : Type 1} → statement M
-all5-spec =
-    tie.close
-    (tie.spec
-    (λ c κs. search needs) (λ c κs. search needs) (λ c. rw (c .both .ensures, c .before .all4 .ensures)))

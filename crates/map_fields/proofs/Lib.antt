@@ -1,0 +1,6 @@
+-- What the proofs of several functions use, and the laws that callers cite.
+pub mod Joined
+pub mod Signs
+pub mod BySight
+pub mod Parts
+pub mod Added

@@ -1,0 +1,12 @@
+use Rattle.cbor.specs.Item.{encode}
+use Rattle.map_fields.specs.Puts.{pairBytes, fieldBytes}
+use borrow.Author.Needs.{needs}
+use Rattle.map_fields.proofs.puts.put_uint.Statement.{statement}
+use Rattle.map_fields.proofs.puts.put_uint.Tie as tie
+
+pub put-uint-spec : {M : Type 1} → statement M
+unfolding pairBytes fieldBytes encode
+put-uint-spec =
+    tie.close
+    (tie.spec
+    (λ c κs. search needs) (λ c. search needs) (λ c. c .before .before .put-pair .ensures))

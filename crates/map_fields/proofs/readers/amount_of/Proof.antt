@@ -1,0 +1,11 @@
+use borrow.Author.Tests.{ne-eqb}
+use Rattle.map_fields.specs.Sights.{amountOf}
+use Rattle.map_fields.proofs.readers.amount_of.Statement.{statement}
+use Rattle.map_fields.proofs.readers.amount_of.Tie as tie
+
+pub amount-of-spec : {M : Type 1} → statement M
+unfolding amountOf
+amount-of-spec =
+    tie.close
+    (tie.spec
+    (λ c. rw (c .if1 .taken)) (λ c. rw (ne-eqb _ 0 (c .if1 .left))))

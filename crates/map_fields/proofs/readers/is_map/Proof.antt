@@ -1,0 +1,9 @@
+use Rattle.map_fields.proofs.BySight.{map-reads}
+use Rattle.map_fields.proofs.readers.is_map.Statement.{statement}
+use Rattle.map_fields.proofs.readers.is_map.Tie as tie
+
+pub is-map-spec : {M : Type 1} → statement M
+is-map-spec =
+    tie.close
+    (tie.spec
+    (λ c. map-reads _))

@@ -1,0 +1,4 @@
+pub mod Fields
+pub mod Puts
+pub mod Sights
+pub mod Laws

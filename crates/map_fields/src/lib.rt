@@ -1,0 +1,24 @@
+// A field of a checked map, read by what is seen of it and written behind what is written.
+mod puts; // puts.rt: fields, written
+mod readers; // readers.rt: fields, read
+mod truths; // truths.rt: truths joined
+
+pub use puts::count_amount;
+pub use puts::count_value;
+pub use puts::put_amount;
+pub use puts::put_map;
+pub use puts::put_truth;
+pub use puts::put_uint;
+pub use puts::put_value;
+pub use readers::Value;
+pub use readers::amount_of;
+pub use readers::is_map;
+pub use readers::is_success;
+pub use readers::is_truth;
+pub use readers::is_uint;
+pub use readers::read_value;
+pub use truths::all3;
+pub use truths::all4;
+pub use truths::all5;
+pub use truths::both;
+pub use truths::either;
