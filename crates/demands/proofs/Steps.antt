@@ -16,7 +16,7 @@ use Rattle.store.specs.Words.{clockOf, overrideOf, settingsOf, zonesOf, applied
 use Rattle.device.specs.Refusals.{firstOf, late}
 use Rattle.device.specs.Calls.{zoneChange, badJoin, joinTests, joinNumber, joinAfter, leaveTests, leaveNumber, leaveAfter, same, linkNumber, linkAfter, overrideNumber, overrideAfter, overrideWord, clearNumber, clearAfter, askNumber, askAfter}
 use Rattle.store.specs.Words.{headChange}
-use Rattle.device.specs.Commands.{isUnserved, unsupported, setsLimits, invalid, belowTheMinimum, obeyed, commandNumber, commandAfter, commandAnswer}
+use Rattle.device.specs.Commands.{isUnserved, contentTests, obeyed, commandNumber, commandAfter, commandAnswer}
 use Rattle.planner.specs.Plan.{planOf, planNumber, planAfter}
 use Rattle.frames.specs.Requests.{readRequest}
 use Rattle.frames.specs.Writing.{writingNumber}
@@ -68,10 +68,8 @@ module _ (s : Settings) (ws : List ℕ) (h : Log) (a : Agree s ws h) where
   unfolding commandNumber commandNumberBy firstOf
   command-number z t c =
       rw (a .clock, there z, a .settings, a .override)
-      (ap (λ (n : ℕ). cond (isUnserved c) 4 (cond (late (clockBy h) t) 5 n)) (unheard (joinedBy h z) (not (zoneOf (zonesOf ws) z .up)) (not (upBy h z)) 10 rest (λ j. ap not (up z j))))
-    where
-      rest : List (Bool × ℕ)
-      rest = (unsupported s c, 11) ∷ (setsLimits c && not (eqb (overrideBy h) 0), 12) ∷ (invalid c, 13) ∷ (belowTheMinimum s c, 14) ∷ []
+      (ap (λ (n : ℕ). cond (isUnserved c) 4 (cond (late (clockBy h) t) 5 n))
+      (unheard (joinedBy h z) (not (zoneOf (zonesOf ws) z .up)) (not (upBy h z)) 10 (contentTests s (overrideBy h) c) (λ j. ap not (up z j))))
 
   -- THE CHANGES
   -- an accepted join has a good id, that is not joined, and a free slot

@@ -93,7 +93,9 @@ module _ (ws : List ℕ) (z t : ℕ) (c : Command) where
     where
       go : (b : Bool) → eqb (commandNumber ws z t c) 0 ≡ b → enacted ws t (decisionOf ws z t c) ≡ commandAfter ws z t c
       go true e = rw (e, same-change (eqb-true (commandNumber ws z t c) 0 e), eqb-true (commandNumber ws z t c) 0 e)
-      go false e = rw e (refusal-keeps ws (commandNumber ws z t c) _ (eqb-false (commandNumber ws z t c) 0 e) ∙ sym (refusal-keeps ws (commandNumber ws z t c) _ (eqb-false (commandNumber ws z t c) 0 e)))
+      go false e =
+          let keeps : (x : Change) → after ws (commandNumber ws z t c) x ≡ ws = λ x. refusal-keeps ws (commandNumber ws z t c) x (eqb-false (commandNumber ws z t c) 0 e) in
+          rw e (keeps _ ∙ sym (keeps _))
 
   -- WHAT IT IS ANSWERED
   full : length (obeying .held) ≡ helds

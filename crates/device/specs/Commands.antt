@@ -164,11 +164,15 @@ fieldTooLow minimum (Field.Value v) = tooLow minimum (natural v)
 unfoldable pub belowTheMinimum : Settings → Command → Bool
 belowTheMinimum s c = fieldTooLow (s .minimum) (says c 0)
 
+-- what is asked of the command itself, once its zone is joined and up
+abbrev pub contentTests : Settings → ℕ → Command → List (Bool × ℕ)
+contentTests s override c =
+    (unsupported s c, 11) ∷ (setsLimits c && not (eqb override 0), 12) ∷ (invalid c, 13) ∷ (belowTheMinimum s c, 14) ∷ []
+
 -- a command from zone z at t: document 01's order
 abbrev pub commandTests : ℕ → Bool → Bool → Settings → ℕ → ℕ → Command → List (Bool × ℕ)
 commandTests clock there up s override t c =
-    (isUnserved c, 4) ∷ (late clock t, 5) ∷ (not there, 9) ∷ (not up, 10) ∷ (unsupported s c, 11)
-    ∷ (setsLimits c && not (eqb override 0), 12) ∷ (invalid c, 13) ∷ (belowTheMinimum s c, 14) ∷ []
+    (isUnserved c, 4) ∷ (late clock t, 5) ∷ (not there, 9) ∷ (not up, 10) ∷ contentTests s override c
 
 unfoldable pub commandNumber : List ℕ → ℕ → ℕ → Command → ℕ
 commandNumber ws z t c =

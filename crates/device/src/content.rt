@@ -6,6 +6,7 @@ use crate::fields::field_negative;
 use crate::fields::field_too_low;
 use crate::said::Kind;
 use crate::said::aim_of;
+use crate::said::direction_of;
 use crate::said::is_set;
 use crate::said::kind_of;
 use crate::said::says;
@@ -14,12 +15,11 @@ use messages::Aim;
 use messages::Command;
 use messages::Field;
 ghost use mathlib.Core.Path.{_≡_};
-ghost use mathlib.Core.Bool.{not, _&&_, _||_};
-ghost use mathlib.Core.List.{[], _∷_};
+ghost use mathlib.Core.Bool.{not, _&&_};
 ghost use lib.Dec.{eqb};
 ghost use Rattle.store.specs.Sizes.{helds};
 ghost use Rattle.device.specs.Refusals.{firstOf};
-ghost use Rattle.device.specs.Commands.{accepts, aimUnsupported, beyond, someOf, says, fieldNegative, fieldNames, unsupported, isUnserved, setsLimits, invalid, belowTheMinimum};
+ghost use Rattle.device.specs.Commands.{accepts, aimUnsupported, beyond, someOf, says, fieldNegative, fieldNames, unsupported, isUnserved, setsLimits, invalid, belowTheMinimum, contentTests};
 
 fn accepts(s: Settings, k: Kind) -> bool
     ensures { λ r. ⌜ r ≡ accepts s k ⌝ }
@@ -45,7 +45,7 @@ fn is_beyond(has: u64, f: Field, q: usize) -> bool
     ensures { λ r. ⌜ r ≡ beyond has f q ⌝ }
 {
     if field_names(f) {
-        return !supports(has, (q % 2) as u64);
+        return !supports(has, direction_of(q) as u64);
     }
     false
 }
@@ -104,6 +104,7 @@ fn is_unsupported(s: Settings, c: Command) -> bool
     true
 }
 
+// A number that is no command of this feature.
 pub fn is_unserved(c: Command) -> bool
     ensures { λ r. ⌜ r ≡ isUnserved c ⌝ }
 {
@@ -154,7 +155,7 @@ fn is_below_minimum(s: Settings, c: Command) -> bool
 
 // What is asked of the command itself, once its zone is joined and up.
 pub fn content_number(s: Settings, overridden: u64, c: Command) -> u64
-    ensures { λ r. ⌜ r ≡ firstOf ((unsupported s c, 11) ∷ (setsLimits c && not (eqb overridden 0), 12) ∷ (invalid c, 13) ∷ (belowTheMinimum s c, 14) ∷ []) ⌝ }
+    ensures { λ r. ⌜ r ≡ firstOf (contentTests s overridden c) ⌝ }
 {
     if is_unsupported(s, c) {
         return 11;

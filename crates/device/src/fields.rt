@@ -5,12 +5,14 @@ ghost use mathlib.Core.Path.{_≡_};
 ghost use Prim.Native.Nat.{min};
 ghost use Rattle.device.specs.Commands.{negative, natural, fieldNames, fieldNegative, tooLow, fieldTooLow, fieldAction, fieldAbove};
 
+// No value is below 0.
 pub fn is_negative(v: i64) -> bool
     ensures { λ r. ⌜ r ≡ negative v ⌝ }
 {
     v < 0
 }
 
+// A number as it is stored; what is below 0 is refused before.
 pub fn natural_of(v: i64) -> u64
     ensures { λ r. ⌜ r ≡ natural v ⌝ }
 {
@@ -20,6 +22,7 @@ pub fn natural_of(v: i64) -> u64
     v as u64
 }
 
+// Null names its quantity too.
 pub fn field_names(f: Field) -> bool
     ensures { λ r. ⌜ r ≡ fieldNames f ⌝ }
 {
@@ -30,6 +33,7 @@ pub fn field_names(f: Field) -> bool
     }
 }
 
+// A field with a number that no value can be.
 pub fn field_negative(f: Field) -> bool
     ensures { λ r. ⌜ r ≡ fieldNegative f ⌝ }
 {
@@ -47,6 +51,7 @@ fn is_too_low(minimum: u64, v: u64) -> bool
     v < minimum
 }
 
+// A field with a number below the minimum.
 pub fn field_too_low(minimum: u64, f: Field) -> bool
     ensures { λ r. ⌜ r ≡ fieldTooLow minimum f ⌝ }
 {
@@ -57,6 +62,7 @@ pub fn field_too_low(minimum: u64, f: Field) -> bool
     }
 }
 
+// A field with a number that will be capped.
 pub fn field_above(top: u64, f: Field) -> bool
     ensures { λ r. ⌜ r ≡ fieldAbove top f ⌝ }
 {
@@ -67,7 +73,7 @@ pub fn field_above(top: u64, f: Field) -> bool
     }
 }
 
-pub fn smaller(a: u64, b: u64) -> u64
+fn smaller(a: u64, b: u64) -> u64
     ensures { λ r. ⌜ r ≡ min a b ⌝ }
 {
     if a < b {
@@ -76,6 +82,7 @@ pub fn smaller(a: u64, b: u64) -> u64
     b
 }
 
+// What is stored is never above the top.
 pub fn field_action(top: u64, f: Field) -> Action
     ensures { λ r. ⌜ r ≡ fieldAction top f ⌝ }
 {

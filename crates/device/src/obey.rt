@@ -6,7 +6,9 @@ use crate::MOST;
 use crate::Settings;
 use crate::Zone;
 use crate::fields::field_action;
+use crate::said::direction_of;
 use crate::said::duration_of;
+use crate::said::is_limit;
 use crate::said::says;
 use messages::Command;
 ghost use mathlib.Core.Path.{_≡_};
@@ -19,12 +21,13 @@ ghost use Rattle.device.specs.Commands.{topOf, action, untilOf, done, ob
 pub fn top_of(s: Settings, q: usize) -> u64
     ensures { λ r. ⌜ r ≡ topOf s q ⌝ }
 {
-    if q < 2 {
-        return s.maxima[q % 2];
+    if is_limit(q) {
+        return s.maxima[direction_of(q)];
     }
     MOST
 }
 
+// What the command does to quantity q: what it says, capped.
 fn action(s: Settings, c: Command, q: usize) -> Action
     ensures { λ r. ⌜ r ≡ action s c q ⌝ }
 {
@@ -32,7 +35,7 @@ fn action(s: Settings, c: Command, q: usize) -> Action
 }
 
 // The second until which a value set at n for a duration holds.
-pub fn until_of(n: u64, duration: u64) -> u64
+fn until_of(n: u64, duration: u64) -> u64
     ensures { λ r. ⌜ r ≡ untilOf n duration ⌝ }
 {
     if duration == 0 {
@@ -44,7 +47,8 @@ pub fn until_of(n: u64, duration: u64) -> u64
     MOST
 }
 
-pub fn done(a: Action, until: u64, h: Held) -> Held
+// A value is replaced together with its end.
+fn done(a: Action, until: u64, h: Held) -> Held
     ensures { λ r. ⌜ r ≡ done a until h ⌝ }
 {
     match a {

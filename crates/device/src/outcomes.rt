@@ -84,6 +84,7 @@ pub fn has_result(n: u64) -> bool
     false
 }
 
+// SetLimit is answered with the state and the limits that hold.
 pub fn limit_outcome(n: u64, capped: bool, values: [i64; VALUES]) -> Outcome
     ensures { λ r. ⌜ r ≡ limitOutcome n capped values ⌝ }
 {
@@ -96,6 +97,7 @@ pub fn limit_outcome(n: u64, capped: bool, values: [i64; VALUES]) -> Outcome
     })
 }
 
+// SetSetpoint is answered with the setpoints that hold.
 pub fn setpoint_outcome(values: [i64; VALUES]) -> Outcome
     ensures { λ r. ⌜ r ≡ setpointOutcome values ⌝ }
 {

@@ -6,6 +6,7 @@ use messages::Limits;
 use messages::Setpoints;
 use messages::Target;
 ghost use mathlib.Core.Path.{_≡_};
+ghost use Rattle.holds.specs.Holds.{isLimit, directionOf};
 ghost use Rattle.device.specs.Commands.{limitField, targetField, setpointField, aimField, says, kindOf, isSet, aimOf, durationOf};
 
 // What a command is about. Each kind is accepted or not by a setting of its own.
@@ -13,6 +14,20 @@ pub enum Kind {
     Limits,
     Setpoints,
     Unserved,
+}
+
+// The quantities in order: the limits of consumption and production, then the setpoints.
+pub fn is_limit(q: usize) -> bool
+    ensures { λ r. ⌜ r ≡ isLimit q ⌝ }
+{
+    q < 2
+}
+
+// Consumption 0, production 1.
+pub fn direction_of(q: usize) -> usize
+    ensures { λ r. ⌜ r ≡ directionOf q ⌝ }
+{
+    q % 2
 }
 
 fn limit_field(m: Limits, d: u64) -> Field
@@ -57,28 +72,28 @@ fn aim_field(a: Aim, d: u64) -> Field
 pub fn says(c: Command, q: usize) -> Field
     ensures { λ r. ⌜ r ≡ says c q ⌝ }
 {
-    let d = (q % 2) as u64;
+    let d = direction_of(q) as u64;
     match c {
         Command::SetLimit(m) => {
-            if q < 2 {
+            if is_limit(q) {
                 return limit_field(m, d);
             }
             Field::Absent
         }
         Command::ClearLimit(a) => {
-            if q < 2 {
+            if is_limit(q) {
                 return aim_field(a, d);
             }
             Field::Absent
         }
         Command::SetSetpoint(m) => {
-            if q < 2 {
+            if is_limit(q) {
                 return Field::Absent;
             }
             setpoint_field(m, d)
         }
         Command::ClearSetpoint(a) => {
-            if q < 2 {
+            if is_limit(q) {
                 return Field::Absent;
             }
             aim_field(a, d)
@@ -87,6 +102,7 @@ pub fn says(c: Command, q: usize) -> Field
     }
 }
 
+// Which setting must accept the command.
 pub fn kind_of(c: Command) -> Kind
     ensures { λ r. ⌜ r ≡ kindOf c ⌝ }
 {

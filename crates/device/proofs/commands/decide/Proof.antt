@@ -1,3 +1,4 @@
+-- The number comes from the seat that was found, and the record from the zone in it: Decisions says that these are the definition's.
 use Rattle.device.proofs.Decisions.{decided, undecided}
 use borrow.Author.Needs.{needs}
 use Rattle.device.proofs.commands.decide.Statement.{statement}
@@ -9,6 +10,25 @@ decide-spec =
     (tie.spec
     (λ c κs. search needs) (λ c κs. search needs) (λ c κs. search needs) (λ c κs. search needs)
     (λ c κs. search needs) (λ c κs. search needs) (λ c κs. search needs)
-    (λ c. rw (c .obeyed .ensures, c .before .before .before .before .before .settings-at .ensures, c .before .before .before .before .before .before .zone-at .ensures) (decided _ _ _ _ (c .before .before .before .before .before .before .before .slot-of-joined .result) (c .before .before .number-of .result) (c .before .before .before .before .before .before .before .slot-of-joined .ensures) (rw (c .before .before .before .overridden .ensures, c .before .before .before .before .clock .ensures, c .before .before .before .before .before .settings-at .ensures, c .before .before .before .before .before .before .zone-at .ensures) at (c .before .before .number-of .ensures)) (c .before .if1 .taken)))
+    (λ c.
+    let at-number-of = c .before .before .number-of in
+    let at-overridden = c .before .before .before .overridden in
+    let at-clock = c .before .before .before .before .clock in
+    let at-settings-at = c .before .before .before .before .before .settings-at in
+    let at-zone-at = c .before .before .before .before .before .before .zone-at in
+    let at-slot = c .before .before .before .before .before .before .before .slot-of-joined in
+    rw (c .obeyed .ensures, at-settings-at .ensures, at-zone-at .ensures)
+    (decided _ _ _ _ (at-slot .result) (at-number-of .result) (at-slot .ensures)
+    (rw (at-overridden .ensures, at-clock .ensures, at-settings-at .ensures, at-zone-at .ensures) at (at-number-of .ensures))
+    (c .before .if1 .taken)))
     (λ c κs. search needs)
-    (λ c. rw (c .free-zone .ensures) (undecided _ _ _ _ (c .before .before .before .before .before .before .before .slot-of-joined .result) (c .before .before .number-of .result) (c .before .before .before .before .before .before .before .slot-of-joined .ensures) (rw (c .before .before .before .overridden .ensures, c .before .before .before .before .clock .ensures, c .before .before .before .before .before .settings-at .ensures, c .before .before .before .before .before .before .zone-at .ensures) at (c .before .before .number-of .ensures)) (c .before .if1 .left))))
+    (λ c.
+    let at-number-of = c .before .before .number-of in
+    let at-overridden = c .before .before .before .overridden in
+    let at-clock = c .before .before .before .before .clock in
+    let at-settings-at = c .before .before .before .before .before .settings-at in
+    let at-zone-at = c .before .before .before .before .before .before .zone-at in
+    let at-slot = c .before .before .before .before .before .before .before .slot-of-joined in
+    rw (c .free-zone .ensures) (undecided _ _ _ _ (at-slot .result) (at-number-of .result) (at-slot .ensures)
+    (rw (at-overridden .ensures, at-clock .ensures, at-settings-at .ensures, at-zone-at .ensures) at (at-number-of .ensures))
+    (c .before .if1 .left))))

@@ -1,3 +1,4 @@
+-- Only a decision of number 0 is applied, with the words' own since and override.
 use borrow.Author.Tests.{eq-eqb, ne-eqb}
 use Rattle.store.specs.Words.{after}
 use Rattle.device.specs.Commands.{enacted}
@@ -11,5 +12,9 @@ enact-spec =
     tie.close
     (tie.spec
     (λ c κs. search needs) (λ c κs. search needs) (λ c κs. search needs)
-    (λ c. rw (eq-eqb _ _ (c .before .before .before .before .before .before .before .if1 .taken), c .apply .ensures, c .before .before .before .before .since .ensures, c .before .before .overridden .ensures))
+    (λ c.
+    let at-overridden = c .before .before .overridden in
+    let at-since = c .before .before .before .before .since in
+    let at-if1 = c .before .before .before .before .before .before .before .if1 in
+    rw (eq-eqb _ _ (at-if1 .taken), c .apply .ensures, at-since .ensures, at-overridden .ensures))
     (λ c. rw (ne-eqb _ _ (c .if1 .left))))

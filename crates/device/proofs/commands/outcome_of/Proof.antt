@@ -1,3 +1,4 @@
+-- Each command and number is the case of the definition.
 use borrow.Author.Tests.{eq-eqb, ne-eqb}
 use Rattle.device.specs.Commands.{outcomeWith, outcomeFor}
 use borrow.Author.Needs.{needs}
@@ -11,12 +12,31 @@ outcome-of-spec =
     (tie.spec
     (λ c. search needs) (λ c κs. search needs) (λ c κs. search needs) (λ c κs. search needs)
     (λ c κs. search needs) (λ c κs. search needs)
-    (λ c. rw (c .limit-outcome .ensures, c .before .before .is-capped .ensures, c .before .before .before .settings-at .ensures, c .before .values-with .ensures, c .before .before .before .before .before .before .enum-told .given .1, ← c .before .before .before .before .before .has-result .ensures, c .before .before .before .before .if1 .taken))
+    (λ c.
+    let at-is-capped = c .before .before .is-capped in
+    let at-settings-at = c .before .before .before .settings-at in
+    let at-if1 = c .before .before .before .before .if1 in
+    let at-has-result = c .before .before .before .before .before .has-result in
+    let at-enum-told = c .before .before .before .before .before .before .enum-told in
+    rw (
+      c .limit-outcome .ensures,
+      at-is-capped .ensures,
+      at-settings-at .ensures,
+      c .before .values-with .ensures,
+      at-enum-told .given .1,
+      ← at-has-result .ensures,
+      at-if1 .taken,
+    ))
     (λ c. search needs) (λ c κs. search needs) (λ c. search needs) (λ c κs. search needs)
     (λ c κs. search needs)
-    (λ c. rw (c .setpoint-outcome .ensures, c .before .values-with2 .ensures, c .before .before .before .enum-told3 .given .1, eq-eqb _ _ (c .before .before .if2 .taken)))
+    (λ c.
+    let at-if2 = c .before .before .if2 in
+    let at-enum-told3 = c .before .before .before .enum-told3 in
+    rw (c .setpoint-outcome .ensures, c .before .values-with2 .ensures, at-enum-told3 .given .1, eq-eqb _ _ (at-if2 .taken)))
     (λ c. search needs) (λ c κs. search needs) (λ c. search needs)
-    (λ c. rw (c .before .before .enum-told .given .1, ← c .before .has-result .ensures, c .if1 .left))
+    (λ c.
+    let at-enum-told = c .before .before .enum-told in
+    rw (at-enum-told .given .1, ← c .before .has-result .ensures, c .if1 .left))
     (λ c. rw (c .before .enum-told2 .given .1) (c .success-if .ensures))
     (λ c. rw (c .before .enum-told3 .given .1, ne-eqb _ _ (c .if2 .left)))
     (λ c. rw (c .before .enum-told4 .given .1) (c .success-if2 .ensures))

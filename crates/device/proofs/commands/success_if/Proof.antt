@@ -1,3 +1,4 @@
+-- The number decides, as it does in the definition.
 use borrow.Author.Tests.{eq-eqb, ne-eqb}
 use Rattle.device.proofs.commands.success_if.Statement.{statement}
 use Rattle.device.proofs.commands.success_if.Tie as tie

@@ -1,3 +1,4 @@
+-- Each case is the case of the definition.
 use borrow.Author.Needs.{needs}
 use Rattle.device.proofs.content.aim_unsupported.Statement.{statement}
 use Rattle.device.proofs.content.aim_unsupported.Tie as tie
@@ -7,4 +8,6 @@ aim-unsupported-spec =
     tie.close
     (tie.spec
     (λ c. search needs) (λ c. search needs) (λ c κs. search needs) (λ c. search needs)
-    (λ c. rw (c .before .before .a .given .1, c .supports .ensures)))
+    (λ c.
+    let at-a = c .before .before .a in
+    rw (at-a .given .1, c .supports .ensures)))

@@ -11,7 +11,19 @@ is-invalid-spec =
     tie.close
     (tie.spec
     (λ c κs. search needs) (λ c κs. search needs)
-    (λ c. rw (via (c .before .before .before .is-set .ensures) (c .before .before .if1 .taken), via (c .before .some-negative .ensures) (c .if2 .taken)))
+    (λ c.
+    let at-if1-2 = c .before .before .if1 in
+    let at-is-set-2 = c .before .before .before .is-set in
+    let at-if1 = at-if1-2 in
+    let at-is-set = at-is-set-2 in
+    rw (via (at-is-set .ensures) (at-if1 .taken), via (c .before .some-negative .ensures) (c .if2 .taken)))
     (λ c κs. search needs)
-    (λ c. rw (via (c .before .before .before .before .is-set .ensures) (c .before .before .before .if1 .taken), via (c .before .before .some-negative .ensures) (c .before .if2 .left), c .some-named .ensures))
+    (λ c.
+    let at-some-negative-2 = c .before .before .some-negative in
+    let at-if1-2 = c .before .before .before .if1 in
+    let at-is-set-2 = c .before .before .before .before .is-set in
+    let at-some-negative = at-some-negative-2 in
+    let at-if1 = at-if1-2 in
+    let at-is-set = at-is-set-2 in
+    rw (via (at-is-set .ensures) (at-if1 .taken), via (at-some-negative .ensures) (c .before .if2 .left), c .some-named .ensures))
     (λ c. rw (via (c .before .is-set .ensures) (c .if1 .left))))

@@ -1,3 +1,4 @@
+-- The command decides first, then the override.
 use Rattle.store.proofs.Tests.{via}
 use borrow.Author.Needs.{needs}
 use Rattle.device.proofs.content.is_stopped.Statement.{statement}

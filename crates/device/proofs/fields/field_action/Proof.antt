@@ -1,3 +1,4 @@
+-- Each case is the case of the definition; a value fits 64 bits.
 use mir.Val.{SFits}
 use mir.Syntax.{w64}
 use mir.Facts.{toZ-ofZ}
@@ -13,4 +14,7 @@ field-action-spec =
     (tie.spec
     (λ c. search needs) (λ c. search needs) (λ c. search needs) (λ c κs. search needs) (λ c κs. search needs)
     (λ c. rw (c .enum-told .given .1)) (λ c. rw (c .enum-told2 .given .1))
-    (λ c. let fits : SFits w64 (c .before .before .before .f .given .0 .0) = search needs in rw (c .before .before .before .f .given .1, c .smaller .ensures, c .before .natural-of .ensures, toZ-ofZ fits)))
+    (λ c.
+    let at-f = c .before .before .before .f in
+    let fits : SFits w64 (at-f .given .0 .0) = search needs in
+    rw (at-f .given .1, c .smaller .ensures, c .before .natural-of .ensures, toZ-ofZ fits)))

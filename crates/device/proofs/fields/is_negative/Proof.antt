@@ -1,3 +1,4 @@
+-- A signed number is below 0 where its definition has the case below 0.
 use mir.Facts.{toZ-ofZ}
 use Rattle.device.proofs.Signs.{is-neg}
 use Rattle.device.proofs.fields.is_negative.Statement.{statement}

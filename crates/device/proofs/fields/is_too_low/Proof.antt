@@ -1,3 +1,4 @@
+-- The comparison is the definition's.
 use borrow.Author.Needs.{needs}
 use Rattle.device.specs.Commands.{tooLow}
 use Rattle.device.proofs.fields.is_too_low.Statement.{statement}

@@ -1,3 +1,4 @@
+-- Below 0 it is 0, and else the number that its bits say.
 use mir.Facts.{toZ-ofZ, fits-natAbs}
 use Rattle.device.proofs.Signs.{not-neg, neg}
 use Rattle.device.proofs.fields.natural_of.Statement.{statement}

@@ -10,4 +10,6 @@ action-spec =
     tie.close
     (tie.spec
     (λ c κs. search needs) (λ c κs. search needs) (λ c κs. search needs)
-    (λ c. rw (c .before .says .ensures, c .before .before .top-of .ensures) at (c .field-action .ensures)))
+    (λ c.
+    let at-top-of = c .before .before .top-of in
+    rw (c .before .says .ensures, at-top-of .ensures) at (c .field-action .ensures)))

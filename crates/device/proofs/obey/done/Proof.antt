@@ -1,3 +1,4 @@
+-- Each case is the case of the definition.
 use Rattle.device.specs.Commands.{done}
 use borrow.Author.Needs.{needs}
 use Rattle.device.proofs.obey.done.Statement.{statement}

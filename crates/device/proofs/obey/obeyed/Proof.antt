@@ -1,3 +1,4 @@
+-- The held values are replaced and nothing else.
 use Rattle.device.specs.Commands.{obeyed}
 use Rattle.store.specs.Zones.{heldOf}
 use borrow.Author.Needs.{needs}
@@ -10,4 +11,6 @@ obeyed-spec =
     tie.close
     (tie.spec
     (λ c κs. search needs) (λ c κs. search needs) (λ c κs. search needs)
-    (λ c. rw (c .helds-after .ensures, c .before .until-of .ensures, c .before .before .duration-of .ensures)))
+    (λ c.
+    let at-duration-of = c .before .before .duration-of in
+    rw (c .helds-after .ensures, c .before .until-of .ensures, at-duration-of .ensures)))

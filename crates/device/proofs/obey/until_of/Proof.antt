@@ -1,3 +1,4 @@
+-- The sum is taken only where it is below the largest word.
 use borrow.Author.Tests.{eq-eqb, ne-eqb}
 use native.Mathlib.Omega.{arith}
 use Rattle.device.specs.Commands.{untilOf}

@@ -1,3 +1,4 @@
+-- The tests are those of the definition.
 use borrow.Author.Tests.{le-leb, lt-leb, eq-eqb, ne-eqb}
 use Rattle.device.proofs.outcomes.has_result.Statement.{statement}
 use Rattle.device.proofs.outcomes.has_result.Tie as tie

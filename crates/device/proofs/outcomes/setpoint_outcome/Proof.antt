@@ -1,3 +1,4 @@
+-- Each part of the result is the part of the definition.
 use lib.IntN.{pos}
 use mir.Val.{SFits}
 use mir.Syntax.{w64}
@@ -13,6 +14,8 @@ setpoint-outcome-spec =
     (tie.spec
     (λ c. search needs) (λ c κs. search needs) (λ c. search needs) (λ c κs. search needs)
     (λ c.
-    let a : SFits w64 (getD (c .before .before .before .before .args .t1) 3 (pos 0)) = search needs in
-    let b : SFits w64 (getD (c .before .before .before .before .args .t1) 4 (pos 0)) = search needs in
-    rw (c .before .before .stated .ensures, c .stated2 .ensures, toZ-ofZ a, toZ-ofZ b)))
+    let at-stated = c .before .before .stated in
+    let at-args = c .before .before .before .before .args in
+    let a : SFits w64 (getD (at-args .t1) 3 (pos 0)) = search needs in
+    let b : SFits w64 (getD (at-args .t1) 4 (pos 0)) = search needs in
+    rw (at-stated .ensures, c .stated2 .ensures, toZ-ofZ a, toZ-ofZ b)))

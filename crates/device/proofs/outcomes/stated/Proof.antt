@@ -1,3 +1,4 @@
+-- Below 0 is left out, any other number stands.
 use mir.Facts.{toZ-ofZ}
 use Rattle.store.proofs.Tests.{via}
 use Rattle.device.proofs.Signs.{left-out, put-in}
@@ -10,6 +11,14 @@ stated-spec =
     tie.close
     (tie.spec
     (λ c κs. search needs)
-    (λ c. left-out (c .before .before .args .v) (via (rw (toZ-ofZ (c .before .before .fits .v)) at (c .before .is-negative .ensures)) (c .if1 .taken)))
+    (λ c.
+    let at-args = c .before .before .args in
+    let at-fits = c .before .before .fits in
+    left-out (at-args .v) (via (rw (toZ-ofZ (at-fits .v)) at (c .before .is-negative .ensures)) (c .if1 .taken)))
     (λ c κs. search needs)
-    (λ c. rw (c .natural-of .ensures, toZ-ofZ (c .before .before .before .fits .v)) (put-in (c .before .before .before .args .v) (via (rw (toZ-ofZ (c .before .before .before .fits .v)) at (c .before .before .is-negative .ensures)) (c .before .if1 .left)))))
+    (λ c.
+    let at-is-negative = c .before .before .is-negative in
+    let at-args = c .before .before .before .args in
+    let at-fits = c .before .before .before .fits in
+    rw (c .natural-of .ensures, toZ-ofZ (at-fits .v))
+    (put-in (at-args .v) (via (rw (toZ-ofZ (at-fits .v)) at (at-is-negative .ensures)) (c .before .if1 .left)))))

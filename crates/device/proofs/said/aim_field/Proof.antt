@@ -9,5 +9,9 @@ aim-field-spec =
     tie.close
     (tie.spec
     (λ c. search needs) (λ c. search needs) (λ c. search needs)
-    (λ c. rw (c .before .before .a .given .1, eq-eqb _ _ (c .if1 .taken)))
-    (λ c. rw (c .before .before .a .given .1, ne-eqb _ _ (c .if1 .left))))
+    (λ c.
+    let at-a = c .before .before .a in
+    rw (at-a .given .1, eq-eqb _ _ (c .if1 .taken)))
+    (λ c.
+    let at-a = c .before .before .a in
+    rw (at-a .given .1, ne-eqb _ _ (c .if1 .left))))
