@@ -7,7 +7,8 @@ use Rattle.messages.specs.declared.Command.{Command}
 use Rattle.store.specs.Sizes.{helds, most}
 use Rattle.store.specs.Zones.{idOf, rankOf, nothing, isJoined, heldOf}
 use Rattle.holds.specs.Holds.{claimOf}
-use Rattle.device.specs.Commands.{action, durationOf, untilOf, done, obeyed}
+use Rattle.command.specs.Obeys.{action, untilOf, done, obeyed}
+use Rattle.command.specs.Says.{durationOf}
 use Rattle.call_laws.specs.Expiry.{endOf, Expiry}
 use Rattle.store.specs.declared.Zone.{Zone}
 use Rattle.store.specs.declared.Settings.{Settings}

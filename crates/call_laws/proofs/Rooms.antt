@@ -13,8 +13,10 @@ use Rattle.store.specs.Sizes.{helds, slots, words}
 use Rattle.store.specs.Zones.{any, freeZone, newZone, slotOf, zoneOf, joined}
 use Rattle.store.specs.Words.{clockOf, settingsOf, zonesOf, applied, after}
 use Rattle.device.specs.Refusals.{NoneHolds}
-use Rattle.device.specs.Calls.{zoneChange, badJoin, joinTests, joinNumber, joinAfter, leaveTests, leaveNumber, leaveAfter}
-use Rattle.device.specs.Commands.{obeyed, commandNumber, commandAfter}
+use Rattle.device.specs.Calls.{zoneChange, joinTests, joinNumber, joinAfter, leaveTests, leaveNumber, leaveAfter}
+use Rattle.rules.specs.Rules.{badJoin}
+use Rattle.command.specs.Obeys.{obeyed}
+use Rattle.device.specs.Commands.{commandNumber, commandAfter}
 use Rattle.store.specs.declared.Zone.{Zone}
 use Rattle.store.proofs.Runs.{length-upTo}
 use Rattle.store.proofs.Lens.{zones-length}

@@ -9,8 +9,9 @@ use Rattle.store.specs.Zones.{idOf, rankOf, isJoined}
 use Rattle.store.specs.declared.Zone.{Zone}
 use Rattle.store.specs.declared.Settings.{Settings}
 use Rattle.holds.specs.Holds.{noClaim, claimOf}
-use Rattle.device.specs.Commands.{action, durationOf, obeyed}
-use Rattle.device.specs.declared.Action.{Action}
+use Rattle.command.specs.Obeys.{action, obeyed}
+use Rattle.command.specs.Says.{durationOf}
+use Rattle.command.specs.declared.Action.{Action}
 
 -- "A value set at second n with duration d > 0 holds while t < n + d"; without a duration, at every second below the largest word
 abbrev pub endOf : ℕ → ℕ → ℕ

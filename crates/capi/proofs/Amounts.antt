@@ -7,7 +7,7 @@ use borrow.Author.Tests.{ne-eqb}
 use lib.IntN.{ℤ, pos, negsuc}
 use Rattle.messages.specs.declared.Amount.{Amount}
 use Rattle.store.specs.Sizes.{most}
-use Rattle.device.specs.Commands.{negative, natural}
+use Rattle.command.specs.Says.{negative, natural}
 use Rattle.planner.specs.Walk.{sameNumber}
 use Rattle.capi.specs.Responses.{amountOf}
 use Rattle.capi.proofs.Chosen.{false≢true}

@@ -1,7 +1,7 @@
 // Responses for C: flat structs of numbers, and the kernel's responses from them and to them.
 use device::MOST;
-use device::fields::is_negative;
-use device::fields::natural_of;
+use command::is_negative;
+use command::natural_of;
 use frames::Answer;
 use frames::Written;
 use holds::shown;

@@ -21,7 +21,7 @@ use Rattle.holds.specs.Holds.{situationOf, valuesAt}
 use Rattle.holds.specs.Links.{sinceAfter}
 use Rattle.device.specs.Calls.{zoneChange}
 use Rattle.store.specs.Words.{headChange}
-use Rattle.device.specs.Commands.{obeyed}
+use Rattle.command.specs.Obeys.{obeyed}
 use Rattle.store.proofs.Lens.{zones-length}
 use Rattle.store.proofs.Effects.{applied-length, applied-settings, applied-clock, applied-since, applied-override, applied-zones}
 use Rattle.demands.specs.History.{Told, joins, leaves, links, commands, overrides, passes, Entry, Log, about, newest, saysOverride, saysClock, clockBy, overrideBy, joinedBy, recordBy, zonesBy, sinceBy, situationBy}

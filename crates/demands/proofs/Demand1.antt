@@ -13,7 +13,8 @@ use Rattle.store.specs.declared.Settings.{Settings}
 use Rattle.device.specs.Refusals
 use Rattle.store.specs.Zones.{any, joined, slotOf}
 use Rattle.store.specs.Words.{zonesOf}
-use Rattle.device.specs.Start.{badSettings, startNumber, startAfter}
+use Rattle.rules.specs.Rules.{badSettings}
+use Rattle.device.specs.Start.{startNumber, startAfter}
 use Rattle.store.proofs.Effects.{fresh-settings, fresh-clock, fresh-override, fresh-zones}
 use Rattle.planner.specs.Plan.{planNumber, planAnswer, planSlice}
 use Rattle.conformance.specs.declared.Inputs.{Inputs}

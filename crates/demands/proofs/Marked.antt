@@ -7,10 +7,17 @@ use Rattle.holds.specs.Holds.{supports, claimOf, goesBefore, better, winner, in
 use Rattle.holds.specs.Dues.{zoneDues, heldDues, dues, nearer, nearest}
 use Rattle.device.specs.Refusals.{firstOf, late}
 use Rattle.holds.specs.Links.{sinceAfter}
-use Rattle.device.specs.Calls.{zoneChange, badJoin, joinNumber, joinAfter, leaveNumber, leaveAfter, same, linkNumber, linkAfter}
+use Rattle.device.specs.Calls.{zoneChange, joinNumber, joinAfter, leaveNumber, leaveAfter, same, linkNumber, linkAfter}
+use Rattle.rules.specs.Rules.{badJoin}
 use Rattle.store.specs.Words.{headChange}
-use Rattle.device.specs.Commands.{says, someOf, unsupported, invalid, tooLow, belowTheMinimum, commandNumber, fieldAction, action, untilOf, done, obeyed, commandAfter, isCapped, reasonOf, outcomeWith, commandAnswer}
-use Rattle.device.specs.Start.{badMaximum, badSettings, startAfter}
+use Rattle.command.specs.Says.{says, someOf}
+use Rattle.command.specs.Content.{unsupported, invalid}
+use Rattle.device.specs.Commands.{commandNumber, commandAfter, commandAnswer}
+use Rattle.command.specs.Content.{tooLow, belowTheMinimum}
+use Rattle.command.specs.Obeys.{fieldAction, action, untilOf, done, obeyed}
+use Rattle.command.specs.Outcomes.{isCapped, reasonOf, outcomeWith}
+use Rattle.rules.specs.Rules.{badMaximum, badSettings}
+use Rattle.device.specs.Start.{startAfter}
 use Rattle.planner.specs.Plan.{numbersOf}
 use Rattle.planner.specs.Walk.{sameNumber, alike, step, walk}
 use Rattle.planner.proofs.Walk.{planOf-walk}

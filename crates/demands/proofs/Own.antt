@@ -10,10 +10,11 @@ use borrow.Author.Tests.{eqb-true}
 use Rattle.messages.specs.declared.Command.{Command}
 use Rattle.store.specs.declared.Held.{Held}
 use Rattle.store.specs.declared.Settings.{Settings}
-use Rattle.device.specs.declared.Action.{Action}
+use Rattle.command.specs.declared.Action.{Action}
 use Rattle.store.specs.Sizes.{helds}
 use Rattle.store.specs.Zones.{nothing, seatOf}
-use Rattle.device.specs.Commands.{action, untilOf, durationOf}
+use Rattle.command.specs.Obeys.{action, untilOf}
+use Rattle.command.specs.Says.{durationOf}
 use Rattle.demands.specs.History.{Told, joins, leaves, links, commands, overrides, passes, Entry, Log, about, newest, of, saysRank, saysUp, said, saysHeld, upBy, heldBy, recordBy}
 use Rattle.demands.specs.ReleasedSlot.{isJoin, ownSince, SetTogether}
 use Rattle.store.proofs.Runs.{upTo-cong}

@@ -19,7 +19,8 @@ use Rattle.store.specs.declared.Settings.{Settings}
 use Rattle.store.specs.Sizes.{helds, valueEnd}
 use Rattle.store.specs.Zones.{idOf, heldOf, anyUp}
 use Rattle.holds.specs.Holds.{isLimit, directionOf, supports, Claim, winner, amountOf, inFailsafe, failsafeValue, valueAt}
-use Rattle.device.specs.Start.{badMaximum, badSettings, refusedSettings}
+use Rattle.rules.specs.Rules.{badMaximum, badSettings}
+use Rattle.device.specs.Start.{refusedSettings}
 use Rattle.table_laws.proofs.Winner.{claim-there}
 use Rattle.demands.specs.Run.{Call, join, leave, lost, back, override, clear, ask, plan, frame}
 use Rattle.demands.specs.History.{commands, Entry, Log, heldBy, zonesBy, situationBy}

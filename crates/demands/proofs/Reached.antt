@@ -10,7 +10,8 @@ use Rattle.store.specs.declared.Settings.{Settings}
 use Rattle.store.specs.Sizes.{slots}
 use Rattle.store.specs.Zones.{idOf, freeZone, joined}
 use Rattle.store.specs.Words.{zonesOf, fresh}
-use Rattle.device.specs.Start.{badSettings, refusedSettings, startAfter}
+use Rattle.rules.specs.Rules.{badSettings}
+use Rattle.device.specs.Start.{refusedSettings, startAfter}
 use Rattle.store.proofs.Effects.{fresh-length, fresh-settings, fresh-clock, fresh-since, fresh-override, fresh-zones}
 use Rattle.demands.specs.Run.{Call, run}
 use Rattle.demands.specs.History.{newest, clockBy, overrideBy, joinedBy, sinceBy}

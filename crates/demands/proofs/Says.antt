@@ -9,10 +9,11 @@ use borrow.Author.Tests.{eq-eqb}
 use Rattle.messages.specs.declared.Command.{Command}
 use Rattle.store.specs.declared.Held.{Held}
 use Rattle.store.specs.declared.Settings.{Settings}
-use Rattle.device.specs.declared.Action.{Action}
+use Rattle.command.specs.declared.Action.{Action}
 use Rattle.store.specs.Sizes.{helds}
 use Rattle.store.specs.Zones.{upTo, nothing, seatOf, newZone, linked, heldOf}
-use Rattle.device.specs.Commands.{action, untilOf, durationOf, done, obeyed}
+use Rattle.command.specs.Obeys.{action, untilOf, done, obeyed}
+use Rattle.command.specs.Says.{durationOf}
 use Rattle.demands.specs.History.{Told, joins, leaves, links, commands, overrides, passes, Log, newest, of, saysJoined, saysRank, saysUp, said, saysHeld, joinedBy, upBy, heldBy, recordBy, about}
 use Rattle.store.proofs.Runs.{length-upTo, getD-upTo, upTo-cong}
 

@@ -20,10 +20,11 @@ use Rattle.map_fields.specs.Fields.{mapIn, upTo, needed, optional, inRange, sig
 use Rattle.frames.specs.Requests.{Envelope, envelopeIn, servedAt, servedCommand, limitsIn, targetOf, setpointsOf, commandIn, withCommand, fromEnvelope, fromPayload, readRequest}
 use Rattle.frames.specs.declared.requests.Reading.{Reading}
 use Rattle.store.specs.declared.Settings.{Settings}
-use Rattle.device.specs.declared.Action.{Action}
+use Rattle.command.specs.declared.Action.{Action}
 use Rattle.store.specs.Sizes.{valueEnd}
 use Rattle.holds.specs.Holds.{isLimit, directionOf}
-use Rattle.device.specs.Commands.{limitField, targetField, setpointField, aimField, says, natural, fieldAction, topOf, action}
+use Rattle.command.specs.Says.{limitField, targetField, setpointField, aimField, says, natural}
+use Rattle.command.specs.Obeys.{fieldAction, topOf, action}
 
 -- SMALL: a number below 2^63, or no number
 abbrev pub SmallField : Field → Type 0

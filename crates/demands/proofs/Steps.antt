@@ -14,9 +14,12 @@ use Rattle.store.specs.Sizes.{slots}
 use Rattle.store.specs.Zones.{slotOf, joined, zoneOf, newZone, freeZone, linked}
 use Rattle.store.specs.Words.{clockOf, overrideOf, settingsOf, zonesOf, applied}
 use Rattle.device.specs.Refusals.{firstOf, late}
-use Rattle.device.specs.Calls.{zoneChange, badJoin, joinTests, joinNumber, joinAfter, leaveTests, leaveNumber, leaveAfter, same, linkNumber, linkAfter, overrideNumber, overrideAfter, overrideWord, clearNumber, clearAfter, askNumber, askAfter}
+use Rattle.device.specs.Calls.{zoneChange, joinTests, joinNumber, joinAfter, leaveTests, leaveNumber, leaveAfter, same, linkNumber, linkAfter, overrideNumber, overrideAfter, overrideWord, clearNumber, clearAfter, askNumber, askAfter}
+use Rattle.rules.specs.Rules.{badJoin}
 use Rattle.store.specs.Words.{headChange}
-use Rattle.device.specs.Commands.{isUnserved, contentTests, obeyed, commandNumber, commandAfter, commandAnswer}
+use Rattle.command.specs.Content.{isUnserved, contentTests}
+use Rattle.command.specs.Obeys.{obeyed}
+use Rattle.device.specs.Commands.{commandNumber, commandAfter, commandAnswer}
 use Rattle.planner.specs.Plan.{planOf, planNumber, planAfter}
 use Rattle.frames.specs.Requests.{readRequest}
 use Rattle.frames.specs.Writing.{writingNumber}

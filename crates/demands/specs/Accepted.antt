@@ -13,8 +13,10 @@ use Rattle.store.specs.declared.Settings.{Settings}
 use Rattle.holds.specs.Holds.{Situation, valuesAt}
 use Rattle.messages.specs.Refusals.{firstOf}
 use Rattle.device.specs.Calls.{joinTests, leaveTests, linkTests, overrideTests, overrideWord, clearTests, askTests}
-use Rattle.device.specs.Commands.{commandTests, isCapped, outcomeWith}
-use Rattle.device.specs.Start.{badSettings, refusedSettings}
+use Rattle.device.specs.Commands.{commandTests}
+use Rattle.command.specs.Outcomes.{isCapped, outcomeWith}
+use Rattle.rules.specs.Rules.{badSettings}
+use Rattle.device.specs.Start.{refusedSettings}
 use Rattle.planner.specs.Plan.{planTests, planOf}
 use Rattle.frames.specs.Requests.{readRequest}
 use Rattle.frames.specs.Responses.{responseItem, statusAlone}

@@ -17,8 +17,10 @@ use Rattle.store.specs.Zones.{joined}
 use Rattle.store.specs.Words.{clockOf, overrideOf, settingsOf, zonesOf}
 use Rattle.holds.specs.Holds.{situationOf, valuesAt}
 use Rattle.device.specs.Refusals.{FirstAt, NoneHolds}
-use Rattle.device.specs.Start.{badSettings, startNumber, startAfter}
-use Rattle.device.specs.Commands.{isCapped, outcomeWith, commandNumber, commandAfter}
+use Rattle.rules.specs.Rules.{badSettings}
+use Rattle.device.specs.Start.{startNumber, startAfter}
+use Rattle.command.specs.Outcomes.{isCapped, outcomeWith}
+use Rattle.device.specs.Commands.{commandNumber, commandAfter}
 use Rattle.demands.specs.Run.{Call, join, leave, lost, back, override, clear, ask, plan, frame, number, next}
 use Rattle.demands.specs.Accepted.{startedWith}
 use Rattle.demands.specs.Tests.{tests}

@@ -8,12 +8,13 @@ use Rattle.messages.specs.declared.Command.{Command}
 use Rattle.store.specs.declared.Held.{Held}
 use Rattle.store.specs.declared.Zone.{Zone}
 use Rattle.store.specs.declared.Settings.{Settings}
-use Rattle.device.specs.declared.Action.{Action}
+use Rattle.command.specs.declared.Action.{Action}
 use Rattle.store.specs.Sizes.{helds}
 use Rattle.store.specs.Zones.{upTo, nothing, seatOf}
 use Rattle.holds.specs.Holds.{Situation}
 use Rattle.holds.specs.Links.{sinceAfter}
-use Rattle.device.specs.Commands.{action, untilOf, durationOf}
+use Rattle.command.specs.Obeys.{action, untilOf}
+use Rattle.command.specs.Says.{durationOf}
 
 -- THE LOG
 -- what an accepted call tells: a join its zone and rank, a link its zone and whether it is up, an override its number (0: cleared), a frame its command

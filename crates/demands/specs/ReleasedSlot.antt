@@ -8,11 +8,12 @@ use Rattle.messages.specs.declared.Command.{Command}
 use Rattle.store.specs.declared.Held.{Held}
 use Rattle.store.specs.declared.Zone.{Zone}
 use Rattle.store.specs.declared.Settings.{Settings}
-use Rattle.device.specs.declared.Action.{Action}
+use Rattle.command.specs.declared.Action.{Action}
 use Rattle.store.specs.Sizes.{slots, helds}
 use Rattle.store.specs.Zones.{idOf, nothing, isJoined, heldOf}
 use Rattle.store.specs.Words.{zoneAt}
-use Rattle.device.specs.Commands.{action, untilOf, durationOf}
+use Rattle.command.specs.Obeys.{action, untilOf}
+use Rattle.command.specs.Says.{durationOf}
 use Rattle.demands.specs.Run.{Call, run}
 use Rattle.demands.specs.History.{Told, joins, leaves, links, commands, overrides, passes, Log, about, recordBy}
 use Rattle.demands.specs.Accepted.{history, startedWith}

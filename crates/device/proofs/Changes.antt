@@ -11,7 +11,8 @@ use Rattle.store.specs.Sizes.{slots}
 use Rattle.store.specs.Zones.{idOf, freeZone, newZone, linked, isJoined, isUp, slotOf, joined}
 use Rattle.store.specs.Words.{sinceOf, overrideOf, zonesOf}
 use Rattle.holds.specs.Links.{sinceAfter}
-use Rattle.device.specs.Calls.{zoneChange, badJoin}
+use Rattle.device.specs.Calls.{zoneChange}
+use Rattle.rules.specs.Rules.{badJoin}
 use Rattle.store.specs.declared.Zone.{Zone}
 use Rattle.store.proofs.Tests.{never}
 use Rattle.holds.proofs.Since.{since-up, since-down}

@@ -16,7 +16,9 @@ use Rattle.store.specs.Words.{clockOf, sinceOf, overrideOf, settingsOf, zonesOf
 use Rattle.holds.specs.Holds.{situationOf, withZone, valuesAt}
 use Rattle.device.specs.Refusals.{firstOf, late}
 use Rattle.device.specs.Calls.{zoneChange}
-use Rattle.device.specs.Commands.{isUnserved, commandTests, commandNumber, obeyed, commandAfter, commandAnswer, decisionOf, outcomeFor, enacted}
+use Rattle.command.specs.Content.{isUnserved}
+use Rattle.device.specs.Commands.{commandTests, commandNumber, commandAfter, commandAnswer, decisionOf, outcomeFor, enacted}
+use Rattle.command.specs.Obeys.{obeyed}
 use Rattle.store.specs.declared.Zone.{Zone}
 use Rattle.store.specs.declared.Change.{Change}
 use Rattle.device.specs.declared.Decision.{Decision}

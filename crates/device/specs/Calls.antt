@@ -20,10 +20,6 @@ unfoldable pub zoneChange : List ℕ → ℕ → ℕ → Zone → Change
 zoneChange ws t i x =
     record { time = t; slot = i; zone = x; since = sinceAfter (zonesOf ws) (set (zonesOf ws) i x) t (sinceOf ws); overridden = overrideOf ws }
 
--- 6: "id outside 1 to 255, or rank outside 1 to 4"
-unfoldable pub badJoin : ℕ → ℕ → Bool
-badJoin z k = not (leb 1 z && leb z 255) || not (leb 1 k && leb k 4)
-
 -- join of zone z with rank k at t: "join of a joined id" is 7, "join with eight zones joined" 8
 abbrev pub joinTests : ℕ → Bool → Bool → ℕ → ℕ → ℕ → List (Bool × ℕ)
 joinTests clock there full z k t = (late clock t, 5) ∷ (badJoin z k, 6) ∷ (there, 7) ∷ (full, 8) ∷ []
@@ -58,11 +54,6 @@ linkNumber ws z u t = firstOf (linkTests (clockOf ws) (joined (zonesOf ws) z) (z
 unfoldable pub linkAfter : List ℕ → ℕ → Bool → ℕ → List ℕ
 linkAfter ws z u t =
     after ws (linkNumber ws z u t) (zoneChange ws t (slotOf (zonesOf ws) z) (linked (zoneOf (zonesOf ws) z) u))
-
--- 18: "reasons 0 and 1 go with consumption only; 3 with consumption, 4 with production, both only on an energy manager; 2 with either"
-unfoldable pub goTogether : Bool → ℕ → ℕ → Bool
-goTogether manager reason d =
-    (ltb reason 2 && eqb d 0) || ((eqb reason 2 && ltb d 2) || (manager && ((eqb reason 3 && eqb d 0) || (eqb reason 4 && eqb d 1))))
 
 -- an override that is set, as one number above 0
 unfoldable pub overrideWord : ℕ → ℕ → ℕ

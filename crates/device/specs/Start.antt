@@ -9,23 +9,6 @@ use Rattle.store.specs.Words.{fresh}
 use Rattle.device.specs.Refusals.{firstOf}
 use Rattle.store.specs.declared.Settings.{Settings}
 
--- "a contractual maximum per direction or none"
-unfoldable pub badMaximum : ℕ → Bool
-badMaximum m = leb valueEnd m && not (eqb m most)
-
--- 16: "A setting out of range, or a contractual consumption maximum below the minimum, is bad settings"
-unfoldable pub badSettings : Settings → Bool
-badSettings s =
-    ltb 2 (s .directions)
-    || (leb valueEnd (s .minimum)
-    || (badMaximum (getD (s .maxima) 0 0)
-    || (badMaximum (getD (s .maxima) 1 0)
-    || (leb valueEnd (getD (s .failsafe) 0 0)
-    || (leb valueEnd (getD (s .failsafe) 1 0)
-    || (ltb (s .duration) 7200
-    || (ltb 86400 (s .duration)
-    || ltb (getD (s .maxima) 0 0) (s .minimum))))))))
-
 -- "a fresh device that accepts neither limits nor setpoints, consumption only, failsafe duration 7,200, all else 0, none or no"
 abbrev pub refusedSettings : Settings
 refusedSettings =

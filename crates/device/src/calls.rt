@@ -18,7 +18,6 @@ use crate::Settings;
 use crate::State;
 use crate::VALUES;
 use crate::Zone;
-use crate::refusals;
 
 fn refused_settings() -> Settings
     ensures { λ r. ⌜ r ≡ refusedSettings ⌝ }
@@ -40,7 +39,7 @@ pub fn start(d: &mut State, s: Settings) -> u64
     ensures { λ r. ⌜ r ≡ startNumber s ⌝ }
     ensures { λ _. ⌜ now (d .exit) ≡ startAfter s ⌝ }
 {
-    if refusals::is_bad_settings(s) {
+    if rules::is_bad_settings(s) {
         store::fresh(d, refused_settings());
         return 16;
     }
@@ -66,7 +65,7 @@ pub fn join(d: &mut State, zone: u64, rank: u64, t: u64) -> u64
     if store::is_late(store::clock(d), t) {
         return 5;
     }
-    if refusals::is_bad_join(zone, rank) {
+    if rules::is_bad_join(zone, rank) {
         return 6;
     }
     if store::is_joined(d, zone) {
@@ -192,7 +191,7 @@ pub fn set_override(d: &mut State, reason: u64, direction: u64, t: u64) -> u64
     if store::is_late(store::clock(d), t) {
         return 5;
     }
-    if refusals::go_together(store::is_manager(d), reason, direction) {
+    if rules::go_together(store::is_manager(d), reason, direction) {
         store::apply_head(d, t, override_word(reason, direction));
         return 0;
     }

@@ -4,9 +4,6 @@ use crate::Decision;
 use crate::SLOTS;
 use crate::Settings;
 use crate::State;
-use crate::content;
-use crate::obey;
-use crate::outcomes;
 use messages::Command;
 use messages::Outcome;
 ghost use mathlib.Core.Path.{_≡_};
@@ -26,7 +23,7 @@ fn number_of(
 ) -> u64
     ensures { λ r. ⌜ r ≡ firstOf (commandTests clock there up s overridden t c) ⌝ }
 {
-    if content::is_unserved(c) {
+    if command::is_unserved(c) {
         return 4;
     }
     if store::is_late(clock, t) {
@@ -38,7 +35,7 @@ fn number_of(
     if !up {
         return 10;
     }
-    content::content_number(s, overridden, c)
+    command::content_number(s, overridden, c)
 }
 
 // The number, and the record that the zone would then have.
@@ -61,7 +58,7 @@ pub fn decide(d: &State, zone: u64, t: u64, c: Command) -> Decision
         return Decision {
             number: 0,
             slot: slot,
-            zone: obey::obeyed(s, c, t, x),
+            zone: command::obeyed(s, c, t, x),
         };
     }
     Decision {
@@ -88,16 +85,16 @@ pub fn outcome_of(d: &State, t: u64, c: Command, x: Decision) -> Outcome
     let zone = x.zone;
     match c {
         Command::SetLimit(_) => {
-            if outcomes::has_result(n) {
-                let capped = outcomes::is_capped(store::settings_at(d), c);
-                return outcomes::limit_outcome(n, capped, holds::values_with(d, x.slot, zone, t));
+            if command::has_result(n) {
+                let capped = command::is_capped(store::settings_at(d), c);
+                return command::limit_outcome(n, capped, holds::values_with(d, x.slot, zone, t));
             }
             Outcome::Nothing
         }
         Command::ClearLimit(_) => success_if(n),
         Command::SetSetpoint(_) => {
             if n == 0 {
-                return outcomes::setpoint_outcome(holds::values_with(d, x.slot, zone, t));
+                return command::setpoint_outcome(holds::values_with(d, x.slot, zone, t));
             }
             Outcome::Nothing
         }

@@ -1,12 +1,6 @@
 // The calls and commands that move a device: each decides first and then applies one whole change; a refusal stores nothing.
 pub mod calls;
 pub mod commands;
-mod content;
-pub mod fields;
-mod obey;
-mod outcomes;
-mod refusals;
-mod said;
 
 pub use store::Change;
 pub use store::HELDS;
@@ -25,13 +19,6 @@ pub use store::Zone;
 pub struct Asked {
     pub number: u64,
     pub values: [i64; VALUES],
-}
-
-// What a command does to one quantity of its zone.
-pub enum Action {
-    Keep,
-    Remove,
-    Put(u64),
 }
 
 // A command's number, and the record that its zone would then have.

@@ -23,7 +23,10 @@ use Rattle.store.specs.Zones.{upTo, joined, zoneOf, anyUp}
 use Rattle.store.specs.Words.{settingsOf, clockOf, overrideOf, zonesOf}
 use Rattle.device.specs.Refusals.{late}
 use Rattle.holds.specs.Holds.{Situation, situationOf, inFailsafe, stateAt, present, shown, valuesAt, valueAt}
-use Rattle.device.specs.Commands.{commandNumber, commandAfter, commandAnswer, isCapped, outcomeWith, reasonOf, stated, natural, isUnserved, unsupported, setsLimits, invalid, belowTheMinimum}
+use Rattle.device.specs.Commands.{commandNumber, commandAfter, commandAnswer}
+use Rattle.command.specs.Outcomes.{isCapped, outcomeWith, reasonOf, stated}
+use Rattle.command.specs.Says.{natural}
+use Rattle.command.specs.Content.{isUnserved, unsupported, setsLimits, invalid, belowTheMinimum}
 use Rattle.kernel.specs.Frame.{responseTo}
 
 -- a value that is shown fits a response

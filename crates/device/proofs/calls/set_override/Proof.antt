@@ -5,7 +5,8 @@ use native.Mathlib.Decide.{decLt}
 use native.Mathlib.Omega.{arith}
 use borrow.Author.Tests.{le-ltb, ne-eqb}
 use Rattle.device.specs.Refusals.{firstOf}
-use Rattle.device.specs.Calls.{overrideNumber, overrideAfter, goTogether}
+use Rattle.device.specs.Calls.{overrideNumber, overrideAfter}
+use Rattle.rules.specs.Rules.{goTogether}
 use Rattle.store.proofs.Tests.{via}
 use Rattle.store.proofs.Answered.{refused, accepted, timed}
 use Rattle.device.proofs.calls.set_override.Statement.{statement}

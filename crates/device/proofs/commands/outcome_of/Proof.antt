@@ -1,6 +1,7 @@
 -- Each command and number is the case of the definition.
 use borrow.Author.Tests.{eq-eqb, ne-eqb}
-use Rattle.device.specs.Commands.{outcomeWith, outcomeFor}
+use Rattle.command.specs.Outcomes.{outcomeWith}
+use Rattle.device.specs.Commands.{outcomeFor}
 use borrow.Author.Needs.{needs}
 use Rattle.device.proofs.commands.outcome_of.Statement.{statement}
 use Rattle.device.proofs.commands.outcome_of.Tie as tie

@@ -1,0 +1,72 @@
+-- The tests are those of the definition, in its order.
+use Rattle.store.proofs.Tests.{via}
+use Rattle.command.specs.Content.{unsupported}
+use borrow.Author.Needs.{needs}
+use Rattle.command.proofs.content.is_unsupported.Statement.{statement}
+use Rattle.command.proofs.content.is_unsupported.Tie as tie
+
+pub is-unsupported-spec : {M : Type 1} → statement M
+unfolding unsupported
+is-unsupported-spec =
+    tie.close
+    (tie.spec
+    (λ c κs. search needs) (λ c κs. search needs) (λ c κs. search needs) (λ c κs. search needs)
+    (λ c.
+    let at-aim-of-2 = c .before .before .aim-of in
+    let at-if1-2 = c .before .before .before .if1 in
+    let at-accepts-2 = c .before .before .before .before .accepts in
+    let at-kind-of-2 = c .before .before .before .before .before .kind-of in
+    let at-aim-of = at-aim-of-2 in
+    let at-if1 = at-if1-2 in
+    let at-accepts = at-accepts-2 in
+    let at-kind-of = at-kind-of-2 in
+    rw (
+      via (rw (at-kind-of .ensures) at (at-accepts .ensures)) (at-if1 .taken),
+      via
+          (rw (at-aim-of .ensures) at (c .before .aim-unsupported .ensures)) (c .if2 .taken),
+    ))
+    (λ c κs. search needs) (λ c κs. search needs)
+    (λ c.
+    let at-is-set-2 = c .before .before .is-set in
+    let at-if2-2 = c .before .before .before .if2 in
+    let at-aim-unsupported-2 = c .before .before .before .before .aim-unsupported in
+    let at-aim-of-2 = c .before .before .before .before .before .aim-of in
+    let at-if1-2 = c .before .before .before .before .before .before .if1 in
+    let at-accepts-2 = c .before .before .before .before .before .before .before .accepts in
+    let at-kind-of-2 = c .before .before .before .before .before .before .before .before .kind-of in
+    let at-is-set = at-is-set-2 in
+    let at-if2 = at-if2-2 in
+    let at-aim-unsupported = at-aim-unsupported-2 in
+    let at-aim-of = at-aim-of-2 in
+    let at-if1 = at-if1-2 in
+    let at-accepts = at-accepts-2 in
+    let at-kind-of = at-kind-of-2 in
+    rw (
+      via (rw (at-kind-of .ensures) at (at-accepts .ensures)) (at-if1 .taken),
+      via (rw (at-aim-of .ensures) at (at-aim-unsupported .ensures))
+          (at-if2 .left),
+      via (at-is-set .ensures) (c .before .if3 .taken),
+    ) (c .some-beyond .ensures))
+    (λ c.
+    let at-if2-2 = c .before .before .if2 in
+    let at-aim-unsupported-2 = c .before .before .before .aim-unsupported in
+    let at-aim-of-2 = c .before .before .before .before .aim-of in
+    let at-if1-2 = c .before .before .before .before .before .if1 in
+    let at-accepts-2 = c .before .before .before .before .before .before .accepts in
+    let at-kind-of-2 = c .before .before .before .before .before .before .before .kind-of in
+    let at-if2 = at-if2-2 in
+    let at-aim-unsupported = at-aim-unsupported-2 in
+    let at-aim-of = at-aim-of-2 in
+    let at-if1 = at-if1-2 in
+    let at-accepts = at-accepts-2 in
+    let at-kind-of = at-kind-of-2 in
+    rw (
+      via (rw (at-kind-of .ensures) at (at-accepts .ensures)) (at-if1 .taken),
+      via (rw (at-aim-of .ensures) at (at-aim-unsupported .ensures))
+          (at-if2 .left),
+      via (c .before .is-set .ensures) (c .if3 .left),
+    ))
+    (λ c.
+    let at-kind-of-2 = c .before .before .kind-of in
+    let at-kind-of = at-kind-of-2 in
+    rw (via (rw (at-kind-of .ensures) at (c .before .accepts .ensures)) (c .if1 .left))))

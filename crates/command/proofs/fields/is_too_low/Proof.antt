@@ -1,0 +1,12 @@
+-- The comparison is the definition's.
+use borrow.Author.Needs.{needs}
+use Rattle.command.specs.Content.{tooLow}
+use Rattle.command.proofs.fields.is_too_low.Statement.{statement}
+use Rattle.command.proofs.fields.is_too_low.Tie as tie
+
+pub is-too-low-spec : {M : Type 1} → statement M
+unfolding tooLow
+is-too-low-spec =
+    tie.close
+    (tie.spec
+    (λ c. search needs))

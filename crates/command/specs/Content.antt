@@ -1,0 +1,77 @@
+-- What is asked of a command itself: 4, and 11 to 14. Assumes nothing: these are definitions.
+use Prim.Native.Nat.{ℕ, zero, suc, _+_, min}
+use mathlib.Core.Bool.{Bool, true, false, cond, not, _&&_, _||_}
+use mathlib.Core.List.{List, [], _∷_}
+use lib.Dec.{ltb, leb, eqb}
+use lib.ListN.{getD}
+use lib.IntN.{ℤ, pos, negsuc}
+use Rattle.messages.specs.declared.Field.{Field}
+use Rattle.messages.specs.declared.Target.{Target}
+use Rattle.messages.specs.declared.Aim.{Aim}
+use Rattle.messages.specs.declared.Limits.{Limits}
+use Rattle.messages.specs.declared.Setpoints.{Setpoints}
+use Rattle.messages.specs.declared.Command.{Command}
+use Rattle.store.specs.Sizes.{helds}
+use Rattle.store.specs.declared.Settings.{Settings}
+use Rattle.holds.specs.Holds.{directionOf, supports}
+use Rattle.command.specs.declared.said.Kind.{Kind}
+use Rattle.command.specs.Says.{says, kindOf, isSet, aimOf, someOf, natural, fieldNames, fieldNegative}
+
+-- THE TESTS
+-- 4: the command is not served
+abbrev pub ofNone : Kind → Bool
+ofNone Kind.Limits = false
+ofNone Kind.Setpoints = false
+ofNone Kind.Unserved = true
+
+abbrev pub isUnserved : Command → Bool
+isUnserved c = ofNone (kindOf c)
+
+-- 11: "limits or setpoints not accepted, or a named direction not supported"; a clear without direction names none
+abbrev pub accepts : Settings → Kind → Bool
+accepts s Kind.Limits = s .limits
+accepts s Kind.Setpoints = s .setpoints
+accepts s Kind.Unserved = true
+
+abbrev pub aimUnsupported : ℕ → Aim → Bool
+aimUnsupported has Aim.Both = false
+aimUnsupported has (Aim.One d) = not (supports has d)
+
+abbrev pub beyond : ℕ → Field → ℕ → Bool
+beyond has f q = fieldNames f && not (supports has (directionOf q))
+
+unfoldable pub unsupported : Settings → Command → Bool
+unsupported s c =
+    not (accepts s (kindOf c))
+    || (aimUnsupported (s .directions) (aimOf c) || (isSet c && someOf (λ q. beyond (s .directions) (says c q) q) helds))
+
+-- 12: "SetLimit while an override is set"
+abbrev pub ofLimits : Kind → Bool
+ofLimits Kind.Limits = true
+ofLimits Kind.Setpoints = false
+ofLimits Kind.Unserved = false
+
+abbrev pub setsLimits : Command → Bool
+setsLimits c = ofLimits (kindOf c) && isSet c
+
+-- 13: "a Set command with a negative value or naming neither direction"
+unfoldable pub invalid : Command → Bool
+invalid c = isSet c && (someOf (λ q. fieldNegative (says c q)) helds || not (someOf (λ q. fieldNames (says c q)) helds))
+
+-- 14: "a consumption limit below the minimum": the rule for a single value
+unfoldable pub tooLow : ℕ → ℕ → Bool
+tooLow minimum v = ltb v minimum
+
+abbrev pub fieldTooLow : ℕ → Field → Bool
+fieldTooLow minimum Field.Absent = false
+fieldTooLow minimum Field.Null = false
+fieldTooLow minimum (Field.Value v) = tooLow minimum (natural v)
+
+-- quantity 0 is the consumption limit; a clear says no number
+unfoldable pub belowTheMinimum : Settings → Command → Bool
+belowTheMinimum s c = fieldTooLow (s .minimum) (says c 0)
+
+-- what is asked of the command itself, once its zone is joined and up
+abbrev pub contentTests : Settings → ℕ → Command → List (Bool × ℕ)
+contentTests s override c =
+    (unsupported s c, 11) ∷ (setsLimits c && not (eqb override 0), 12) ∷ (invalid c, 13) ∷ (belowTheMinimum s c, 14) ∷ []

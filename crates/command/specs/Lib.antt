@@ -1,0 +1,4 @@
+pub mod Says
+pub mod Content
+pub mod Obeys
+pub mod Outcomes

@@ -1,0 +1,49 @@
+-- What a command leaves held. Assumes nothing: these are definitions.
+use Prim.Native.Nat.{ℕ, zero, suc, _+_, min}
+use mathlib.Core.Bool.{Bool, true, false, cond, not, _&&_, _||_}
+use mathlib.Core.List.{List, [], _∷_}
+use lib.Dec.{ltb, leb, eqb}
+use lib.ListN.{getD}
+use lib.IntN.{ℤ, pos, negsuc}
+use Rattle.messages.specs.declared.Field.{Field}
+use Rattle.messages.specs.declared.Target.{Target}
+use Rattle.messages.specs.declared.Aim.{Aim}
+use Rattle.messages.specs.declared.Limits.{Limits}
+use Rattle.messages.specs.declared.Setpoints.{Setpoints}
+use Rattle.messages.specs.declared.Command.{Command}
+use Rattle.store.specs.Sizes.{helds, most}
+use Rattle.store.specs.Zones.{upTo, nothing, holding, heldOf}
+use Rattle.store.specs.declared.Held.{Held}
+use Rattle.store.specs.declared.Zone.{Zone}
+use Rattle.store.specs.declared.Settings.{Settings}
+use Rattle.holds.specs.Holds.{isLimit, directionOf}
+use Rattle.command.specs.declared.Action.{Action}
+use Rattle.command.specs.Says.{says, durationOf, natural}
+
+-- WHAT A COMMAND LEAVES HELD
+-- "A limit above the contractual maximum is stored as that maximum"
+unfoldable pub fieldAction : ℕ → Field → Action
+fieldAction top Field.Absent = Action.Keep
+fieldAction top Field.Null = Action.Remove
+fieldAction top (Field.Value v) = Action.Put (min top (natural v))
+
+-- the most that quantity q may be: the contractual maximum of a limit; the largest word, which is none, for the others
+abbrev pub topOf : Settings → ℕ → ℕ
+topOf s q = cond (isLimit q) (getD (s .maxima) (directionOf q) 0) most
+
+-- what a command does to quantity q
+unfoldable pub action : Settings → Command → ℕ → Action
+action s c q = fieldAction (topOf s q) (says c q)
+
+-- "A value set at second n with duration d > 0 holds while t < n + d; duration 0 or omitted holds until replaced or cleared"
+unfoldable pub untilOf : ℕ → ℕ → ℕ
+untilOf n d = cond (eqb d 0) most (min (n + d) most)
+
+unfoldable pub done : Action → ℕ → Held → Held
+done Action.Keep end h = h
+done Action.Remove end h = nothing
+done (Action.Put v) end h = record { value = v; until = end }
+
+-- the zone's record once it has obeyed
+unfoldable pub obeyed : Settings → Command → ℕ → Zone → Zone
+obeyed s c t x = holding x (upTo (λ q. done (action s c q) (untilOf t (durationOf c)) (heldOf x q)) helds)

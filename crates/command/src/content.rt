@@ -1,0 +1,174 @@
+// What is asked of a command itself, whatever zone it comes from: its tests go over the quantities, not over the commands.
+use store::HELDS;
+use store::Settings;
+use crate::fields::field_names;
+use crate::fields::field_negative;
+use crate::fields::field_too_low;
+use crate::said::Kind;
+use crate::said::aim_of;
+use crate::said::direction_of;
+use crate::said::is_set;
+use crate::said::kind_of;
+use crate::said::says;
+use holds::supports;
+use messages::Aim;
+use messages::Command;
+use messages::Field;
+ghost use mathlib.Core.Path.{_≡_};
+ghost use mathlib.Core.Bool.{not, _&&_};
+ghost use lib.Dec.{eqb};
+ghost use Rattle.store.specs.Sizes.{helds};
+ghost use Rattle.messages.specs.Refusals.{firstOf};
+ghost use Rattle.command.specs.Content.{accepts, aimUnsupported, beyond, unsupported, isUnserved, setsLimits, invalid, belowTheMinimum, contentTests};
+ghost use Rattle.command.specs.Says.{someOf, says, fieldNegative, fieldNames};
+
+fn accepts(s: Settings, k: Kind) -> bool
+    ensures { λ r. ⌜ r ≡ accepts s k ⌝ }
+{
+    match k {
+        Kind::Limits => s.limits,
+        Kind::Setpoints => s.setpoints,
+        Kind::Unserved => true,
+    }
+}
+
+fn aim_unsupported(has: u64, a: Aim) -> bool
+    ensures { λ r. ⌜ r ≡ aimUnsupported has a ⌝ }
+{
+    match a {
+        Aim::Both => false,
+        Aim::One(d) => !supports(has, d),
+    }
+}
+
+// A quantity that is named though its direction is not supported.
+fn is_beyond(has: u64, f: Field, q: usize) -> bool
+    ensures { λ r. ⌜ r ≡ beyond has f q ⌝ }
+{
+    if field_names(f) {
+        return !supports(has, direction_of(q) as u64);
+    }
+    false
+}
+
+fn some_beyond(has: u64, c: Command) -> bool
+    ensures { λ r. ⌜ r ≡ someOf (λ q. beyond has (says c q) q) helds ⌝ }
+{
+    let mut q = 0;
+    while q < HELDS {
+        if is_beyond(has, says(c, q), q) {
+            return true;
+        }
+        q += 1;
+    }
+    false
+}
+
+fn some_negative(c: Command) -> bool
+    ensures { λ r. ⌜ r ≡ someOf (λ q. fieldNegative (says c q)) helds ⌝ }
+{
+    let mut q = 0;
+    while q < HELDS {
+        if field_negative(says(c, q)) {
+            return true;
+        }
+        q += 1;
+    }
+    false
+}
+
+fn some_named(c: Command) -> bool
+    ensures { λ r. ⌜ r ≡ someOf (λ q. fieldNames (says c q)) helds ⌝ }
+{
+    let mut q = 0;
+    while q < HELDS {
+        if field_names(says(c, q)) {
+            return true;
+        }
+        q += 1;
+    }
+    false
+}
+
+fn is_unsupported(s: Settings, c: Command) -> bool
+    ensures { λ r. ⌜ r ≡ unsupported s c ⌝ }
+{
+    if accepts(s, kind_of(c)) {
+        if aim_unsupported(s.directions, aim_of(c)) {
+            return true;
+        }
+        if is_set(c) {
+            return some_beyond(s.directions, c);
+        }
+        return false;
+    }
+    true
+}
+
+// A number that is no command of this feature.
+pub fn is_unserved(c: Command) -> bool
+    ensures { λ r. ⌜ r ≡ isUnserved c ⌝ }
+{
+    match kind_of(c) {
+        Kind::Limits => false,
+        Kind::Setpoints => false,
+        Kind::Unserved => true,
+    }
+}
+
+fn sets_limits(c: Command) -> bool
+    ensures { λ r. ⌜ r ≡ setsLimits c ⌝ }
+{
+    match kind_of(c) {
+        Kind::Limits => is_set(c),
+        Kind::Setpoints => false,
+        Kind::Unserved => false,
+    }
+}
+
+// An override stops every Set command of limits and no other command.
+fn is_stopped(c: Command, overridden: u64) -> bool
+    ensures { λ r. ⌜ r ≡ setsLimits c && not (eqb overridden 0) ⌝ }
+{
+    if sets_limits(c) {
+        return overridden != 0;
+    }
+    false
+}
+
+fn is_invalid(c: Command) -> bool
+    ensures { λ r. ⌜ r ≡ invalid c ⌝ }
+{
+    if is_set(c) {
+        if some_negative(c) {
+            return true;
+        }
+        return !some_named(c);
+    }
+    false
+}
+
+fn is_below_minimum(s: Settings, c: Command) -> bool
+    ensures { λ r. ⌜ r ≡ belowTheMinimum s c ⌝ }
+{
+    field_too_low(s.minimum, says(c, 0))
+}
+
+// What is asked of the command itself, once its zone is joined and up.
+pub fn content_number(s: Settings, overridden: u64, c: Command) -> u64
+    ensures { λ r. ⌜ r ≡ firstOf (contentTests s overridden c) ⌝ }
+{
+    if is_unsupported(s, c) {
+        return 11;
+    }
+    if is_stopped(c, overridden) {
+        return 12;
+    }
+    if is_invalid(c) {
+        return 13;
+    }
+    if is_below_minimum(s, c) {
+        return 14;
+    }
+    0
+}

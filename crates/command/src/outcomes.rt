@@ -1,0 +1,108 @@
+// The result that stands in the response to a command.
+use store::HELDS;
+use store::Settings;
+use store::VALUES;
+use crate::fields::field_above;
+use crate::fields::is_negative;
+use crate::fields::natural_of;
+use crate::obey::top_of;
+use crate::said::says;
+use messages::Amount;
+use messages::Command;
+use messages::LimitResult;
+use messages::Outcome;
+use messages::SetpointResult;
+ghost use mathlib.Core.Path.{_≡_};
+ghost use mathlib.Core.Bool.{cond, _&&_, _||_};
+ghost use lib.Dec.{leb, eqb};
+ghost use Rattle.command.specs.Outcomes.{isCapped, reasonOf, stated, limitOutcome, setpointOutcome};
+
+// Some quantity's number is above its top.
+pub fn is_capped(s: Settings, c: Command) -> bool
+    ensures { λ r. ⌜ r ≡ isCapped s c ⌝ }
+{
+    let mut q = 0;
+    while q < HELDS {
+        if field_above(top_of(s, q), says(c, q)) {
+            return true;
+        }
+        q += 1;
+    }
+    false
+}
+
+fn above_if(capped: bool) -> Amount
+    ensures { λ r. ⌜ r ≡ cond capped (Amount.Is 1) Amount.Absent ⌝ }
+{
+    if capped {
+        return Amount::Is(1);
+    }
+    Amount::Absent
+}
+
+// Why a SetLimit was refused, or that it was capped.
+fn reason_of(n: u64, capped: bool) -> Amount
+    ensures { λ r. ⌜ r ≡ reasonOf n capped ⌝ }
+{
+    if n == 11 {
+        return Amount::Is(4);
+    }
+    if n == 12 {
+        return Amount::Is(3);
+    }
+    if n == 13 {
+        return Amount::Is(2);
+    }
+    if n == 14 {
+        return Amount::Is(0);
+    }
+    if n == 0 {
+        return above_if(capped);
+    }
+    Amount::Absent
+}
+
+fn stated(v: i64) -> Amount
+    ensures { λ r. ⌜ r ≡ stated v ⌝ }
+{
+    if is_negative(v) {
+        return Amount::Absent;
+    }
+    Amount::Is(natural_of(v))
+}
+
+// SetLimit has a result where it is accepted and at refusals 11 to 14.
+pub fn has_result(n: u64) -> bool
+    ensures { λ r. ⌜ r ≡ eqb n 0 || (leb 11 n && leb n 14) ⌝ }
+{
+    if n == 0 {
+        return true;
+    }
+    if 11 <= n {
+        return n <= 14;
+    }
+    false
+}
+
+// SetLimit is answered with the state and the limits that hold.
+pub fn limit_outcome(n: u64, capped: bool, values: [i64; VALUES]) -> Outcome
+    ensures { λ r. ⌜ r ≡ limitOutcome n capped values ⌝ }
+{
+    Outcome::Limit(LimitResult {
+        applied: n == 0,
+        state: natural_of(values[0]),
+        consumption: stated(values[1]),
+        production: stated(values[2]),
+        reason: reason_of(n, capped),
+    })
+}
+
+// SetSetpoint is answered with the setpoints that hold.
+pub fn setpoint_outcome(values: [i64; VALUES]) -> Outcome
+    ensures { λ r. ⌜ r ≡ setpointOutcome values ⌝ }
+{
+    Outcome::Setpoint(SetpointResult {
+        consumption: stated(values[3]),
+        production: stated(values[4]),
+    })
+}

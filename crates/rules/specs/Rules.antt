@@ -1,0 +1,33 @@
+-- What a start, a join and an override may say. Assumes nothing: these are definitions.
+use Prim.Native.Nat.{ℕ}
+use mathlib.Core.Bool.{Bool, not, _&&_, _||_}
+use lib.Dec.{ltb, leb, eqb}
+use lib.ListN.{getD}
+use Rattle.store.specs.Sizes.{most, valueEnd}
+use Rattle.store.specs.declared.Settings.{Settings}
+
+-- "a contractual maximum per direction or none"
+unfoldable pub badMaximum : ℕ → Bool
+badMaximum m = leb valueEnd m && not (eqb m most)
+
+-- 16: "A setting out of range, or a contractual consumption maximum below the minimum, is bad settings"
+unfoldable pub badSettings : Settings → Bool
+badSettings s =
+    ltb 2 (s .directions)
+    || (leb valueEnd (s .minimum)
+    || (badMaximum (getD (s .maxima) 0 0)
+    || (badMaximum (getD (s .maxima) 1 0)
+    || (leb valueEnd (getD (s .failsafe) 0 0)
+    || (leb valueEnd (getD (s .failsafe) 1 0)
+    || (ltb (s .duration) 7200
+    || (ltb 86400 (s .duration)
+    || ltb (getD (s .maxima) 0 0) (s .minimum))))))))
+
+-- 6: "id outside 1 to 255, or rank outside 1 to 4"
+unfoldable pub badJoin : ℕ → ℕ → Bool
+badJoin z k = not (leb 1 z && leb z 255) || not (leb 1 k && leb k 4)
+
+-- 18: "reasons 0 and 1 go with consumption only; 3 with consumption, 4 with production, both only on an energy manager; 2 with either"
+unfoldable pub goTogether : Bool → ℕ → ℕ → Bool
+goTogether manager reason d =
+    (ltb reason 2 && eqb d 0) || ((eqb reason 2 && ltb d 2) || (manager && ((eqb reason 3 && eqb d 0) || (eqb reason 4 && eqb d 1))))

@@ -1,0 +1,75 @@
+// What a start, a join and an override may say: one function for each rule of a refusal, over plain numbers.
+ghost use mathlib.Core.Path.{_≡_};
+ghost use Rattle.rules.specs.Rules.{badJoin, goTogether};
+ghost use Rattle.rules.specs.Rules.{badMaximum, badSettings};
+use store::MOST;
+use store::Settings;
+use store::VALUE_END;
+
+pub fn is_bad_join(zone: u64, rank: u64) -> bool
+    ensures { λ r. ⌜ r ≡ badJoin zone rank ⌝ }
+{
+    if zone < 1 {
+        return true;
+    }
+    if 255 < zone {
+        return true;
+    }
+    rank < 1 || 4 < rank
+}
+
+pub fn go_together(manager: bool, reason: u64, direction: u64) -> bool
+    ensures { λ r. ⌜ r ≡ goTogether manager reason direction ⌝ }
+{
+    if reason < 2 {
+        return direction == 0;
+    }
+    if reason == 2 {
+        return direction < 2;
+    }
+    if manager {
+        if reason == 3 {
+            return direction == 0;
+        }
+        return reason == 4 && direction == 1;
+    }
+    false
+}
+
+fn is_bad_maximum(m: u64) -> bool
+    ensures { λ r. ⌜ r ≡ badMaximum m ⌝ }
+{
+    VALUE_END <= m && m != MOST
+}
+
+pub fn is_bad_settings(s: Settings) -> bool
+    ensures { λ r. ⌜ r ≡ badSettings s ⌝ }
+{
+    let maxima = s.maxima;
+    let failsafe = s.failsafe;
+    if 2 < s.directions {
+        return true;
+    }
+    if VALUE_END <= s.minimum {
+        return true;
+    }
+    if is_bad_maximum(maxima[0]) {
+        return true;
+    }
+    if is_bad_maximum(maxima[1]) {
+        return true;
+    }
+    if VALUE_END <= failsafe[0] {
+        return true;
+    }
+    if VALUE_END <= failsafe[1] {
+        return true;
+    }
+    if s.duration < 7200 {
+        return true;
+    }
+    if 86400 < s.duration {
+        return true;
+    }
+    maxima[0] < s.minimum
+}
