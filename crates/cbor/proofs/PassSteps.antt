@@ -1,5 +1,5 @@
 -- A pass over a payload, case by case, as its functions find it. Assumes nothing.
-use Prim.Native.Nat.{ℕ, zero, suc, _+_, _-_, _≤_, _<_}
+use Prim.Native.Nat.{ℕ, zero, suc, _+_, _-_, _*_, _/_, _%_, _≤_, _<_}
 use mathlib.Core.Path.{_≡_, refl, sym, ap, subst, _∙_}
 use mathlib.Core.Logic.{⊎-elim}
 use mathlib.Core.Bool.{Bool, true, false, cond}
@@ -7,13 +7,13 @@ use mathlib.Core.List.{List}
 use mathlib.Core.Option.{some, none}
 use native.Mathlib.Omega.{arith}
 use lib.ListN.{length}
-use lib.Dec.{eqb}
-use borrow.Author.Tests.{lt-ltb, le-ltb, eq-eqb, ne-eqb, eqb-true}
+use lib.Dec.{eqb, ltb}
+use borrow.Author.Tests.{lt-ltb, le-ltb, ltb-true, eq-eqb, eqb-true}
 use Rattle.bytes.specs.Bytes.{Bytes}
 use Rattle.cbor.specs.Head.{headAt}
 use Rattle.cbor.specs.Item.{Item, Pairs, Got, got, bad, keyAt, pairsAt, itemAt, pastOf, levels, payloadOf, isSome, Ok}
-use Rattle.cbor.specs.Scan.{sight, sightOf, pairsIn, sightsOf, wordsOf}
-use Rattle.cbor.specs.Pass.{blank, noteAt, noted, noteHead, noteKey, Left}
+use Rattle.cbor.specs.Scan.{KEYS, LEVELS, STEP, sight, sightOf, pairsIn, sightsOf, wordsOf}
+use Rattle.cbor.specs.Pass.{blank, noteAt, noted, noteHead, noteKey, noteFrom, Left}
 use Rattle.cbor.specs.declared.heads.Head.{Head}
 use Rattle.cbor.specs.declared.items.Key.{Key}
 use Rattle.bytes.proofs.Order.{below, one-more}
@@ -54,29 +54,26 @@ not-map (Item.map ps) ne = absurd (ne refl)
 not-map (Item.simple v) ne = refl
 
 module _ (f : List ℕ → ℕ → Item → List ℕ) (l : List ℕ) (k : ℕ) (i : Item) (ps : Pairs) where
-  noted-small : k < 6 → noted f l (Pairs.pair k i ps) ≡ noted f (f l k i) ps
+  noted-small : k < KEYS → noted f l (Pairs.pair k i ps) ≡ noted f (f l k i) ps
   unfolding noted
-  noted-small lt = ap (λ (b : Bool). noted f (cond b (f l k i) l) ps) (lt-ltb k 6 lt)
+  noted-small lt = ap (λ (b : Bool). noted f (cond b (f l k i) l) ps) (lt-ltb k KEYS lt)
 
-  noted-big : 6 ≤ k → noted f l (Pairs.pair k i ps) ≡ noted f l ps
+  noted-big : KEYS ≤ k → noted f l (Pairs.pair k i ps) ≡ noted f l ps
   unfolding noted
-  noted-big ge = ap (λ (b : Bool). noted f (cond b (f l k i) l) ps) (le-ltb k 6 ge)
+  noted-big ge = ap (λ (b : Bool). noted f (cond b (f l k i) l) ps) (le-ltb k KEYS ge)
 
-noted-same : (f g : List ℕ → ℕ → Item → List ℕ) → ((l : List ℕ) (k : ℕ) (i : Item) → k < 6 → f l k i ≡ g l k i) → (l : List ℕ) (ps : Pairs) → noted f l ps ≡ noted g l ps
-unfolding noted
-noted-same f g h l Pairs.empty = refl
-noted-same f g h l (Pairs.pair k i ps) = ⊎-elim
-    (λ (lt : k < 6). noted-small f l k i ps lt ∙ ap (λ (x : List ℕ). noted f x ps) (h l k i lt) ∙ noted-same f g h (g l k i) ps ∙ sym (noted-small g l k i ps lt))
-    (λ (ge : 6 ≤ k). noted-big f l k i ps ge ∙ noted-same f g h l ps ∙ sym (noted-big g l k i ps ge))
-    (below k 6)
+-- a key at a level, with the levels below it
+module _ (path level : ℕ) (l : List ℕ) (k : ℕ) (i : Item) where
+  note-last : LEVELS ≤ level + 1 → noteFrom path level l k i ≡ noteHead level l k i
+  unfolding noteKey
+  note-last h = let z : LEVELS - 1 - level ≡ 0 = omega arith in rw z
 
--- there is no seventh small key
-note-key-six : (l : List ℕ) (k : ℕ) (i : Item) → k < 6 → noteKey 6 6 l k i ≡ noteHead 6 l k i
-unfolding noteKey
-note-key-six l k i lt = rw (ne-eqb k 6 (λ z. omega arith))
+  note-deeper : level + 1 < LEVELS → noteFrom path level l k i ≡ cond (eqb k (path % STEP)) (noted (noteFrom (path / STEP) (level + 1)) (noteHead level l k i) (pairsIn (some i))) (noteHead level l k i)
+  unfolding noteKey
+  note-deeper h = let z : LEVELS - 1 - level ≡ suc (LEVELS - 1 - (level + 1)) = omega arith in rw z
 
 -- large keys are not noted
-noted-large : (g : List ℕ → ℕ → Item → List ℕ) (s : List ℕ) (f : ℕ → Got Item) (n lo p e : ℕ) (ps : Pairs) (l : List ℕ) → pairsAt s f n lo p ≡ got ps e → 6 ≤ lo → noted g l ps ≡ l
+noted-large : (g : List ℕ → ℕ → Item → List ℕ) (s : List ℕ) (f : ℕ → Got Item) (n lo p e : ℕ) (ps : Pairs) (l : List ℕ) → pairsAt s f n lo p ≡ got ps e → KEYS ≤ lo → noted g l ps ≡ l
 unfolding pairsAt noted
 noted-large g s f zero lo p e ps l h le = let a : ps ≡ Pairs.empty = cc in rw a
 noted-large g s f (suc n) lo p e ps l h le =
@@ -101,7 +98,7 @@ module _ (g : List ℕ → ℕ → Item → List ℕ) (s : List ℕ) (f : ℕ �
   ends-bad e m = subst (λ (ps : Got Pairs). Ends g ps l 0 m) e (refl, tt)
 
   module _ (nz : n ≡ 0 → ⊥) (h : Key) (e : h ≡ keyAt s lo p) (k q : ℕ) (w : h ≡ Key.Is k q) where
-    pub ends-large : 5 < k → (r : ℕ) → r ≡ pastOf (pairsAt s f n lo p) → Ends g (pairsAt s f n lo p) l r l
+    pub ends-large : KEYS ≤ k → (r : ℕ) → r ≡ pastOf (pairsAt s f n lo p) → Ends g (pairsAt s f n lo p) l r l
     unfolding noted
     ends-large large r x = (
       x,
@@ -113,7 +110,7 @@ module _ (g : List ℕ → ℕ → Item → List ℕ) (s : List ℕ) (f : ℕ �
           sym (ap (noted g l) (t .whole) ∙ noted-big g l (t .key) (t .item) (t .rest) (omega arith) ∙ noted-large g s f (n - 1) (t .key + 1) (t .next) e′ (t .rest) l (t .behind) (omega arith))),
     )
 
-    pub ends-next : k < 6 → (i : Item) (e′ : ℕ) → f q ≡ got i e′ → (l′ : List ℕ) → l′ ≡ g l k i → Onward g (pairsAt s f (n - 1) (k + 1) e′) l′ (pairsAt s f n lo p) l
+    pub ends-next : k < KEYS → (i : Item) (e′ : ℕ) → f q ≡ got i e′ → (l′ : List ℕ) → l′ ≡ g l k i → Onward g (pairsAt s f (n - 1) (k + 1) e′) l′ (pairsAt s f n lo p) l
     unfolding noted
     ends-next small i e′ b l′ le r m x = (
       x .0 ∙ pairs-next s f lo p n nz h e k q w i e′ b,
@@ -136,34 +133,43 @@ module _ (s : List ℕ) (ok : Bytes s) (d p : ℕ) (h : Head) (e : h ≡ headAt 
         let c : i ≡ Item.map (u .0) = cc in
         (u .0, u .1, u .2, c)
 
-  module _ (u b k : ℕ) (l l′ : List ℕ) (n : l′ ≡ noteAt l (b + k) (sight m v)) (o : Bool) (t : o ≡ cond (eqb k u) (eqb m 5) false) where
-    as-plain : (i : Item) (e′ : ℕ) → itemAt s d p ≡ got i e′ → l′ ≡ noteHead b l k i
+  module _ (path level k : ℕ) (l l′ : List ℕ) (n : l′ ≡ noteAt l (level * KEYS + k) (sight m v)) (o : Bool)
+      (t : o ≡ cond (eqb k (path % STEP)) (cond (ltb (level + 1) LEVELS) (eqb m 5) false) false) where
+    as-plain : (i : Item) (e′ : ℕ) → itemAt s d p ≡ got i e′ → l′ ≡ noteHead level l k i
     as-plain i e′ g = let a = own i e′ g in n ∙ rw (a .0, a .1, sight-of i)
 
-    pub value-plain : o ≡ false → Left (itemAt s d p) (noteKey u b l k) l′
-    unfolding noteKey noted
-    value-plain out = left-by (itemAt s d p) (noteKey u b l k) l′ (λ i e′ g. as-plain i e′ g ∙ go i (own i e′ g .0) (eqb k u) (sym t ∙ out))
+    pub value-plain : o ≡ false → Left (itemAt s d p) (noteFrom path level l k) l′
+    unfolding noted
+    value-plain out = left-by (itemAt s d p) (noteFrom path level l k) l′ (λ i e′ g. as-plain i e′ g ∙ ⊎-elim
+        (λ (deep : level + 1 < LEVELS).
+        go i (own i e′ g .0) (eqb k (path % STEP)) (rw (lt-ltb (level + 1) LEVELS deep) at (sym t ∙ out)) ∙ sym (note-deeper path level l k i deep))
+        (λ (last : LEVELS ≤ level + 1). sym (note-last path level l k i last))
+        (below (level + 1) LEVELS))
       where
-        go : (i : Item) → m ≡ majorOf i → (c : Bool) → cond c (eqb m 5) false ≡ false → noteHead b l k i ≡ cond c (noted (noteHead 6) (noteHead b l k i) (pairsIn (some i))) (noteHead b l k i)
+        go : (i : Item) → m ≡ majorOf i → (c : Bool) → cond c (eqb m 5) false ≡ false
+            → noteHead level l k i ≡ cond c (noted (noteFrom (path / STEP) (level + 1)) (noteHead level l k i) (pairsIn (some i))) (noteHead level l k i)
         go i a true r = rw (not-map i (λ z. let y = eq-eqb m 5 (a ∙ z) in let x : _≡_ {A = ℕ} 0 1 = cc in omega arith))
         go i a false r = refl
 
-    pub value-under : o ≡ true → (m ≡ 5) × (k ≡ u)
-    value-under is = go (eqb k u) (eqb m 5) refl refl (sym t ∙ is)
+    pub value-under : o ≡ true → (m ≡ 5) × (k ≡ path % STEP) × (level + 1 < LEVELS)
+    value-under is = go (eqb k (path % STEP)) (ltb (level + 1) LEVELS) (eqb m 5) refl refl refl (sym t ∙ is)
       where
-        go : (x y : Bool) → eqb k u ≡ x → eqb m 5 ≡ y → cond x y false ≡ true → (m ≡ 5) × (k ≡ u)
-        go true true hx hy r = (eqb-true m 5 hy, eqb-true k u hx)
-        go true false hx hy r = absurd (let z : _≡_ {A = ℕ} 0 1 = cc in omega arith)
-        go false y hx hy r = absurd (let z : _≡_ {A = ℕ} 0 1 = cc in omega arith)
+        go : (x y z : Bool) → eqb k (path % STEP) ≡ x → ltb (level + 1) LEVELS ≡ y → eqb m 5 ≡ z → cond x (cond y z false) false ≡ true
+            → (m ≡ 5) × (k ≡ path % STEP) × (level + 1 < LEVELS)
+        go true true true hx hy hz r = (eqb-true m 5 hz, eqb-true k (path % STEP) hx, ltb-true (level + 1) LEVELS hy)
+        go true true false hx hy hz r = absurd (let z : _≡_ {A = ℕ} 0 1 = cc in omega arith)
+        go true false z hx hy hz r = absurd (let z : _≡_ {A = ℕ} 0 1 = cc in omega arith)
+        go false y z hx hy hz r = absurd (let z : _≡_ {A = ℕ} 0 1 = cc in omega arith)
 
-    pub value-map : o ≡ true → (d ≡ 0 → ⊥) → (l″ : List ℕ) → Left (pairsAt s (itemAt s (d - 1)) v 0 q) (noted (noteKey 6 6) l′) l″ → Left (itemAt s d p) (noteKey u b l k) l″
-    unfolding noteKey
-    value-map is nz l″ y = left-by (itemAt s d p) (noteKey u b l k) l″ (λ i e′ g.
+    pub value-map : o ≡ true → (d ≡ 0 → ⊥) → (l″ : List ℕ) → Left (pairsAt s (itemAt s (d - 1)) v 0 q) (noted (noteFrom (path / STEP) (level + 1)) l′) l″
+        → Left (itemAt s d p) (noteFrom path level l k) l″
+    value-map is nz l″ y = left-by (itemAt s d p) (noteFrom path level l k) l″ (λ i e′ g.
         let z = value-under is in
         let x = map-pairs (z .0) nz i e′ g in
-        left-is (pairsAt s (itemAt s (d - 1)) v 0 q) (noted (noteKey 6 6) l′) l″ y (x .0) (x .1) (x .2)
-        ∙ noted-same (noteKey 6 6) (noteHead 6) note-key-six l′ (x .0)
-        ∙ rw (eq-eqb k u (z .1), ← as-plain i e′ g) (ap (λ (j : Item). noted (noteHead 6) l′ (pairsIn (some j))) (sym (x .3))))
+        left-is (pairsAt s (itemAt s (d - 1)) v 0 q) (noted (noteFrom (path / STEP) (level + 1)) l′) l″ y (x .0) (x .1) (x .2)
+        ∙ ap (λ (j : Item). noted (noteFrom (path / STEP) (level + 1)) l′ (pairsIn (some j))) (sym (x .3))
+        ∙ ap (λ (j : List ℕ). noted (noteFrom (path / STEP) (level + 1)) j (pairsIn (some i))) (as-plain i e′ g)
+        ∙ sym (note-deeper path level l k i (z .2) ∙ rw (eq-eqb k (path % STEP) (z .1))))
 
   -- the item that starts the payload
   module _ (g : List ℕ → ℕ → Item → List ℕ) (l l₀ : List ℕ) (c : l ≡ l₀) where
@@ -178,7 +184,7 @@ module _ (s : List ℕ) (ok : Bytes s) (d p : ℕ) (h : Head) (e : h ≡ headAt 
 
 -- the whole of a payload
 module _ (s : List ℕ) (ok : Bytes s) (u e : ℕ) (b : Bool) (x : e ≡ pastOf (itemAt s levels 0)) (t : b ≡ cond (eqb e 0) false (eqb e (length s))) where
-  pub scan-taken : b ≡ true → (m : List ℕ) → Left (itemAt s levels 0) (λ i. noted (noteKey u 0) blank (pairsIn (some i))) m → (b ≡ isSome (payloadOf s)) × (m ≡ wordsOf (sightsOf u (payloadOf s)))
+  pub scan-taken : b ≡ true → (m : List ℕ) → Left (itemAt s levels 0) (λ i. noted (noteFrom u 0) blank (pairsIn (some i))) m → (b ≡ isSome (payloadOf s)) × (m ≡ wordsOf (sightsOf u (payloadOf s)))
   unfolding payloadOf sightsOf Sound
   scan-taken is m y = go (eqb e 0) (eqb e (length s)) refl refl (sym t ∙ is)
     where
@@ -186,7 +192,7 @@ module _ (s : List ℕ) (ok : Bytes s) (u e : ℕ) (b : Bool) (x : e ≡ pastOf 
       go false true hp hq r =
           let g = item-got s ok 0 levels e x (λ z. let a = eq-eqb e 0 z in let c : _≡_ {A = ℕ} 0 1 = cc in omega arith) in
           let o = within (g .0) levels (item-sound s ok levels 0 e (g .0) (g .1) .1) in
-          rw (g .1, hq) (is, left-is (itemAt s levels 0) (λ i. noted (noteKey u 0) blank (pairsIn (some i))) m y (g .0) e (g .1) ∙ pass-exact u (o .0) 0 (pairsIn (some (g .0))) (o .1))
+          rw (g .1, hq) (is, left-is (itemAt s levels 0) (λ i. noted (noteFrom u 0) blank (pairsIn (some i))) m y (g .0) e (g .1) ∙ pass-exact u (o .0) 0 (pairsIn (some (g .0))) (o .1))
       go false false hp hq r = absurd (let z : _≡_ {A = ℕ} 0 1 = cc in omega arith)
       go true q hp hq r = absurd (let z : _≡_ {A = ℕ} 0 1 = cc in omega arith)
 

@@ -4,12 +4,13 @@ use Prim.Native.Nat.{ℕ, _+_, _^_, _≤_, _<_}
 use mathlib.Core.Path.{_≡_}
 use mathlib.Core.Logic.{_↔_}
 use mathlib.Core.List.{List, _++_}
-use lib.ListN.{length, getD, drop}
+use lib.ListN.{length, drop}
 use Rattle.bytes.specs.Bytes.{Bytes, Stands}
 use Rattle.cbor.specs.Head.{headBytes, headAt, headLen, Within}
-use Rattle.cbor.specs.Scan.{noSight, wordsOf, sightIn}
+use Rattle.cbor.specs.Item.{Pairs}
+use Rattle.cbor.specs.Find.{valueOf}
+use Rattle.cbor.specs.Scan.{KEYS, LEVELS, sightOf, mapAt, sightsAlong, wordsOf, sightAt}
 use Rattle.cbor.specs.declared.heads.Head.{Head}
-use Rattle.cbor.specs.declared.sights.Sight.{Sight}
 
 -- a head is as long as headLen says
 abbrev pub HeadLength : Type 0
@@ -27,6 +28,8 @@ HeadReadsBack = (s t : List ℕ) (p m v : ℕ) → Within m v → v < 2 ^ 64 →
 abbrev pub HeadExact : Type 0
 HeadExact = (s : List ℕ) → Bytes s → (p m v e : ℕ) → (headAt s p ≡ Head.Is m v e) ↔ (Within m v × (v < 2 ^ 64) × Stands s p (headBytes m v) e)
 
--- the words of twelve sights hold each
+-- the words kept of a payload show, for each level and small key, what stands under that key of the map at that level
 abbrev pub SightExact : Type 0
-SightExact = (l : List Sight) (k : ℕ) → length l ≡ 12 → k < 12 → sightIn (wordsOf l) k ≡ getD l k noSight
+SightExact =
+    (path : ℕ) (ps : Pairs) (level key : ℕ) → level < LEVELS → key < KEYS
+    → sightAt (wordsOf (sightsAlong LEVELS path ps)) level key ≡ sightOf (valueOf (mapAt level path ps) key)

@@ -1,5 +1,6 @@
--- What one pass over a payload keeps: the heads under its small keys and under those of a map below one of them. Assumes nothing: these are definitions.
-use Prim.Native.Nat.{ℕ, _+_}
+-- What one pass over a payload keeps: the heads under the small keys of its map and of the maps below it, along a path of keys.
+-- Assumes nothing: these are definitions.
+use Prim.Native.Nat.{ℕ, zero, suc, _+_, _*_, _/_, _%_}
 use mathlib.Core.Bool.{cond}
 use mathlib.Core.List.{List, [], _∷_, _++_, map}
 use mathlib.Core.Option.{Option, some, none}
@@ -9,12 +10,34 @@ use Rattle.cbor.specs.Item.{Item, Pairs, count, countPairs}
 use Rattle.cbor.specs.Find.{valueOf}
 use Rattle.cbor.specs.declared.sights.Sight.{Sight}
 
+-- SIZES, as the code has them
+-- the small keys are 0 to 5
+abbrev pub KEYS : ℕ
+KEYS = 6
+
+-- how many maps within each other are looked into
+abbrev pub LEVELS : ℕ
+LEVELS = 2
+
+-- the small keys of each
+abbrev pub SIGHTS : ℕ
+SIGHTS = KEYS * LEVELS
+
+-- two words each
+abbrev pub WORDS : ℕ
+WORDS = 2 * SIGHTS
+
+-- a path has a digit to this base for each level, the first the lowest: the key whose map is looked into next
+abbrev pub STEP : ℕ
+STEP = 16
+
+-- SIGHTS
 abbrev pub sight : ℕ → ℕ → Sight
 sight m v = record { major = m; arg = v }
 
--- nothing there
+-- nothing there; its argument is of no use
 abbrev pub noSight : Sight
-noSight = sight 8 0
+noSight = sight 8 8
 
 -- the head of what stands under a key
 unfoldable pub sightOf : Option Item → Sight
@@ -27,10 +50,10 @@ sightOf (some (Item.array is)) = sight 4 (count is)
 sightOf (some (Item.map ps)) = sight 5 (countPairs ps)
 sightOf (some (Item.simple v)) = sight 7 v
 
--- the small keys, 0 to 5
-unfoldable pub sightsIn : Pairs → List Sight
-sightsIn ps =
-    sightOf (valueOf ps 0) ∷ sightOf (valueOf ps 1) ∷ sightOf (valueOf ps 2) ∷ sightOf (valueOf ps 3) ∷ sightOf (valueOf ps 4) ∷ sightOf (valueOf ps 5) ∷ []
+-- n keys of a map, from k on
+unfoldable pub sightsFrom : ℕ → ℕ → Pairs → List Sight
+sightsFrom zero k ps = []
+sightsFrom (suc n) k ps = sightOf (valueOf ps k) ∷ sightsFrom n (k + 1) ps
 
 -- the pairs of a map; none of anything else
 abbrev pub pairsIn : Option Item → Pairs
@@ -43,14 +66,32 @@ pairsIn (some (Item.array is)) = Pairs.empty
 pairsIn (some (Item.map ps)) = ps
 pairsIn (some (Item.simple v)) = Pairs.empty
 
--- the small keys of a payload's map, then those of the map under one of them
-unfoldable pub sightsOf : ℕ → Option Item → List Sight
-sightsOf under o = sightsIn (pairsIn o) ++ sightsIn (cond (ltb under 6) (pairsIn (valueOf (pairsIn o) under)) Pairs.empty)
+-- the map under the first key of a path, where that is a small key
+unfoldable pub followed : ℕ → Pairs → Pairs
+followed path ps = cond (ltb (path % STEP) KEYS) (pairsIn (valueOf ps (path % STEP))) Pairs.empty
 
--- sights as words: the twelve major types, then the arguments
+-- the map at a level of a path
+unfoldable pub mapAt : ℕ → ℕ → Pairs → Pairs
+mapAt zero path ps = ps
+mapAt (suc level) path ps = mapAt level (path / STEP) (followed path ps)
+
+-- the small keys of n maps along a path
+unfoldable pub sightsAlong : ℕ → ℕ → Pairs → List Sight
+sightsAlong zero path ps = []
+sightsAlong (suc n) path ps = sightsFrom KEYS 0 ps ++ sightsAlong n (path / STEP) (followed path ps)
+
+-- those of a payload
+unfoldable pub sightsOf : ℕ → Option Item → List Sight
+sightsOf path o = sightsAlong LEVELS path (pairsIn o)
+
+-- sights as words: the major types, then the arguments
 unfoldable pub wordsOf : List Sight → List ℕ
 wordsOf l = map (λ x. x .major) l ++ map (λ x. x .arg) l
 
--- the sight k of words
+-- the sight in a place of words
 unfoldable pub sightIn : List ℕ → ℕ → Sight
-sightIn ws k = sight (getD ws k 0) (getD ws (12 + k) 0)
+sightIn ws j = sight (getD ws j 0) (getD ws (SIGHTS + j) 0)
+
+-- the sight of a small key at a level; nothing past the last
+unfoldable pub sightAt : List ℕ → ℕ → ℕ → Sight
+sightAt ws level key = cond (ltb level LEVELS) (cond (ltb key KEYS) (sightIn ws (level * KEYS + key)) noSight) noSight

@@ -1,4 +1,4 @@
-// One pass over a payload, which checks it and keeps the heads under its small keys and under those of the map below one of them.
+// One pass over a payload, which checks it and keeps the heads under its small keys and under those of the maps along a path.
 use crate::heads::Head;
 use crate::heads::read_head;
 use crate::items::DEPTH;
@@ -7,21 +7,31 @@ use crate::items::past_pairs;
 use crate::items::past_rest;
 use crate::items::read_key;
 ghost use mathlib.Core.Path.{_≡_};
-ghost use Prim.Native.Nat.{_<_, _≤_};
+ghost use Prim.Native.Nat.{_+_, _%_, _<_};
 ghost use mathlib.Core.Bool.{cond, false};
 ghost use mathlib.Core.Option.{some};
 ghost use lib.Dec.{ltb, eqb};
 ghost use Rattle.cbor.specs.Item.{itemAt, pairsAt, pastOf, levels, payloadOf, isSome};
-ghost use Rattle.cbor.specs.Scan.{sight, noSight, sightIn, pairsIn, sightsOf, wordsOf};
-ghost use Rattle.cbor.specs.Pass.{Left, noteAt, noted, noteKey, blank};
+ghost use Rattle.cbor.specs.Scan.{KEYS, LEVELS, SIGHTS, STEP, sight, sightAt, pairsIn, sightsOf, wordsOf};
+ghost use Rattle.cbor.specs.Pass.{Left, noteAt, noted, noteFrom, blank};
 
 // The small keys are 0 to 5.
 pub const KEYS: usize = 6;
-// Those of the payload's map, then those of the map under one of its small keys.
-pub const SIGHTS: usize = 12;
+
+// How many maps within each other are looked into: the payload's, and one below it.
+pub const LEVELS: usize = 2;
+
+// Nothing is looked into below this level.
+const DEEPEST: usize = LEVELS - 1;
+
+// The small keys of each.
+pub const SIGHTS: usize = KEYS * LEVELS;
 
 // Two words each.
-pub const WORDS: usize = 24;
+pub const WORDS: usize = 2 * SIGHTS;
+
+// A path has a digit to this base for each level.
+const STEP: u64 = 16;
 
 // What is seen under a key: the head of its value; major 8 where nothing is there.
 pub struct Sight {
@@ -32,93 +42,74 @@ pub struct Sight {
 // Sights as words, the major types and then the arguments: a reference to an array of structs has no proof.
 pub type Sights = [u64; WORDS];
 
-// The sight k; nothing past the last.
-pub fn sight_at(sights: &Sights, k: usize) -> Sight
-    ensures { λ r. ⌜ r ≡ cond (ltb k 12) (sightIn (now (sights .entry)) k) noSight ⌝ }
+// What is seen under a small key of the map at a level; nothing past the last.
+pub fn sight_of(sights: &Sights, level: usize, key: usize) -> Sight
+    ensures { λ r. ⌜ r ≡ sightAt (now (sights .entry)) level key ⌝ }
 {
-    if k < SIGHTS {
-        return Sight {
-            major: sights[k],
-            arg: sights[SIGHTS + k],
-        };
+    if level < LEVELS {
+        if key < KEYS {
+            let k = level * KEYS + key;
+            return Sight {
+                major: sights[k],
+                arg: sights[SIGHTS + k],
+            };
+        }
     }
-    Sight { major: 8, arg: 0 }
+    Sight { major: 8, arg: 8 }
 }
 
 // Forgets all.
 fn clear(sights: &mut Sights)
     ensures { λ _. ⌜ now (sights .exit) ≡ blank ⌝ }
 {
-    *sights = [
-        8,
-        8,
-        8,
-        8,
-        8,
-        8,
-        8,
-        8,
-        8,
-        8,
-        8,
-        8,
-        0,
-        0,
-        0,
-        0,
-        0,
-        0,
-        0,
-        0,
-        0,
-        0,
-        0,
-        0,
-    ];
+    *sights = [8u64; WORDS];
 }
 
 // Keeps the head of a value.
 fn note(sights: &mut Sights, k: usize, major: u64, arg: u64)
-    requires { ⌜ k < 12 ⌝ }
+    requires { ⌜ k < SIGHTS ⌝ }
     ensures { λ _. ⌜ now (sights .exit) ≡ noteAt (now (sights .entry)) k (sight major arg) ⌝ }
 {
     sights[k] = major;
     sights[SIGHTS + k] = arg;
 }
 
-// Whether the head of a key's value opens the map under the key `under`.
-fn opens(key: u64, under: u64, major: u64) -> bool
-    ensures { λ r. ⌜ r ≡ cond (eqb key under) (eqb major 5) false ⌝ }
+// Whether the head of a key's value opens the next map along a path.
+fn opens(key: u64, path: u64, level: usize, major: u64) -> bool
+    ensures { λ r. ⌜ r ≡ cond (eqb key (path % STEP)) (cond (ltb (level + 1) LEVELS) (eqb major 5) false) false ⌝ }
 {
-    if key != under {
+    if key != path % STEP {
+        return false;
+    }
+    if DEEPEST <= level {
         return false;
     }
     major == 5
 }
 
-// The position past the value at `at` of a small key, as `past_item` says it; the sights of a map under the key `under` too.
+// The position past the value at `at` of a small key, as `past_item` says it; the sights of the map that a path leads to, too.
 fn scan_value(
     s: &[u8],
     at: usize,
     depth: u64,
     key: u64,
-    under: u64,
-    base: usize,
+    path: u64,
+    level: usize,
     sights: &mut Sights,
 ) -> usize
-    requires { ⌜ (key < 6) × (base ≤ 6) ⌝ }
+    requires { ⌜ (key < KEYS) × (level < LEVELS) ⌝ }
     ensures { λ r. ⌜ r ≡ pastOf (itemAt (now (s .entry)) depth at) ⌝ }
-    ensures { λ _. ⌜ Left (itemAt (now (s .entry)) depth at) (noteKey under base (now (sights .entry)) key) (now (sights .exit)) ⌝ }
+    ensures { λ _. ⌜ Left (itemAt (now (s .entry)) depth at) (noteFrom path level (now (sights .entry)) key) (now (sights .exit)) ⌝ }
 {
     match read_head(s, at) {
         Head::Bad => 0,
         Head::Is(major, arg, next) => {
-            note(sights, base + key as usize, major, arg);
-            if opens(key, under, major) {
+            note(sights, level * KEYS + key as usize, major, arg);
+            if opens(key, path, level, major) {
                 if depth == 0 {
                     return 0;
                 }
-                return scan_map(s, next, arg, depth - 1, 6, KEYS, sights);
+                return scan_map(s, next, arg, depth - 1, path / STEP, level + 1, sights);
             }
             if major < 2 {
                 return next;
@@ -131,19 +122,19 @@ fn scan_value(
     }
 }
 
-// The position past n pairs at `at`, as `past_pairs` says it; all keys behind one above 5 are larger still.
+// The position past n pairs at `at`, as `past_pairs` says it; all keys behind one that is not small are larger still.
 fn scan_map(
     s: &[u8],
     at: usize,
     n: u64,
     depth: u64,
-    under: u64,
-    base: usize,
+    path: u64,
+    level: usize,
     sights: &mut Sights,
 ) -> usize
-    requires { ⌜ base ≤ 6 ⌝ }
+    requires { ⌜ level < LEVELS ⌝ }
     ensures { λ r. ⌜ r ≡ pastOf (pairsAt (now (s .entry)) (itemAt (now (s .entry)) depth) n 0 at) ⌝ }
-    ensures { λ _. ⌜ Left (pairsAt (now (s .entry)) (itemAt (now (s .entry)) depth) n 0 at) (noted (noteKey under base) (now (sights .entry))) (now (sights .exit)) ⌝ }
+    ensures { λ _. ⌜ Left (pairsAt (now (s .entry)) (itemAt (now (s .entry)) depth) n 0 at) (noted (noteFrom path level) (now (sights .entry))) (now (sights .exit)) ⌝ }
 {
     let mut p = at;
     let mut left = n;
@@ -155,10 +146,10 @@ fn scan_map(
                 return 0;
             }
             Key::Is(key, next) => {
-                if 5 < key {
+                if KEYS as u64 <= key {
                     return past_pairs(s, p, left, first, last, depth);
                 }
-                p = scan_value(s, next, depth, key, under, base, sights);
+                p = scan_value(s, next, depth, key, path, level, sights);
                 if p == 0 {
                     return 0;
                 }
@@ -172,16 +163,16 @@ fn scan_map(
 }
 
 // The position past the item that starts the slice; sights of before are forgotten behind its head, as a bad one is refused soonest.
-fn scan_root(s: &[u8], under: u64, sights: &mut Sights) -> usize
+fn scan_root(s: &[u8], path: u64, sights: &mut Sights) -> usize
     ensures { λ r. ⌜ r ≡ pastOf (itemAt (now (s .entry)) levels 0) ⌝ }
-    ensures { λ _. ⌜ Left (itemAt (now (s .entry)) levels 0) (λ i. noted (noteKey under 0) blank (pairsIn (some i))) (now (sights .exit)) ⌝ }
+    ensures { λ _. ⌜ Left (itemAt (now (s .entry)) levels 0) (λ i. noted (noteFrom path 0) blank (pairsIn (some i))) (now (sights .exit)) ⌝ }
 {
     match read_head(s, 0) {
         Head::Bad => 0,
         Head::Is(major, arg, next) => {
             clear(sights);
             if major == 5 {
-                return scan_map(s, next, arg, DEPTH - 1, under, 0, sights);
+                return scan_map(s, next, arg, DEPTH - 1, path, 0, sights);
             }
             if major < 2 {
                 return next;
@@ -204,12 +195,12 @@ fn is_whole(e: usize, len: usize) -> bool
     e == len
 }
 
-// Whether the slice is exactly one item; the sights of its small keys, and of those of the map under the small key `under`.
-pub fn scan(s: &[u8], under: u64, sights: &mut Sights) -> bool
+// Whether the slice is exactly one item; the sights of its small keys, and of those of the maps along a path of small keys.
+pub fn scan(s: &[u8], path: u64, sights: &mut Sights) -> bool
     ensures { λ r. ⌜ r ≡ isSome (payloadOf (now (s .entry))) ⌝ }
-    ensures { λ _. ⌜ now (sights .exit) ≡ wordsOf (sightsOf under (payloadOf (now (s .entry)))) ⌝ }
+    ensures { λ _. ⌜ now (sights .exit) ≡ wordsOf (sightsOf path (payloadOf (now (s .entry)))) ⌝ }
 {
-    let e = scan_root(s, under, sights);
+    let e = scan_root(s, path, sights);
     if is_whole(e, s.len()) {
         return true;
     }

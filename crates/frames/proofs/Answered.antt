@@ -9,7 +9,7 @@ use lib.Dec.{eqb}
 use borrow.Author.Tests.{eq-eqb, ne-eqb}
 use Rattle.cbor.specs.Item.{Item, Pairs, payloadOf, isSome}
 use Rattle.cbor.specs.Find.{valueOf}
-use Rattle.cbor.specs.Scan.{sightOf, pairsIn, sightIn, sightsOf, wordsOf}
+use Rattle.cbor.specs.Scan.{sightOf, pairsIn, followed, mapAt, sightsOf, wordsOf, sightAt}
 use Rattle.cbor.specs.declared.sights.Sight.{Sight}
 use Rattle.messages.specs.declared.Amount.{Amount}
 use Rattle.messages.specs.declared.Outcome.{Outcome}
@@ -26,7 +26,7 @@ use Rattle.frames.specs.declared.responses.Targets.{Targets}
 use Rattle.frames.specs.declared.responses.Result.{Result}
 use Rattle.map_fields.proofs.Joined.{via, and-left, and-right}
 use Rattle.map_fields.proofs.BySight.{reads-by}
-use Rattle.map_fields.proofs.Parts.{top, low, then, last}
+use Rattle.map_fields.proofs.Parts.{shown, top, then, last}
 use Rattle.frames.proofs.Requested.{is-some, is-none}
 
 -- NOTHING
@@ -46,77 +46,77 @@ absent-reads k = reads-by _ (λ k. eqb (k .major) 8) (λ k. Outcome.Nothing) abs
 
 module _ (ws : List ℕ) where
   -- RESULTS
-  module _ (j k l m n : Sight) (je : j ≡ sightIn ws 7) (ke : k ≡ sightIn ws 8) (le : l ≡ sightIn ws 9) (me : m ≡ sightIn ws 10) (ne : n ≡ sightIn ws 11)
+  module _ (j k l m n : Sight) (je : j ≡ sightAt ws 1 1) (ke : k ≡ sightAt ws 1 2) (le : l ≡ sightAt ws 1 3) (me : m ≡ sightAt ws 1 4) (ne : n ≡ sightAt ws 1 5)
       (a s c p r : Bool) (ar : Reads j (needed truth) a (eqb (j .arg) 21)) (sr : UintReads k true 4 s)
       (cr : UintReads l false mostValue c) (pr : UintReads m false mostValue p) (rr : UintReads n false 4 r) where
     pub effect-reads : (ok : Bool) → ok ≡ (a && (s && (c && (p && r)))) → (x y z : Amount) → x ≡ amountOf l → y ≡ amountOf m → z ≡ amountOf n
-        → Inside ws limitResultIn ok (record { applied = eqb (j .arg) 21; state = k .arg; consumption = x; production = y; reason = z })
+        → Inside ws 1 limitResultIn ok (record { applied = eqb (j .arg) 21; state = k .arg; consumption = x; production = y; reason = z })
     unfolding Inside limitResultIn UintReads Reads
-    effect-reads ok e x y z xe ye ze ps qs h =
+    effect-reads ok e x y z xe ye ze path ps h =
         rw (e, xe, ye, ze)
-        (then (eqb (j .arg) 21) _ _ a _ (ar _ (je ∙ low ws ps qs h 1 (omega arith)))
-        (then (k .arg) _ _ s _ (sr _ (ke ∙ low ws ps qs h 2 (omega arith)))
-        (then (amountOf l) _ _ c _ (cr _ (le ∙ low ws ps qs h 3 (omega arith)))
-        (then (amountOf m) _ _ p _ (pr _ (me ∙ low ws ps qs h 4 (omega arith)))
-        (last (amountOf n) _ r (rr _ (ne ∙ low ws ps qs h 5 (omega arith))))))))
+        (then (eqb (j .arg) 21) _ _ a _ (ar _ (je ∙ shown ws path ps h 1 1 (omega arith) (omega arith)))
+        (then (k .arg) _ _ s _ (sr _ (ke ∙ shown ws path ps h 1 2 (omega arith) (omega arith)))
+        (then (amountOf l) _ _ c _ (cr _ (le ∙ shown ws path ps h 1 3 (omega arith) (omega arith)))
+        (then (amountOf m) _ _ p _ (pr _ (me ∙ shown ws path ps h 1 4 (omega arith) (omega arith)))
+        (last (amountOf n) _ r (rr _ (ne ∙ shown ws path ps h 1 5 (omega arith) (omega arith))))))))
 
-  module _ (j k l : Sight) (je : j ≡ sightIn ws 7) (ke : k ≡ sightIn ws 8) (le : l ≡ sightIn ws 9)
+  module _ (j k l : Sight) (je : j ≡ sightAt ws 1 1) (ke : k ≡ sightAt ws 1 2) (le : l ≡ sightAt ws 1 3)
       (a c p : Bool) (ar : Reads j successIn a true) (cr : UintReads k false mostValue c) (pr : UintReads l false mostValue p) where
-    pub targets-read : (ok : Bool) → ok ≡ (a && (c && p)) → (x y : Amount) → x ≡ amountOf k → y ≡ amountOf l → Inside ws setpointResultIn ok (record { consumption = x; production = y })
+    pub targets-read : (ok : Bool) → ok ≡ (a && (c && p)) → (x y : Amount) → x ≡ amountOf k → y ≡ amountOf l → Inside ws 1 setpointResultIn ok (record { consumption = x; production = y })
     unfolding Inside setpointResultIn UintReads Reads
-    targets-read ok e x y xe ye ps qs h =
+    targets-read ok e x y xe ye path ps h =
         rw (e, xe, ye)
-        (then true _ _ a _ (ar _ (je ∙ low ws ps qs h 1 (omega arith)))
-        (then (amountOf k) _ _ c _ (cr _ (ke ∙ low ws ps qs h 2 (omega arith)))
-        (last (amountOf l) _ p (pr _ (le ∙ low ws ps qs h 3 (omega arith))))))
+        (then true _ _ a _ (ar _ (je ∙ shown ws path ps h 1 1 (omega arith) (omega arith)))
+        (then (amountOf k) _ _ c _ (cr _ (ke ∙ shown ws path ps h 1 2 (omega arith) (omega arith)))
+        (last (amountOf l) _ p (pr _ (le ∙ shown ws path ps h 1 3 (omega arith) (omega arith))))))
 
   module _ (c : ℕ) where
-    module _ (v : Effect) (r : Inside ws limitResultIn (v .ok) (v .result)) (e : c ≡ 1) where
+    module _ (v : Effect) (r : Inside ws 1 limitResultIn (v .ok) (v .result)) (e : c ≡ 1) where
       pub effect-is : v .ok ≡ true → OutcomeReads ws c (Result.Is (Outcome.Limit (v .result)))
       unfolding OutcomeReads Inside outcomeIn
-      effect-is y ps qs h = rw (eq-eqb c 1 e, r ps qs h, y) refl
+      effect-is y path ps h = rw (eq-eqb c 1 e, r path ps h, y) refl
 
       pub effect-wrong : v .ok ≡ false → OutcomeReads ws c Result.Wrong
       unfolding OutcomeReads Inside outcomeIn
-      effect-wrong y ps qs h = rw (eq-eqb c 1 e, r ps qs h, y) refl
+      effect-wrong y path ps h = rw (eq-eqb c 1 e, r path ps h, y) refl
 
-    module _ (v : Targets) (r : Inside ws setpointResultIn (v .ok) (v .result)) (e : c ≡ 3) where
+    module _ (v : Targets) (r : Inside ws 1 setpointResultIn (v .ok) (v .result)) (e : c ≡ 3) where
       pub targets-are : v .ok ≡ true → OutcomeReads ws c (Result.Is (Outcome.Setpoint (v .result)))
       unfolding OutcomeReads Inside outcomeIn
-      targets-are y ps qs h = rw (ne-eqb c 1 (λ z. omega arith), eq-eqb c 3 e, r ps qs h, y) refl
+      targets-are y path ps h = rw (ne-eqb c 1 (λ z. omega arith), eq-eqb c 3 e, r path ps h, y) refl
 
       pub targets-wrong : v .ok ≡ false → OutcomeReads ws c Result.Wrong
       unfolding OutcomeReads Inside outcomeIn
-      targets-wrong y ps qs h = rw (ne-eqb c 1 (λ z. omega arith), eq-eqb c 3 e, r ps qs h, y) refl
+      targets-wrong y path ps h = rw (ne-eqb c 1 (λ z. omega arith), eq-eqb c 3 e, r path ps h, y) refl
 
-    module _ (k : Sight) (ke : k ≡ sightIn ws 7) (t : Bool) (r : Reads k successIn t true) (a : c ≡ 1 → ⊥) (b : c ≡ 3 → ⊥) where
+    module _ (k : Sight) (ke : k ≡ sightAt ws 1 1) (t : Bool) (r : Reads k successIn t true) (a : c ≡ 1 → ⊥) (b : c ≡ 3 → ⊥) where
       pub success-is : t ≡ true → OutcomeReads ws c (Result.Is Outcome.Success)
       unfolding OutcomeReads Reads outcomeIn
-      success-is y ps qs h = rw (ne-eqb c 1 a, ne-eqb c 3 b, r _ (ke ∙ low ws ps qs h 1 (omega arith)), y) refl
+      success-is y path ps h = rw (ne-eqb c 1 a, ne-eqb c 3 b, r _ (ke ∙ shown ws path ps h 1 1 (omega arith) (omega arith)), y) refl
 
       pub success-wrong : t ≡ false → OutcomeReads ws c Result.Wrong
       unfolding OutcomeReads Reads outcomeIn
-      success-wrong y ps qs h = rw (ne-eqb c 1 a, ne-eqb c 3 b, r _ (ke ∙ low ws ps qs h 1 (omega arith)), y) refl
+      success-wrong y path ps h = rw (ne-eqb c 1 a, ne-eqb c 3 b, r _ (ke ∙ shown ws path ps h 1 1 (omega arith) (omega arith)), y) refl
 
   -- WHAT STANDS UNDER KEY 3
-  module _ (c status : ℕ) (k : Sight) (ke : k ≡ sightIn ws 3) (t : Bool) (te : t ≡ stands c status) where
+  module _ (c status : ℕ) (k : Sight) (ke : k ≡ sightAt ws 0 3) (t : Bool) (te : t ≡ stands c status) where
     module _ (y : t ≡ true) (m : Bool) (mr : MapReads k m) where
       pub result-no-map : m ≡ false → ResultReads ws c status Result.Wrong
       unfolding ResultReads MapReads resultIn bind
-      result-no-map q ps h = rw (via te y, mr _ (ke ∙ top ws ps _ h 3 (omega arith)), q) refl
+      result-no-map q ps h = rw (via te y, mr _ (ke ∙ top ws 3 ps h 3 (omega arith)), q) refl
 
       pub result-is : m ≡ true → (r : Result) → OutcomeReads ws c r → ResultReads ws c status r
-      unfolding ResultReads OutcomeReads MapReads resultIn bind
-      result-is q r o ps h = o ps _ h ∙ rw (via te y, mr _ (ke ∙ top ws ps _ h 3 (omega arith)), q) refl
+      unfolding ResultReads OutcomeReads MapReads resultIn bind mapAt followed
+      result-is q r o ps h = o 3 ps h ∙ rw (via te y, mr _ (ke ∙ top ws 3 ps h 3 (omega arith)), q) refl
 
     module _ (y : t ≡ false) (n : Bool) (nr : Reads k noResult n Outcome.Nothing) where
       pub result-none : n ≡ true → ResultReads ws c status (Result.Is Outcome.Nothing)
       unfolding ResultReads Reads resultIn
-      result-none q ps h = rw (via te y, nr _ (ke ∙ top ws ps _ h 3 (omega arith)), q) refl
+      result-none q ps h = rw (via te y, nr _ (ke ∙ top ws 3 ps h 3 (omega arith)), q) refl
 
       pub result-elsewhere : n ≡ false → ResultReads ws c status Result.Wrong
       unfolding ResultReads Reads resultIn
-      result-elsewhere q ps h = rw (via te y, nr _ (ke ∙ top ws ps _ h 3 (omega arith)), q) refl
+      result-elsewhere q ps h = rw (via te y, nr _ (ke ∙ top ws 3 ps h 3 (omega arith)), q) refl
 
 -- THE BODY
 is-outcome : (o : Option Outcome) (x : Outcome) → Result.Is x ≡ resultFrom o → o ≡ some x
@@ -151,30 +151,30 @@ pub all-parts : (c : ℕ) (ps : Pairs) (i : ℕ) → needed (upTo most32) (value
 unfolding responseIn bind
 all-parts c ps i e n f o g = rw (e, f, g) refl
 
-module _ (ws : List ℕ) (c : ℕ) (k l : Sight) (ke : k ≡ sightIn ws 1) (le : l ≡ sightIn ws 2) (a b s : Bool)
+module _ (ws : List ℕ) (c : ℕ) (k l : Sight) (ke : k ≡ sightAt ws 0 1) (le : l ≡ sightAt ws 0 2) (a b s : Bool)
     (ar : UintReads k true most32 a) (br : UintReads l true 14 b) (se : s ≡ isStatus (l .arg)) (t : Bool) (te : t ≡ (a && (b && s))) where
   abbrev whole : Outcome → Response
   whole o = record { id = k .arg; status = l .arg; outcome = o }
 
   -- the id and the status are there, then the result
-  from-result : (ps qs : Pairs) → Shown ws ps qs → (r : Bool) (o : Outcome) → resultIn c (l .arg) (valueOf ps 3) ≡ found r o
+  from-result : (path : ℕ) (ps : Pairs) → Shown ws path ps → (r : Bool) (o : Outcome) → resultIn c (l .arg) (valueOf ps 3) ≡ found r o
       → responseIn c ps ≡ found (a && ((b && s) && r)) (whole o)
   unfolding responseIn UintReads Reads
-  from-result ps qs h r o e =
-      then (k .arg) _ _ a _ (ar _ (ke ∙ top ws ps qs h 1 (omega arith)))
-      (then (l .arg) _ _ (b && s) _ (status-found (valueOf ps 2) b s (l .arg) se (br _ (le ∙ top ws ps qs h 2 (omega arith))))
+  from-result path ps h r o e =
+      then (k .arg) _ _ a _ (ar _ (ke ∙ top ws path ps h 1 (omega arith)))
+      (then (l .arg) _ _ (b && s) _ (status-found (valueOf ps 2) b s (l .arg) se (br _ (le ∙ top ws path ps h 2 (omega arith))))
       (last o _ r e))
 
   pub body-wrong : t ≡ false → BodyReads ws c (Answer.Refused 3)
   unfolding BodyReads
   body-wrong y ps h =
       let f = found-of (resultIn c (l .arg) (valueOf ps 3)) in
-      sym (ap answerOf (from-result ps _ h (f .0) (f .1) (f .2) ∙ ap (λ (x : Bool). found x (whole (f .1))) (not-first a (b && s) (f .0) (via te y))))
+      sym (ap answerOf (from-result 3 ps h (f .0) (f .1) (f .2) ∙ ap (λ (x : Bool). found x (whole (f .1))) (not-first a (b && s) (f .0) (via te y))))
 
   module _ (y : t ≡ true) (r : Result) (h : ResultReads ws c (l .arg) r) where
-    body-by : (ps : Pairs) → Shown ws ps (pairsIn (valueOf ps 3)) → (g : Bool) (o : Outcome) → resultIn c (l .arg) (valueOf ps 3) ≡ found g o
+    body-by : (ps : Pairs) → Shown ws 3 ps → (g : Bool) (o : Outcome) → resultIn c (l .arg) (valueOf ps 3) ≡ found g o
         → answerOf (found g (whole o)) ≡ answerOf (responseIn c ps)
-    body-by ps q g o e = sym (ap answerOf (from-result ps _ q g o e ∙ ap (λ (x : Bool). found x (whole o)) (all-first a (b && s) g (via te y))))
+    body-by ps q g o e = sym (ap answerOf (from-result 3 ps q g o e ∙ ap (λ (x : Bool). found x (whole o)) (all-first a (b && s) g (via te y))))
 
     pub body-is : (o : Outcome) → r ≡ Result.Is o → BodyReads ws c (Answer.Is (whole o))
     unfolding BodyReads ResultReads

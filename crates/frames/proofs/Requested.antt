@@ -9,7 +9,7 @@ use lib.Dec.{eqb}
 use borrow.Author.Tests.{eq-eqb, ne-eqb}
 use Rattle.cbor.specs.Item.{Item, Pairs, payloadOf, isSome}
 use Rattle.cbor.specs.Find.{valueOf}
-use Rattle.cbor.specs.Scan.{pairsIn, sightIn, sightsOf, wordsOf}
+use Rattle.cbor.specs.Scan.{pairsIn, followed, mapAt, sightsOf, wordsOf, sightAt}
 use Rattle.cbor.specs.declared.sights.Sight.{Sight}
 use Rattle.messages.specs.declared.Aim.{Aim}
 use Rattle.messages.specs.declared.Amount.{Amount}
@@ -25,56 +25,56 @@ use Rattle.frames.specs.declared.requests.Reading.{Reading}
 use Rattle.frames.specs.declared.requests.Values.{Values}
 use Rattle.frames.specs.declared.requests.Parameters.{Parameters}
 use Rattle.map_fields.proofs.Joined.{via}
-use Rattle.map_fields.proofs.Parts.{top, low, then, last, mapped, duration-amount, aim-amount}
+use Rattle.map_fields.proofs.Parts.{shown, top, then, last, mapped, duration-amount, aim-amount}
 
 module _ (ws : List ℕ) where
   -- THE ENVELOPE
-  module _ (a b c d e : Sight) (ae : a ≡ sightIn ws 1) (be : b ≡ sightIn ws 2) (ce : c ≡ sightIn ws 3) (de : d ≡ sightIn ws 4) (ee : e ≡ sightIn ws 5)
+  module _ (a b c d e : Sight) (ae : a ≡ sightAt ws 0 1) (be : b ≡ sightAt ws 0 2) (ce : c ≡ sightAt ws 0 3) (de : d ≡ sightAt ws 0 4) (ee : e ≡ sightAt ws 0 5)
       (p q r s t : Bool) (pr : UintReads a true most32 p) (qr : UintReads b true 255 q)
       (rr : UintReads c true 65535 r) (sr : UintReads d true 65535 s) (tr : MapReads e t) where
     pub envelope-reads : (ok : Bool) → ok ≡ (p && (q && (r && (s && t)))) → EnvelopeReads ws ok
     unfolding EnvelopeReads envelopeIn UintReads Reads MapReads
-    envelope-reads ok y ps qs h =
+    envelope-reads ok y path ps h =
         rw (y, ← ae, ← be, ← ce, ← de)
-        (then (a .arg) _ _ p _ (pr _ (ae ∙ top ws ps qs h 1 (omega arith)))
-        (then (b .arg) _ _ q _ (qr _ (be ∙ top ws ps qs h 2 (omega arith)))
-        (then (c .arg) _ _ r _ (rr _ (ce ∙ top ws ps qs h 3 (omega arith)))
-        (then (d .arg) _ _ s _ (sr _ (de ∙ top ws ps qs h 4 (omega arith)))
-        (last (pairsIn (valueOf ps 5)) _ t (tr _ (ee ∙ top ws ps qs h 5 (omega arith))))))))
+        (then (a .arg) _ _ p _ (pr _ (ae ∙ top ws path ps h 1 (omega arith)))
+        (then (b .arg) _ _ q _ (qr _ (be ∙ top ws path ps h 2 (omega arith)))
+        (then (c .arg) _ _ r _ (rr _ (ce ∙ top ws path ps h 3 (omega arith)))
+        (then (d .arg) _ _ s _ (sr _ (de ∙ top ws path ps h 4 (omega arith)))
+        (last (pairsIn (valueOf ps 5)) _ t (tr _ (ee ∙ top ws path ps h 5 (omega arith))))))))
 
   -- PARAMETERS
-  module _ (null : Bool) (k l m n : Sight) (ke : k ≡ sightIn ws 7) (le : l ≡ sightIn ws 8) (me : m ≡ sightIn ws 9) (ne : n ≡ sightIn ws 10)
+  module _ (null : Bool) (k l m n : Sight) (ke : k ≡ sightAt ws 1 1) (le : l ≡ sightAt ws 1 2) (me : m ≡ sightAt ws 1 3) (ne : n ≡ sightAt ws 1 4)
       (c p : Value) (d e : Bool) (cr : Reads k (valueIn null) (c .ok) (c .field)) (pr : Reads l (valueIn null) (p .ok) (p .field))
       (dr : UintReads m false most32 d) (er : UintReads n true 255 e) where
     pub values-read : (ok : Bool) → ok ≡ (c .ok && (p .ok && (d && e))) → (a : Amount) → a ≡ amountOf m → (x : ℕ) → x ≡ durationOf a
-        → Inside ws (limitsIn null) ok (record { consumption = c .field; production = p .field; duration = x; cause = n .arg })
+        → Inside ws 1 (limitsIn null) ok (record { consumption = c .field; production = p .field; duration = x; cause = n .arg })
     unfolding Inside limitsIn UintReads Reads
-    values-read ok y a ae x xe ps qs h =
+    values-read ok y a ae x xe path ps h =
         rw (y, xe, ae)
-        (then (c .field) _ _ (c .ok) _ (cr _ (ke ∙ low ws ps qs h 1 (omega arith)))
-        (then (p .field) _ _ (p .ok) _ (pr _ (le ∙ low ws ps qs h 2 (omega arith)))
-        (then (durationOf (amountOf m)) _ _ d _ (duration-amount (valueOf qs 3) ∙ mapped (amountOf m) durationOf d (dr _ (me ∙ low ws ps qs h 3 (omega arith))))
-        (last (n .arg) _ e (er _ (ne ∙ low ws ps qs h 4 (omega arith)))))))
+        (then (c .field) _ _ (c .ok) _ (cr _ (ke ∙ shown ws path ps h 1 1 (omega arith) (omega arith)))
+        (then (p .field) _ _ (p .ok) _ (pr _ (le ∙ shown ws path ps h 1 2 (omega arith) (omega arith)))
+        (then (durationOf (amountOf m)) _ _ d _ (duration-amount (valueOf (mapAt 1 path ps) 3) ∙ mapped (amountOf m) durationOf d (dr _ (me ∙ shown ws path ps h 1 3 (omega arith) (omega arith))))
+        (last (n .arg) _ e (er _ (ne ∙ shown ws path ps h 1 4 (omega arith) (omega arith)))))))
 
   -- COMMANDS
   module _ (c : ℕ) where
-    module _ (v : Values) (r : Inside ws (limitsIn true) (v .ok) (v .values)) (e : c ≡ 1) where
+    module _ (v : Values) (r : Inside ws 1 (limitsIn true) (v .ok) (v .values)) (e : c ≡ 1) where
       pub limit-is : v .ok ≡ true → CommandReads ws c (Parameters.Are (Command.SetLimit (v .values)))
       unfolding CommandReads Inside commandIn
-      limit-is y ps qs h = rw (eq-eqb c 1 e, r ps qs h, y) refl
+      limit-is y path ps h = rw (eq-eqb c 1 e, r path ps h, y) refl
 
       pub limit-wrong : v .ok ≡ false → CommandReads ws c Parameters.Wrong
       unfolding CommandReads Inside commandIn
-      limit-wrong y ps qs h = rw (eq-eqb c 1 e, r ps qs h, y) refl
+      limit-wrong y path ps h = rw (eq-eqb c 1 e, r path ps h, y) refl
 
-    module _ (v : Values) (r : Inside ws (limitsIn false) (v .ok) (v .values)) (e : c ≡ 3) where
+    module _ (v : Values) (r : Inside ws 1 (limitsIn false) (v .ok) (v .values)) (e : c ≡ 3) where
       pub setpoint-is : v .ok ≡ true → (l : Setpoints) → l ≡ setpointsOf (v .values) → CommandReads ws c (Parameters.Are (Command.SetSetpoint l))
       unfolding CommandReads Inside commandIn
-      setpoint-is y l le ps qs h = rw (ne-eqb c 1 (λ z. omega arith), ne-eqb c 2 (λ z. omega arith), eq-eqb c 3 e, r ps qs h, y, le) refl
+      setpoint-is y l le path ps h = rw (ne-eqb c 1 (λ z. omega arith), ne-eqb c 2 (λ z. omega arith), eq-eqb c 3 e, r path ps h, y, le) refl
 
       pub setpoint-wrong : v .ok ≡ false → CommandReads ws c Parameters.Wrong
       unfolding CommandReads Inside commandIn
-      setpoint-wrong y ps qs h = rw (ne-eqb c 1 (λ z. omega arith), ne-eqb c 2 (λ z. omega arith), eq-eqb c 3 e, r ps qs h, y) refl
+      setpoint-wrong y path ps h = rw (ne-eqb c 1 (λ z. omega arith), ne-eqb c 2 (λ z. omega arith), eq-eqb c 3 e, r path ps h, y) refl
 
     by-two : (b : Bool) (o : Option Aim) → parametersFrom (Option·map (cond b Command.ClearLimit Command.ClearSetpoint) o) ≡ parametersFrom (cond b (Option·map Command.ClearLimit o) (Option·map Command.ClearSetpoint o))
     by-two true o = refl
@@ -82,25 +82,25 @@ module _ (ws : List ℕ) where
 
     pub clear-is : (r : Parameters) → ClearReads ws c r → (c ≡ 1 → ⊥) → (c ≡ 3 → ⊥) → CommandReads ws c r
     unfolding CommandReads ClearReads commandIn
-    clear-is r h a b ps qs s = h ps qs s ∙ rw (ne-eqb c 1 a, ne-eqb c 3 b) (by-two (eqb c 2) (aimIn (valueOf qs 1)))
+    clear-is r h a b path ps s = h path ps s ∙ rw (ne-eqb c 1 a, ne-eqb c 3 b) (by-two (eqb c 2) (aimIn (valueOf (mapAt 1 path ps) 1)))
 
-    module _ (k : Sight) (ke : k ≡ sightIn ws 7) (t : Bool) (r : UintReads k false 1 t) where
-      aim-read : (ps qs : Pairs) → Shown ws ps qs → aimIn (valueOf qs 1) ≡ cond t (some (aimOf (amountOf k))) none
+    module _ (k : Sight) (ke : k ≡ sightAt ws 1 1) (t : Bool) (r : UintReads k false 1 t) where
+      aim-read : (path : ℕ) (ps : Pairs) → Shown ws path ps → aimIn (valueOf (mapAt 1 path ps) 1) ≡ cond t (some (aimOf (amountOf k))) none
       unfolding UintReads Reads
-      aim-read ps qs h = aim-amount (valueOf qs 1) ∙ mapped (amountOf k) aimOf t (r _ (ke ∙ low ws ps qs h 1 (omega arith)))
+      aim-read path ps h = aim-amount (valueOf (mapAt 1 path ps) 1) ∙ mapped (amountOf k) aimOf t (r _ (ke ∙ shown ws path ps h 1 1 (omega arith) (omega arith)))
 
       pub clear-wrong : t ≡ false → ClearReads ws c Parameters.Wrong
       unfolding ClearReads
-      clear-wrong y ps qs h = rw (aim-read ps qs h, y) refl
+      clear-wrong y path ps h = rw (aim-read path ps h, y) refl
 
       module _ (y : t ≡ true) (a : Amount) (ae : a ≡ amountOf k) (x : Aim) (xe : x ≡ aimOf a) where
         pub clear-limit : c ≡ 2 → ClearReads ws c (Parameters.Are (Command.ClearLimit x))
         unfolding ClearReads
-        clear-limit z ps qs h = rw (aim-read ps qs h, y, eq-eqb c 2 z, xe, ae) refl
+        clear-limit z path ps h = rw (aim-read path ps h, y, eq-eqb c 2 z, xe, ae) refl
 
         pub clear-setpoint : (c ≡ 2 → ⊥) → ClearReads ws c (Parameters.Are (Command.ClearSetpoint x))
         unfolding ClearReads
-        clear-setpoint z ps qs h = rw (aim-read ps qs h, y, ne-eqb c 2 z, xe, ae) refl
+        clear-setpoint z path ps h = rw (aim-read path ps h, y, ne-eqb c 2 z, xe, ae) refl
 
 -- MESSAGES
 are-some : (o : Option Command) (c : Command) → Parameters.Are c ≡ parametersFrom o → o ≡ some c
@@ -114,22 +114,22 @@ wrong-none none e = refl
 module _ (ws : List ℕ) (ok : Bool) (r : EnvelopeReads ws ok) where
   pub envelope-wrong : ok ≡ false → MessageReads ws (Reading.Refused 3)
   unfolding MessageReads EnvelopeReads fromEnvelope
-  envelope-wrong y ps h = rw (r ps _ h, y) refl
+  envelope-wrong y ps h = rw (r 5 ps h, y) refl
 
-  module _ (y : ok ≡ true) (a b c d : Sight) (ae : a ≡ sightIn ws 1) (be : b ≡ sightIn ws 2) (ce : c ≡ sightIn ws 3) (de : d ≡ sightIn ws 4)
+  module _ (y : ok ≡ true) (a b c d : Sight) (ae : a ≡ sightAt ws 0 1) (be : b ≡ sightAt ws 0 2) (ce : c ≡ sightAt ws 0 3) (de : d ≡ sightAt ws 0 4)
       (t : Bool) (te : t ≡ (servedAt (b .arg) (c .arg) && servedCommand (d .arg))) where
     pub unserved : t ≡ false → MessageReads ws (Reading.Unserved (a .arg))
     unfolding MessageReads EnvelopeReads fromEnvelope
-    unserved z ps h = rw (r ps _ h, y, ← ae, ← be, ← ce, ← de, via te z) refl
+    unserved z ps h = rw (r 5 ps h, y, ← ae, ← be, ← ce, ← de, via te z) refl
 
     module _ (z : t ≡ true) (p : Parameters) (pr : CommandReads ws (d .arg) p) where
       pub message-is : (x : Command) → p ≡ Parameters.Are x → MessageReads ws (Reading.Is (record { id = a .arg; endpoint = b .arg; feature = c .arg; command = x }))
-      unfolding MessageReads EnvelopeReads CommandReads fromEnvelope
-      message-is x q ps h = rw (r ps _ h, y, ← ae, ← be, ← ce, ← de, via te z, are-some (commandIn (d .arg) (pairsIn (valueOf ps 5))) x (sym q ∙ pr ps _ h)) refl
+      unfolding MessageReads EnvelopeReads CommandReads fromEnvelope mapAt followed
+      message-is x q ps h = rw (r 5 ps h, y, ← ae, ← be, ← ce, ← de, via te z, are-some (commandIn (d .arg) (pairsIn (valueOf ps 5))) x (sym q ∙ pr 5 ps h)) refl
 
       pub message-wrong : p ≡ Parameters.Wrong → MessageReads ws (Reading.Refused 3)
-      unfolding MessageReads EnvelopeReads CommandReads fromEnvelope
-      message-wrong q ps h = rw (r ps _ h, y, ← ae, ← be, ← ce, ← de, via te z, wrong-none (commandIn (d .arg) (pairsIn (valueOf ps 5))) (sym q ∙ pr ps _ h)) refl
+      unfolding MessageReads EnvelopeReads CommandReads fromEnvelope mapAt followed
+      message-wrong q ps h = rw (r 5 ps h, y, ← ae, ← be, ← ce, ← de, via te z, wrong-none (commandIn (d .arg) (pairsIn (valueOf ps 5))) (sym q ∙ pr 5 ps h)) refl
 
 -- FRAMES
 pub is-some : {X : Type 0} (o : Option X) → isSome o ≡ true → (x : X) × (o ≡ some x)

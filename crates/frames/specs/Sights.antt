@@ -7,7 +7,7 @@ use mathlib.Core.Option.{Option, some, none, Option·map}
 use lib.Dec.{eqb}
 use Rattle.cbor.specs.Item.{Pairs}
 use Rattle.cbor.specs.Find.{valueOf}
-use Rattle.cbor.specs.Scan.{pairsIn, sightIn}
+use Rattle.cbor.specs.Scan.{pairsIn, mapAt, sightAt}
 use Rattle.messages.specs.declared.Command.{Command}
 use Rattle.messages.specs.declared.Outcome.{Outcome}
 use Rattle.map_fields.specs.Fields.{aimIn}
@@ -19,28 +19,35 @@ use Rattle.frames.specs.declared.requests.Parameters.{Parameters}
 use Rattle.frames.specs.declared.responses.Answer.{Answer}
 use Rattle.frames.specs.declared.responses.Result.{Result}
 
+-- the parameters of a request and the result of a response stand at the first level below the payload, under these keys
+abbrev pub parametersPath : ℕ
+parametersPath = 5
+
+abbrev pub resultPath : ℕ
+resultPath = 3
+
 -- REQUESTS
 abbrev pub envelopeOf : List ℕ → Pairs → Envelope
 envelopeOf ws m =
-    record { id = sightIn ws 1 .arg; endpoint = sightIn ws 2 .arg; feature = sightIn ws 3 .arg; command = sightIn ws 4 .arg; parameters = m }
+    record { id = sightAt ws 0 1 .arg; endpoint = sightAt ws 0 2 .arg; feature = sightAt ws 0 3 .arg; command = sightAt ws 0 4 .arg; parameters = m }
 
 unfoldable pub EnvelopeReads : List ℕ → Bool → Type 0
-EnvelopeReads ws ok = (ps qs : Pairs) → Shown ws ps qs → envelopeIn ps ≡ found ok (envelopeOf ws (pairsIn (valueOf ps 5)))
+EnvelopeReads ws ok = (path : ℕ) (ps : Pairs) → Shown ws path ps → envelopeIn ps ≡ found ok (envelopeOf ws (pairsIn (valueOf ps 5)))
 
 abbrev pub parametersFrom : Option Command → Parameters
 parametersFrom (some c) = Parameters.Are c
 parametersFrom none = Parameters.Wrong
 
 unfoldable pub CommandReads : List ℕ → ℕ → Parameters → Type 0
-CommandReads ws c r = (ps qs : Pairs) → Shown ws ps qs → r ≡ parametersFrom (commandIn c qs)
+CommandReads ws c r = (path : ℕ) (ps : Pairs) → Shown ws path ps → r ≡ parametersFrom (commandIn c (mapAt 1 path ps))
 
 -- the same for a clear: command 2, or any other
 unfoldable pub ClearReads : List ℕ → ℕ → Parameters → Type 0
 ClearReads ws c r =
-    (ps qs : Pairs) → Shown ws ps qs → r ≡ parametersFrom (Option·map (cond (eqb c 2) Command.ClearLimit Command.ClearSetpoint) (aimIn (valueOf qs 1)))
+    (path : ℕ) (ps : Pairs) → Shown ws path ps → r ≡ parametersFrom (Option·map (cond (eqb c 2) Command.ClearLimit Command.ClearSetpoint) (aimIn (valueOf (mapAt 1 path ps) 1)))
 
 unfoldable pub MessageReads : List ℕ → Reading → Type 0
-MessageReads ws r = (ps : Pairs) → Shown ws ps (pairsIn (valueOf ps 5)) → r ≡ fromEnvelope (envelopeIn ps)
+MessageReads ws r = (ps : Pairs) → Shown ws parametersPath ps → r ≡ fromEnvelope (envelopeIn ps)
 
 -- RESPONSES
 abbrev pub resultFrom : Option Outcome → Result
@@ -48,10 +55,10 @@ resultFrom (some o) = Result.Is o
 resultFrom none = Result.Wrong
 
 unfoldable pub OutcomeReads : List ℕ → ℕ → Result → Type 0
-OutcomeReads ws c r = (ps qs : Pairs) → Shown ws ps qs → r ≡ resultFrom (outcomeIn c qs)
+OutcomeReads ws c r = (path : ℕ) (ps : Pairs) → Shown ws path ps → r ≡ resultFrom (outcomeIn c (mapAt 1 path ps))
 
 unfoldable pub ResultReads : List ℕ → ℕ → ℕ → Result → Type 0
-ResultReads ws c status r = (ps : Pairs) → Shown ws ps (pairsIn (valueOf ps 3)) → r ≡ resultFrom (resultIn c status (valueOf ps 3))
+ResultReads ws c status r = (ps : Pairs) → Shown ws resultPath ps → r ≡ resultFrom (resultIn c status (valueOf ps 3))
 
 unfoldable pub BodyReads : List ℕ → ℕ → Answer → Type 0
-BodyReads ws c r = (ps : Pairs) → Shown ws ps (pairsIn (valueOf ps 3)) → r ≡ answerOf (responseIn c ps)
+BodyReads ws c r = (ps : Pairs) → Shown ws resultPath ps → r ≡ answerOf (responseIn c ps)

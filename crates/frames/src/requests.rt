@@ -1,4 +1,4 @@
-// Requests, read. Place k of the sights is key k of the payload, place 6 + k is key k of the parameters.
+// Requests, read.
 use map_fields::amount_of;
 use map_fields::is_map;
 use map_fields::is_uint;
@@ -8,7 +8,7 @@ use map_fields::all4;
 use map_fields::all5;
 use map_fields::both;
 use cbor::Sights;
-use cbor::sight_at;
+use cbor::sight_of;
 use messages::Aim;
 use messages::Amount;
 use messages::Command;
@@ -42,6 +42,11 @@ pub enum Parameters {
     Wrong,
 }
 
+// The levels that are looked into: the payload's map, and the parameters under its key 5.
+const ENVELOPE: usize = 0;
+const PARAMETERS: usize = 1;
+const PATH: u64 = 5;
+
 // The largest number of 32 bits.
 pub const MOST32: u64 = 4294967295;
 
@@ -64,22 +69,22 @@ fn is_envelope(sights: &Sights) -> bool
     ensures { λ r. ⌜ EnvelopeReads (now (sights .entry)) r ⌝ }
 {
     all5(
-        is_uint(sight_at(sights, 1), true, MOST32),
-        is_uint(sight_at(sights, 2), true, 255),
-        is_uint(sight_at(sights, 3), true, 65535),
-        is_uint(sight_at(sights, 4), true, 65535),
-        is_map(sight_at(sights, 5)),
+        is_uint(sight_of(sights, ENVELOPE, 1), true, MOST32),
+        is_uint(sight_of(sights, ENVELOPE, 2), true, 255),
+        is_uint(sight_of(sights, ENVELOPE, 3), true, 65535),
+        is_uint(sight_of(sights, ENVELOPE, 4), true, 65535),
+        is_map(sight_of(sights, ENVELOPE, 5)),
     )
 }
 
 // The parameters of SetLimit, and without null those of SetSetpoint.
 fn read_values(sights: &Sights, null: bool) -> Values
-    ensures { λ r. ⌜ Inside (now (sights .entry)) (limitsIn null) (r .ok) (r .values) ⌝ }
+    ensures { λ r. ⌜ Inside (now (sights .entry)) 1 (limitsIn null) (r .ok) (r .values) ⌝ }
 {
-    let consumption = read_value(sight_at(sights, 7), null);
-    let production = read_value(sight_at(sights, 8), null);
-    let duration = sight_at(sights, 9);
-    let cause = sight_at(sights, 10);
+    let consumption = read_value(sight_of(sights, PARAMETERS, 1), null);
+    let production = read_value(sight_of(sights, PARAMETERS, 2), null);
+    let duration = sight_of(sights, PARAMETERS, 3);
+    let cause = sight_of(sights, PARAMETERS, 4);
     let ok = all4(
         consumption.ok,
         production.ok,
@@ -166,7 +171,7 @@ fn read_command(sights: &Sights, command: u64) -> Parameters
 fn read_clear(sights: &Sights, command: u64) -> Parameters
     ensures { λ r. ⌜ ClearReads (now (sights .entry)) command r ⌝ }
 {
-    let direction = sight_at(sights, 7);
+    let direction = sight_of(sights, PARAMETERS, 1);
     if is_uint(direction, false, 1) {
         let aim = aim_of(amount_of(direction));
         if command == 2 {
@@ -182,10 +187,10 @@ fn read_message(sights: &Sights) -> Reading
     ensures { λ r. ⌜ MessageReads (now (sights .entry)) r ⌝ }
 {
     if is_envelope(sights) {
-        let id = sight_at(sights, 1);
-        let endpoint = sight_at(sights, 2);
-        let feature = sight_at(sights, 3);
-        let number = sight_at(sights, 4);
+        let id = sight_of(sights, ENVELOPE, 1);
+        let endpoint = sight_of(sights, ENVELOPE, 2);
+        let feature = sight_of(sights, ENVELOPE, 3);
+        let number = sight_of(sights, ENVELOPE, 4);
         if both(is_served(endpoint.arg, feature.arg), is_command(number.arg)) {
             return match read_command(sights, number.arg) {
                 Parameters::Are(command) => Reading::Is(Request {
@@ -207,7 +212,7 @@ pub fn read_payload(payload: &[u8]) -> Reading
     ensures { λ r. ⌜ r ≡ fromPayload (payloadOf (now (payload .entry))) ⌝ }
 {
     let mut sights = [0u64; cbor::WORDS];
-    if cbor::scan(payload, 5, &mut sights) {
+    if cbor::scan(payload, PATH, &mut sights) {
         return read_message(&sights);
     }
     Reading::Refused(2)

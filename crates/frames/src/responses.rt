@@ -1,4 +1,4 @@
-// Responses, read. Place k of the sights is key k of the payload, place 6 + k is key k of the result.
+// Responses, read.
 use map_fields::amount_of;
 use map_fields::is_map;
 use map_fields::is_success;
@@ -13,7 +13,7 @@ use map_fields::both;
 use map_fields::either;
 use cbor::Sight;
 use cbor::Sights;
-use cbor::sight_at;
+use cbor::sight_of;
 use messages::LimitResult;
 use messages::Outcome;
 use messages::Response;
@@ -48,6 +48,11 @@ pub enum Result {
     Wrong,
 }
 
+// The levels that are looked into: the payload's map, and the result under its key 3.
+const ANSWER: usize = 0;
+const RESULT: usize = 1;
+const PATH: u64 = 3;
+
 // Limits and setpoints are 0 to 2^63 - 1.
 pub const MOST_VALUE: u64 = 9223372036854775807;
 
@@ -69,13 +74,13 @@ pub fn has_result(command: u64, status: u64) -> bool
 }
 
 fn read_effect(sights: &Sights) -> Effect
-    ensures { λ r. ⌜ Inside (now (sights .entry)) limitResultIn (r .ok) (r .result) ⌝ }
+    ensures { λ r. ⌜ Inside (now (sights .entry)) 1 limitResultIn (r .ok) (r .result) ⌝ }
 {
-    let applied = sight_at(sights, 7);
-    let state = sight_at(sights, 8);
-    let consumption = sight_at(sights, 9);
-    let production = sight_at(sights, 10);
-    let reason = sight_at(sights, 11);
+    let applied = sight_of(sights, RESULT, 1);
+    let state = sight_of(sights, RESULT, 2);
+    let consumption = sight_of(sights, RESULT, 3);
+    let production = sight_of(sights, RESULT, 4);
+    let reason = sight_of(sights, RESULT, 5);
     let ok = all5(
         is_truth(applied),
         is_uint(state, true, 4),
@@ -94,12 +99,12 @@ fn read_effect(sights: &Sights) -> Effect
 }
 
 fn read_targets(sights: &Sights) -> Targets
-    ensures { λ r. ⌜ Inside (now (sights .entry)) setpointResultIn (r .ok) (r .result) ⌝ }
+    ensures { λ r. ⌜ Inside (now (sights .entry)) 1 setpointResultIn (r .ok) (r .result) ⌝ }
 {
-    let consumption = sight_at(sights, 8);
-    let production = sight_at(sights, 9);
+    let consumption = sight_of(sights, RESULT, 2);
+    let production = sight_of(sights, RESULT, 3);
     let ok = all3(
-        is_success(sight_at(sights, 7)),
+        is_success(sight_of(sights, RESULT, 1)),
         is_uint(consumption, false, MOST_VALUE),
         is_uint(production, false, MOST_VALUE),
     );
@@ -130,7 +135,7 @@ fn read_outcome(sights: &Sights, command: u64) -> Result
         }
         return Result::Wrong;
     }
-    if is_success(sight_at(sights, 7)) {
+    if is_success(sight_of(sights, RESULT, 1)) {
         return Result::Is(Outcome::Success);
     }
     Result::Wrong
@@ -147,7 +152,7 @@ fn is_absent(k: Sight) -> bool
 fn read_result(sights: &Sights, command: u64, status: u64) -> Result
     ensures { λ r. ⌜ ResultReads (now (sights .entry)) command status r ⌝ }
 {
-    let result = sight_at(sights, 3);
+    let result = sight_of(sights, ANSWER, 3);
     if has_result(command, status) {
         if is_map(result) {
             return read_outcome(sights, command);
@@ -164,8 +169,8 @@ fn read_result(sights: &Sights, command: u64, status: u64) -> Result
 fn read_body(sights: &Sights, command: u64) -> Answer
     ensures { λ r. ⌜ BodyReads (now (sights .entry)) command r ⌝ }
 {
-    let id = sight_at(sights, 1);
-    let status = sight_at(sights, 2);
+    let id = sight_of(sights, ANSWER, 1);
+    let status = sight_of(sights, ANSWER, 2);
     if all3(
         is_uint(id, true, MOST32),
         is_uint(status, true, 14),
@@ -200,7 +205,7 @@ fn read_answer(command: u64, frame: &[u8]) -> Answer
     if is_framed(frame) {
         let payload = &frame[4..];
         let mut sights = [0u64; cbor::WORDS];
-        if cbor::scan(payload, 3, &mut sights) {
+        if cbor::scan(payload, PATH, &mut sights) {
             return read_body(&sights, command);
         }
         return Answer::Refused(2);

@@ -1,13 +1,14 @@
 -- A message by its parts: what is seen in each place, and one reader after the other. Assumes nothing.
-use Prim.Native.Nat.{ℕ, zero, suc, _+_, _<_}
+use Prim.Native.Nat.{ℕ, _<_}
 use mathlib.Core.Path.{_≡_, refl, sym, ap, _∙_}
 use mathlib.Core.Bool.{Bool, true, false, _&&_}
-use mathlib.Core.List.{List, _++_}
+use mathlib.Core.List.{List}
 use mathlib.Core.Option.{Option, some, none, bind, Option·map}
 use native.Mathlib.Omega.{arith}
 use Rattle.cbor.specs.Item.{Item, Pairs}
 use Rattle.cbor.specs.Find.{valueOf}
-use Rattle.cbor.specs.Scan.{sightOf, sightsIn, wordsOf, sightIn}
+use Rattle.cbor.specs.Scan.{KEYS, LEVELS, sightOf, mapAt, sightAt}
+use Rattle.cbor.proofs.Passes.{sight-exact}
 use Rattle.messages.specs.declared.Amount.{Amount}
 use Rattle.messages.specs.declared.Aim.{Aim}
 use Rattle.map_fields.specs.Fields.{upTo, optional, most32, durationIn, aimIn, amountIn}
@@ -15,32 +16,16 @@ use Rattle.map_fields.specs.Sights.{found, durationOf, aimOf, Shown}
 use Rattle.map_fields.proofs.BySight.{map-found}
 
 -- PLACES
-module _ (ws : List ℕ) (ps qs : Pairs) (h : Shown ws ps qs) where
-  place : (i : ℕ) → sightIn ws i ≡ sightIn (wordsOf (sightsIn ps ++ sightsIn qs)) i
+module _ (ws : List ℕ) (path : ℕ) (ps : Pairs) (h : Shown ws path ps) where
+  -- what is seen under a small key of the map at a level
+  pub shown : (level key : ℕ) → level < LEVELS → key < KEYS → sightAt ws level key ≡ sightOf (valueOf (mapAt level path ps) key)
   unfolding Shown
-  place i = ap (λ (x : List ℕ). sightIn x i) h
+  shown level key l k = ap (λ (x : List ℕ). sightAt x level key) h ∙ sight-exact path ps level key l k
 
-  -- what is seen under a small key of the payload
-  pub top : (k : ℕ) → k < 6 → sightIn ws k ≡ sightOf (valueOf ps k)
-  unfolding sightIn wordsOf sightsIn
-  top zero l = place 0
-  top (suc zero) l = place 1
-  top (suc (suc zero)) l = place 2
-  top (suc (suc (suc zero))) l = place 3
-  top (suc (suc (suc (suc zero)))) l = place 4
-  top (suc (suc (suc (suc (suc zero))))) l = place 5
-  top (suc (suc (suc (suc (suc (suc k)))))) l = absurd (omega arith)
-
-  -- and of the map below
-  pub low : (k : ℕ) → k < 6 → sightIn ws (6 + k) ≡ sightOf (valueOf qs k)
-  unfolding sightIn wordsOf sightsIn
-  low zero l = place 6
-  low (suc zero) l = place 7
-  low (suc (suc zero)) l = place 8
-  low (suc (suc (suc zero))) l = place 9
-  low (suc (suc (suc (suc zero)))) l = place 10
-  low (suc (suc (suc (suc (suc zero))))) l = place 11
-  low (suc (suc (suc (suc (suc (suc k)))))) l = absurd (omega arith)
+  -- and of the payload's own
+  pub top : (key : ℕ) → key < KEYS → sightAt ws 0 key ≡ sightOf (valueOf ps key)
+  unfolding mapAt
+  top key k = shown 0 key (omega arith) k
 
 -- CHAINS
 module _ {X Y : Type 0} {o : Option X} (x : X) where

@@ -2,11 +2,11 @@
 use Prim.Native.Nat.{ℕ}
 use mathlib.Core.Path.{_≡_}
 use mathlib.Core.Bool.{Bool, true, false, cond}
-use mathlib.Core.List.{List, _++_}
+use mathlib.Core.List.{List}
 use mathlib.Core.Option.{Option, some, none}
 use lib.Dec.{eqb}
 use Rattle.cbor.specs.Item.{Item, Pairs}
-use Rattle.cbor.specs.Scan.{sightOf, sightsIn, pairsIn, wordsOf}
+use Rattle.cbor.specs.Scan.{LEVELS, sightOf, pairsIn, mapAt, sightsAlong, wordsOf}
 use Rattle.cbor.specs.declared.sights.Sight.{Sight}
 use Rattle.messages.specs.declared.Amount.{Amount}
 use Rattle.messages.specs.declared.Aim.{Aim}
@@ -44,10 +44,10 @@ aimOf Amount.Absent = Aim.Both
 aimOf (Amount.Is d) = Aim.One d
 
 -- ALL OF THEM
--- those under the small keys of ps, then of qs
-unfoldable pub Shown : List ℕ → Pairs → Pairs → Type 0
-Shown ws ps qs = ws ≡ wordsOf (sightsIn ps ++ sightsIn qs)
+-- those under the small keys of the maps along a path, from ps on
+unfoldable pub Shown : List ℕ → ℕ → Pairs → Type 0
+Shown ws path ps = ws ≡ wordsOf (sightsAlong LEVELS path ps)
 
--- of every map seen second, f makes that answer
-unfoldable pub Inside : {X : Type 0} → List ℕ → (Pairs → Option X) → Bool → X → Type 0
-Inside ws f ok x = (ps qs : Pairs) → Shown ws ps qs → f qs ≡ found ok x
+-- of every map seen at a level, f makes that answer
+unfoldable pub Inside : {X : Type 0} → List ℕ → ℕ → (Pairs → Option X) → Bool → X → Type 0
+Inside ws level f ok x = (path : ℕ) (ps : Pairs) → Shown ws path ps → f (mapAt level path ps) ≡ found ok x

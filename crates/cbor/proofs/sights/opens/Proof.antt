@@ -1,4 +1,9 @@
-use borrow.Author.Tests.{eq-eqb, ne-eqb}
+-- The tests one after the other.
+use native.Mathlib.Omega.{arith}
+use borrow.Author.Tests.{eq-eqb, ne-eqb, lt-ltb, le-ltb}
+use Prim.Native.Nat.{_+_}
+use Rattle.cbor.specs.Scan.{LEVELS}
+use borrow.Author.Needs.{needs}
 use Rattle.cbor.proofs.sights.opens.Statement.{statement}
 use Rattle.cbor.proofs.sights.opens.Tie as tie
 
@@ -6,4 +11,6 @@ pub opens-spec : {M : Type 1} → statement M
 opens-spec =
     tie.close
     (tie.spec
-    (λ c. simp (ne-eqb _ _ (c .if1 .taken))) (λ c. simp (eq-eqb _ _ (c .if1 .left))))
+    (λ c. simp (ne-eqb _ _ (c .if1 .taken)))
+    (λ c. simp (eq-eqb _ _ (c .before .if1 .left), le-ltb (c .before .before .args .level + 1) LEVELS (omega (arith, c .if2 .taken))))
+    (λ c. simp (eq-eqb _ _ (c .before .if1 .left), lt-ltb (c .before .before .args .level + 1) LEVELS (omega (arith, c .if2 .left)))))

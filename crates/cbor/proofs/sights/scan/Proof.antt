@@ -10,6 +10,6 @@ scan-spec =
     tie.close
     (tie.spec
     (λ c κs. search needs) (λ c κs. search needs)
-    (λ c. let h = scan-taken (c .before .before .before .before .before .args .s .now) (all-bytes (c .before .before .before .before .before .args .s .now) (c .before .before .before .before .shared-slice-known .given)) (c .before .before .before .before .before .args .under) _ _ (c .before .before .scan-root .ensures .0) (c .before .is-whole .ensures) (c .if1 .taken) _ (c .before .before .scan-root .ensures .1) in (sym (c .if1 .taken) ∙ h .0, h .1))
+    (λ c. let h = scan-taken (c .before .before .before .before .before .args .s .now) (all-bytes (c .before .before .before .before .before .args .s .now) (c .before .before .before .before .shared-slice-known .given)) (c .before .before .before .before .before .args .path) _ _ (c .before .before .scan-root .ensures .0) (c .before .is-whole .ensures) (c .if1 .taken) _ (c .before .before .scan-root .ensures .1) in (sym (c .if1 .taken) ∙ h .0, h .1))
     (λ c κs. search needs)
-    (λ c. let h = scan-refused (c .before .before .before .before .before .before .before .args .s .now) (all-bytes (c .before .before .before .before .before .before .before .args .s .now) (c .before .before .before .before .before .before .shared-slice-known .given)) (c .before .before .before .before .before .before .before .args .under) _ _ (c .before .before .before .before .scan-root .ensures .0) (c .before .before .before .is-whole .ensures) (c .before .before .if1 .left) _ (c .clear .ensures) in (sym (c .before .before .if1 .left) ∙ h .0, h .1)))
+    (λ c. let h = scan-refused (c .before .before .before .before .before .before .before .args .s .now) (all-bytes (c .before .before .before .before .before .before .before .args .s .now) (c .before .before .before .before .before .before .shared-slice-known .given)) (c .before .before .before .before .before .before .before .args .path) _ _ (c .before .before .before .before .scan-root .ensures .0) (c .before .before .before .is-whole .ensures) (c .before .before .if1 .left) _ (c .clear .ensures) in (sym (c .before .before .if1 .left) ∙ h .0, h .1)))

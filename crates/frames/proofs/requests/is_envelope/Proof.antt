@@ -10,4 +10,4 @@ is-envelope-spec =
     (λ c κs. search needs) (λ c κs. search needs) (λ c κs. search needs) (λ c κs. search needs) (λ c κs. search needs)
     (λ c κs. search needs) (λ c κs. search needs) (λ c κs. search needs) (λ c κs. search needs) (λ c κs. search needs)
     (λ c κs. search needs)
-    (λ c. envelope-reads (c .before .before .before .before .before .before .before .before .before .before .before .args .sights .now) _ _ _ _ _ (c .before .before .before .before .before .before .before .before .before .before .sight-at .ensures) (c .before .before .before .before .before .before .before .before .sight-at2 .ensures) (c .before .before .before .before .before .before .sight-at3 .ensures) (c .before .before .before .before .sight-at4 .ensures) (c .before .before .sight-at5 .ensures) _ _ _ _ _ (c .before .before .before .before .before .before .before .before .before .is-uint .ensures) (c .before .before .before .before .before .before .before .is-uint2 .ensures) (c .before .before .before .before .before .is-uint3 .ensures) (c .before .before .before .is-uint4 .ensures) (c .before .is-map .ensures) _ (c .all5 .ensures)))
+    (λ c. envelope-reads (c .before .before .before .before .before .before .before .before .before .before .before .args .sights .now) _ _ _ _ _ (c .before .before .before .before .before .before .before .before .before .before .sight-of .ensures) (c .before .before .before .before .before .before .before .before .sight-of2 .ensures) (c .before .before .before .before .before .before .sight-of3 .ensures) (c .before .before .before .before .sight-of4 .ensures) (c .before .before .sight-of5 .ensures) _ _ _ _ _ (c .before .before .before .before .before .before .before .before .before .is-uint .ensures) (c .before .before .before .before .before .before .before .is-uint2 .ensures) (c .before .before .before .before .before .is-uint3 .ensures) (c .before .before .before .is-uint4 .ensures) (c .before .is-map .ensures) _ (c .all5 .ensures)))

@@ -8,6 +8,6 @@ read-clear-spec =
     tie.close
     (tie.spec
     (λ c κs. search needs) (λ c κs. search needs) (λ c κs. search needs) (λ c κs. search needs)
-    (λ c. clear-limit (c .before .before .before .before .before .before .args .sights .now) (c .before .before .before .before .before .before .args .command) _ (c .before .before .before .before .before .sight-at .ensures) _ (c .before .before .before .before .is-uint .ensures) (c .before .before .before .if1 .taken) _ (c .before .before .amount-of .ensures) _ (c .before .aim-of .ensures) (c .if2 .taken))
-    (λ c. clear-setpoint (c .before .before .before .before .before .before .args .sights .now) (c .before .before .before .before .before .before .args .command) _ (c .before .before .before .before .before .sight-at .ensures) _ (c .before .before .before .before .is-uint .ensures) (c .before .before .before .if1 .taken) _ (c .before .before .amount-of .ensures) _ (c .before .aim-of .ensures) (c .if2 .left))
-    (λ c. clear-wrong (c .before .before .before .args .sights .now) (c .before .before .before .args .command) _ (c .before .before .sight-at .ensures) _ (c .before .is-uint .ensures) (c .if1 .left)))
+    (λ c. clear-limit (c .before .before .before .before .before .before .args .sights .now) (c .before .before .before .before .before .before .args .command) _ (c .before .before .before .before .before .sight-of .ensures) _ (c .before .before .before .before .is-uint .ensures) (c .before .before .before .if1 .taken) _ (c .before .before .amount-of .ensures) _ (c .before .aim-of .ensures) (c .if2 .taken))
+    (λ c. clear-setpoint (c .before .before .before .before .before .before .args .sights .now) (c .before .before .before .before .before .before .args .command) _ (c .before .before .before .before .before .sight-of .ensures) _ (c .before .before .before .before .is-uint .ensures) (c .before .before .before .if1 .taken) _ (c .before .before .amount-of .ensures) _ (c .before .aim-of .ensures) (c .if2 .left))
+    (λ c. clear-wrong (c .before .before .before .args .sights .now) (c .before .before .before .args .command) _ (c .before .before .sight-of .ensures) _ (c .before .is-uint .ensures) (c .if1 .left)))

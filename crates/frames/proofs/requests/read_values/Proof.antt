@@ -10,4 +10,4 @@ read-values-spec =
     (λ c κs. search needs) (λ c κs. search needs) (λ c κs. search needs) (λ c κs. search needs) (λ c κs. search needs)
     (λ c κs. search needs) (λ c κs. search needs) (λ c κs. search needs) (λ c κs. search needs) (λ c κs. search needs)
     (λ c κs. search needs)
-    (λ c. values-read (c .before .before .before .before .before .before .before .before .before .before .before .args .sights .now) (c .before .before .before .before .before .before .before .before .before .before .before .args .null) _ _ _ _ (c .before .before .before .before .before .before .before .before .before .before .sight-at .ensures) (c .before .before .before .before .before .before .before .before .sight-at2 .ensures) (c .before .before .before .before .before .before .sight-at3 .ensures) (c .before .before .before .before .before .sight-at4 .ensures) _ _ _ _ (c .before .before .before .before .before .before .before .before .before .read-value .ensures) (c .before .before .before .before .before .before .before .read-value2 .ensures) (c .before .before .before .before .is-uint .ensures) (c .before .before .before .is-uint2 .ensures) _ (c .before .before .all4 .ensures) _ (c .before .amount-of .ensures) _ (c .duration-of .ensures)))
+    (λ c. values-read (c .before .before .before .before .before .before .before .before .before .before .before .args .sights .now) (c .before .before .before .before .before .before .before .before .before .before .before .args .null) _ _ _ _ (c .before .before .before .before .before .before .before .before .before .before .sight-of .ensures) (c .before .before .before .before .before .before .before .before .sight-of2 .ensures) (c .before .before .before .before .before .before .sight-of3 .ensures) (c .before .before .before .before .before .sight-of4 .ensures) _ _ _ _ (c .before .before .before .before .before .before .before .before .before .read-value .ensures) (c .before .before .before .before .before .before .before .read-value2 .ensures) (c .before .before .before .before .is-uint .ensures) (c .before .before .before .is-uint2 .ensures) _ (c .before .before .all4 .ensures) _ (c .before .amount-of .ensures) _ (c .duration-of .ensures)))

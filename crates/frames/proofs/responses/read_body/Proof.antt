@@ -9,6 +9,6 @@ read-body-spec =
     (tie.spec
     (λ c κs. search needs) (λ c κs. search needs) (λ c κs. search needs) (λ c κs. search needs) (λ c κs. search needs)
     (λ c κs. search needs) (λ c κs. search needs) (λ c. search needs) (λ c. search needs)
-    (λ c. body-is (c .before .before .before .before .before .before .before .before .before .before .before .args .sights .now) (c .before .before .before .before .before .before .before .before .before .before .before .args .command) _ _ (c .before .before .before .before .before .before .before .before .before .before .sight-at .ensures) (c .before .before .before .before .before .before .before .before .before .sight-at2 .ensures) _ _ _ (c .before .before .before .before .before .before .before .before .is-uint .ensures) (c .before .before .before .before .before .before .before .is-uint2 .ensures) (c .before .before .before .before .before .before .is-status .ensures) _ (c .before .before .before .before .before .all3 .ensures) (c .before .before .before .before .if1 .taken) _ (c .before .before .before .read-result .ensures) _ (c .before .outcome .given .1))
-    (λ c. body-no-result (c .before .before .before .before .before .before .before .before .before .before .args .sights .now) (c .before .before .before .before .before .before .before .before .before .before .args .command) _ _ (c .before .before .before .before .before .before .before .before .before .sight-at .ensures) (c .before .before .before .before .before .before .before .before .sight-at2 .ensures) _ _ _ (c .before .before .before .before .before .before .before .is-uint .ensures) (c .before .before .before .before .before .before .is-uint2 .ensures) (c .before .before .before .before .before .is-status .ensures) _ (c .before .before .before .before .all3 .ensures) (c .before .before .before .if1 .taken) _ (c .before .before .read-result .ensures) (c .enum-told .given .1))
-    (λ c. body-wrong (c .before .before .before .before .before .before .before .args .sights .now) (c .before .before .before .before .before .before .before .args .command) _ _ (c .before .before .before .before .before .before .sight-at .ensures) (c .before .before .before .before .before .sight-at2 .ensures) _ _ _ (c .before .before .before .before .is-uint .ensures) (c .before .before .before .is-uint2 .ensures) (c .before .before .is-status .ensures) _ (c .before .all3 .ensures) (c .if1 .left)))
+    (λ c. body-is (c .before .before .before .before .before .before .before .before .before .before .before .args .sights .now) (c .before .before .before .before .before .before .before .before .before .before .before .args .command) _ _ (c .before .before .before .before .before .before .before .before .before .before .sight-of .ensures) (c .before .before .before .before .before .before .before .before .before .sight-of2 .ensures) _ _ _ (c .before .before .before .before .before .before .before .before .is-uint .ensures) (c .before .before .before .before .before .before .before .is-uint2 .ensures) (c .before .before .before .before .before .before .is-status .ensures) _ (c .before .before .before .before .before .all3 .ensures) (c .before .before .before .before .if1 .taken) _ (c .before .before .before .read-result .ensures) _ (c .before .outcome .given .1))
+    (λ c. body-no-result (c .before .before .before .before .before .before .before .before .before .before .args .sights .now) (c .before .before .before .before .before .before .before .before .before .before .args .command) _ _ (c .before .before .before .before .before .before .before .before .before .sight-of .ensures) (c .before .before .before .before .before .before .before .before .sight-of2 .ensures) _ _ _ (c .before .before .before .before .before .before .before .is-uint .ensures) (c .before .before .before .before .before .before .is-uint2 .ensures) (c .before .before .before .before .before .is-status .ensures) _ (c .before .before .before .before .all3 .ensures) (c .before .before .before .if1 .taken) _ (c .before .before .read-result .ensures) (c .enum-told .given .1))
+    (λ c. body-wrong (c .before .before .before .before .before .before .before .args .sights .now) (c .before .before .before .before .before .before .before .args .command) _ _ (c .before .before .before .before .before .before .sight-of .ensures) (c .before .before .before .before .before .sight-of2 .ensures) _ _ _ (c .before .before .before .before .is-uint .ensures) (c .before .before .before .is-uint2 .ensures) (c .before .before .is-status .ensures) _ (c .before .all3 .ensures) (c .if1 .left)))

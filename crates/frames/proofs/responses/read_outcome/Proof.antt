@@ -14,5 +14,5 @@ read-outcome-spec =
     (λ c. targets-are (c .before .before .before .before .before .args .sights .now) (c .before .before .before .before .before .args .command) _ (c .before .before .read-targets .ensures) (c .before .before .before .if3 .taken) (c .before .if4 .taken))
     (λ c. targets-wrong (c .before .before .before .before .args .sights .now) (c .before .before .before .before .args .command) _ (c .before .read-targets .ensures) (c .before .before .if3 .taken) (c .if4 .left))
     (λ c κs. search needs) (λ c κs. search needs)
-    (λ c. success-is (c .before .before .before .before .before .args .sights .now) (c .before .before .before .before .before .args .command) _ (c .before .before .sight-at .ensures) _ (c .before .is-success .ensures) (c .before .before .before .before .if1 .left) (c .before .before .before .if3 .left) (c .if5 .taken))
-    (λ c. success-wrong (c .before .before .before .before .before .args .sights .now) (c .before .before .before .before .before .args .command) _ (c .before .before .sight-at .ensures) _ (c .before .is-success .ensures) (c .before .before .before .before .if1 .left) (c .before .before .before .if3 .left) (c .if5 .left)))
+    (λ c. success-is (c .before .before .before .before .before .args .sights .now) (c .before .before .before .before .before .args .command) _ (c .before .before .sight-of .ensures) _ (c .before .is-success .ensures) (c .before .before .before .before .if1 .left) (c .before .before .before .if3 .left) (c .if5 .taken))
+    (λ c. success-wrong (c .before .before .before .before .before .args .sights .now) (c .before .before .before .before .before .args .command) _ (c .before .before .sight-of .ensures) _ (c .before .is-success .ensures) (c .before .before .before .before .if1 .left) (c .before .before .before .if3 .left) (c .if5 .left)))

@@ -9,4 +9,4 @@ read-targets-spec =
     (tie.spec
     (λ c κs. search needs) (λ c κs. search needs) (λ c κs. search needs) (λ c κs. search needs) (λ c κs. search needs)
     (λ c κs. search needs) (λ c κs. search needs) (λ c κs. search needs) (λ c κs. search needs)
-    (λ c. targets-read (c .before .before .before .before .before .before .before .before .before .args .sights .now) _ _ _ (c .before .before .before .before .before .before .sight-at3 .ensures) (c .before .before .before .before .before .before .before .before .sight-at .ensures) (c .before .before .before .before .before .before .before .sight-at2 .ensures) _ _ _ (c .before .before .before .before .before .is-success .ensures) (c .before .before .before .before .is-uint .ensures) (c .before .before .before .is-uint2 .ensures) _ (c .before .before .all3 .ensures) _ _ (c .before .amount-of .ensures) (c .amount-of2 .ensures)))
+    (λ c. targets-read (c .before .before .before .before .before .before .before .before .before .args .sights .now) _ _ _ (c .before .before .before .before .before .before .sight-of3 .ensures) (c .before .before .before .before .before .before .before .before .sight-of .ensures) (c .before .before .before .before .before .before .before .sight-of2 .ensures) _ _ _ (c .before .before .before .before .before .is-success .ensures) (c .before .before .before .before .is-uint .ensures) (c .before .before .before .is-uint2 .ensures) _ (c .before .before .all3 .ensures) _ _ (c .before .amount-of .ensures) (c .amount-of2 .ensures)))

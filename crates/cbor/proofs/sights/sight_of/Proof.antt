@@ -1,0 +1,17 @@
+-- Both tests are those of `sightAt`.
+use borrow.Author.Tests.{lt-ltb, le-ltb}
+use Rattle.cbor.specs.Scan.{sightIn, sightAt}
+use borrow.Author.Needs.{needs}
+use Rattle.cbor.proofs.sights.sight_of.Statement.{statement}
+use Rattle.cbor.proofs.sights.sight_of.Tie as tie
+
+pub sight-of-spec : {M : Type 1} → statement M
+unfolding sightIn sightAt
+sight-of-spec =
+    tie.close
+    (tie.spec
+    (λ c. search needs) (λ c. search needs) (λ c. search needs) (λ c. search needs) (λ c. search needs) (λ c. search needs)
+    (λ c. search needs)
+    (λ c. rw (lt-ltb _ _ (c .before .before .before .if1 .taken), lt-ltb _ _ (c .before .before .if2 .taken)))
+    (λ c. simp (lt-ltb _ _ (c .before .if1 .taken), le-ltb _ _ (c .if2 .left)))
+    (λ c. simp (le-ltb _ _ (c .if1 .left))))
