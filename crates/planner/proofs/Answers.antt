@@ -3,12 +3,12 @@ use Prim.Native.Nat.{ℕ, zero, suc, _+_, _*_, _-_, _<_, _≤_}
 use mathlib.Core.Bool.{true, false}
 use mathlib.Core.Path.{_≡_, refl, ap, _∙_}
 use mathlib.Core.Logic.{ite}
-use mathlib.Core.List.{List, _∷_, _++_, List-discrete}
+use mathlib.Core.List.{List, _∷_, List-discrete}
 use native.Mathlib.Nat.{zero-add}
 use native.Mathlib.Omega.{arith}
 use lib.IntN.{ℤ, ℤ-discrete}
-use lib.ListN.{length, take, drop, length-append}
-use lib.Seq.{sets, sets-eq, take-append-seam}
+use lib.ListN.{length, length-append}
+use lib.Seq.{sets, sets-eq}
 use borrow.Author.Tests.{lt-ltb, le-ltb, ne-eqb}
 use Rattle.store.specs.Sizes.{helds}
 use Rattle.store.specs.Words.{clockOf, overrideOf, applied, after}
@@ -63,14 +63,10 @@ module _ (ws : List ℕ) (t : ℕ) (old : List ℤ) where
     size : n * rowSize ≡ length (numbersOf rows)
     size = omega (arith, numbers-length (situationOf ws) t)
 
-    -- what rows written in place leave in the slice, and what a copy of them from the front of other numbers does
+    -- what rows written in place leave in the slice
     pub placed : (new : List ℤ) → n * rowSize ≤ length old → new ≡ sets old 0 (numbersOf rows) → new ≡ front (numbersOf rows) old
     unfolding front
     placed new h w = w ∙ rw (sets-eq (numbersOf rows) old 0 (omega (arith, size)), zero-add)
-
-    pub copied : (z found new : List ℤ) → n * rowSize ≤ length z → found ≡ sets z 0 (numbersOf rows) → new ≡ take (n * rowSize) found ++ drop (n * rowSize) old → new ≡ front (numbersOf rows) old
-    unfolding front
-    copied z found new h f w = w ∙ rw (size, f, sets-eq (numbersOf rows) z 0 (omega (arith, size)), take-append-seam (numbersOf rows))
 
     pub ends : (us : List ℕ) (new : List ℤ) → late (clockOf ws) t ≡ false → n * rowSize ≤ length old → new ≡ front (numbersOf rows) old → us ≡ applied ws (headChange ws t (overrideOf ws))
         → Ends (record { number = 0; count = n }) us new

@@ -45,58 +45,79 @@ module _ (s : Situation) (last : List ℤ) (due : ℕ) where
   unfolding step
   left-new h e = rw (lt-ltb due end h, e)
 
--- the loop's invariant: `count` rows are counted and written, and v is what holds at the last second looked at
-pub record Finding (ws : List ℕ) (t : ℕ) (out₀ out : List ℤ) (count : ℕ) (v : View) : Type 0 where
-  pub counted : count + length (left (situationOf ws) (v .values) (v .next)) ≡ length (planOf (situationOf ws) t)
-  pub written : sets out (count * rowSize) (numbersOf (left (situationOf ws) (v .values) (v .next))) ≡ sets out₀ 0 (numbersOf (planOf (situationOf ws) t))
-
 -- what is left after a second at which v was looked at
 left-of : (s : Situation) (t : ℕ) {v : View} → v ≡ viewAt s t → left s (v .values) (v .next) ≡ planOf s t
 left-of s t e = rw e (sym (planOf-step s t))
 
-pub finding-start : (ws : List ℕ) (t : ℕ) (out₀ : List ℤ) {v : View} → v ≡ viewAt (situationOf ws) t → Finding ws t out₀ out₀ 0 v
-finding-start ws t out₀ {v} e =
-    let p : left (situationOf ws) (v .values) (v .next) ≡ planOf (situationOf ws) t = left-of (situationOf ws) t e in
-    record { counted = rw p (omega arith); written = rw p }
+-- COUNTING: `count` rows are counted, and v is what holds at the last second looked at
+pub record Counting (ws : List ℕ) (t : ℕ) (count : ℕ) (v : View) : Type 0 where
+  pub total : count + length (left (situationOf ws) (v .values) (v .next)) ≡ length (planOf (situationOf ws) t)
 
-module _ {ws : List ℕ} {t : ℕ} {out₀ out : List ℤ} {count : ℕ} {v : View} (so-far : Finding ws t out₀ out count v) where
-  abbrev s : Situation
-  s = situationOf ws
+pub counting-start : (ws : List ℕ) (t : ℕ) {v : View} → v ≡ viewAt (situationOf ws) t → Counting ws t 0 v
+counting-start ws t e = record { total = rw (left-of (situationOf ws) t e) (omega arith) }
 
-  pub finding-length : length out ≡ length out₀
-  finding-length =
-      sym (length-sets out (count * rowSize) (numbersOf (left s (v .values) (v .next))))
-      ∙ ap length (so-far .written) ∙ length-sets out₀ 0 (numbersOf (planOf s t))
+module _ {ws : List ℕ} {t : ℕ} {count : ℕ} {v : View} (so-far : Counting ws t count v) where
+  pub counting-end : end ≤ v .next → count ≡ length (planOf (situationOf ws) t)
+  counting-end h = omega (arith, so-far .total, ap length (left-end (situationOf ws) (v .values) (v .next) h))
 
-  pub finding-end : end ≤ v .next → (count ≡ length (planOf s t)) × (out ≡ sets out₀ 0 (numbersOf (planOf s t)))
-  unfolding numbersOf
-  finding-end h =
-      let e = left-end s (v .values) (v .next) h in
-      (omega (arith, so-far .counted, ap length e), rw e at (so-far .written))
+  module _ {w : View} (here : w ≡ viewAt (situationOf ws) (v .next)) (low : v .next < end) where
+    abbrev s : Situation
+    s = situationOf ws
 
-  module _ {w : View} (here : w ≡ viewAt s (v .next)) (low : v .next < end) where
     values-here : w .values ≡ valuesAt s (v .next)
     values-here = ap (λ (x : View). x .values) here
 
-    pub finding-later : v .next < w .next
-    finding-later = rw here (nearest-later (v .next) (dues s) low)
+    row-new : alike (w .values) (v .values) ≡ false → left s (v .values) (v .next) ≡ (v .next, w .values) ∷ left s (w .values) (w .next)
+    row-new e = left-new s (v .values) (v .next) low (rw values-here at e) ∙ rw (left-of s (v .next) here, values-here)
 
-    pub finding-room : alike (w .values) (v .values) ≡ false → count < slots * helds
-    finding-room e =
-        let p = left-new s (v .values) (v .next) low (rw values-here at e) in
-        omega (arith, so-far .counted, ap length p, planOf-few ws t)
+    row-same : alike (w .values) (v .values) ≡ true → left s (v .values) (v .next) ≡ left s (w .values) (w .next)
+    row-same e = left-same s (v .values) (v .next) low (rw values-here at e) ∙ sym (left-of s (v .next) here)
+
+    pub counting-later : v .next < w .next
+    counting-later = rw here (nearest-later (v .next) (dues s) low)
+
+    -- a row more is one of the plan's
+    pub counting-room : alike (w .values) (v .values) ≡ false → (count < length (planOf s t)) × (count < slots * helds)
+    counting-room e =
+        let less : count < length (planOf s t) = omega (arith, so-far .total, ap length (row-new e)) in
+        (less, omega (arith, planOf-few ws t))
+
+    pub counting-same : alike (w .values) (v .values) ≡ true → Counting ws t count w
+    counting-same e = record { total = rw (row-same e) at (so-far .total) }
+
+    pub counting-new : alike (w .values) (v .values) ≡ false → Counting ws t (count + 1) w
+    counting-new e = record { total = omega (arith, so-far .total, ap length (row-new e)) }
+
+-- WRITING: the rows counted are written too
+pub record Finding (ws : List ℕ) (t : ℕ) (out₀ out : List ℤ) (count : ℕ) (v : View) : Type 0 where
+  pub counted : Counting ws t count v
+  pub written : sets out (count * rowSize) (numbersOf (left (situationOf ws) (v .values) (v .next))) ≡ sets out₀ 0 (numbersOf (planOf (situationOf ws) t))
+
+pub finding-start : (ws : List ℕ) (t : ℕ) (out₀ : List ℤ) {v : View} → v ≡ viewAt (situationOf ws) t → Finding ws t out₀ out₀ 0 v
+finding-start ws t out₀ e = record { counted = counting-start ws t e; written = rw (left-of (situationOf ws) t e) }
+
+module _ {ws : List ℕ} {t : ℕ} {out₀ out : List ℤ} {count : ℕ} {v : View} (so-far : Finding ws t out₀ out count v) where
+  pub finding-length : length out ≡ length out₀
+  finding-length =
+      sym (length-sets out (count * rowSize) (numbersOf (left (situationOf ws) (v .values) (v .next))))
+      ∙ ap length (so-far .written) ∙ length-sets out₀ 0 (numbersOf (planOf (situationOf ws) t))
+
+  pub finding-end : end ≤ v .next → (count ≡ length (planOf (situationOf ws) t)) × (out ≡ sets out₀ 0 (numbersOf (planOf (situationOf ws) t)))
+  unfolding numbersOf
+  finding-end h = (counting-end (so-far .counted) h, rw (left-end (situationOf ws) (v .values) (v .next) h) at (so-far .written))
+
+  module _ {w : View} (here : w ≡ viewAt (situationOf ws) (v .next)) (low : v .next < end) where
+    pub finding-room : alike (w .values) (v .values) ≡ false → (count < length (planOf (situationOf ws) t)) × (count < slots * helds)
+    finding-room e = counting-room (so-far .counted) here low e
 
     pub finding-same : alike (w .values) (v .values) ≡ true → Finding ws t out₀ out count w
-    finding-same e =
-        let p : left s (v .values) (v .next) ≡ left s (w .values) (w .next) = left-same s (v .values) (v .next) low (rw values-here at e) ∙ sym (left-of s (v .next) here) in
-        record { counted = rw p at (so-far .counted); written = rw p at (so-far .written) }
+    finding-same e = record { counted = counting-same (so-far .counted) here low e; written = rw (row-same (so-far .counted) here low e) at (so-far .written) }
 
     pub finding-new : alike (w .values) (v .values) ≡ false → {out′ : List ℤ} → out′ ≡ sets out (count * rowSize) (pos (v .next) ∷ w .values) → Finding ws t out₀ out′ (count + 1) w
     unfolding numbersOf
-    finding-new e {out′} put =
-        let p : left s (v .values) (v .next) ≡ (v .next, w .values) ∷ left s (w .values) (w .next) = left-new s (v .values) (v .next) low (rw values-here at e) ∙ rw (left-of s (v .next) here, values-here) in
-        let k : (count + 1) * rowSize ≡ count * rowSize + length (pos (v .next) ∷ w .values) = omega (arith, ap length values-here, values-length s (v .next)) in
+    finding-new e put =
+        let k : (count + 1) * rowSize ≡ count * rowSize + length (pos (v .next) ∷ w .values) = omega (arith, ap length (values-here (so-far .counted) here low), values-length (situationOf ws) (v .next)) in
         record {
-          counted = omega (arith, so-far .counted, ap length p);
-          written = rw (put, k, ← sets-append out (pos (v .next) ∷ w .values) (numbersOf (left s (w .values) (w .next))) (count * rowSize)) (rw p at (so-far .written));
+          counted = counting-new (so-far .counted) here low e;
+          written = rw (put, k, ← sets-append out (pos (v .next) ∷ w .values) (numbersOf (left (situationOf ws) (w .values) (w .next))) (count * rowSize)) (rw (row-new (so-far .counted) here low e) at (so-far .written));
         }

@@ -1,7 +1,8 @@
 // The plan: each second after now at which what holds will change, and what holds from then on.
+mod counts;
 mod rows;
 
-use rows::ROOM;
+use rows::PLAN;
 use rows::ROW;
 use store::State;
 use store::apply_head;
@@ -9,12 +10,13 @@ use store::clock;
 use store::is_late;
 use store::overridden;
 ghost use mathlib.Core.Path.{_≡_};
-ghost use mathlib.Core.Bool.{false};
+ghost use Prim.Native.Nat.{_*_};
+ghost use lib.Dec.{leb};
 ghost use lib.ListN.{length};
-ghost use Rattle.store.specs.Words.{clockOf, overrideOf, applied};
-ghost use Rattle.store.specs.Times.{late};
+ghost use Rattle.store.specs.Words.{overrideOf, applied};
 ghost use Rattle.store.specs.Words.{headChange};
-ghost use Rattle.planner.specs.Plan.{planAnswer, planAfter, planSlice};
+ghost use Rattle.holds.specs.Holds.{situationOf};
+ghost use Rattle.planner.specs.Plan.{planOf, rowSize, planAnswer, planAfter, planSlice};
 
 // The answer to a plan: its number, and the count of rows written.
 #[repr(C)]
@@ -45,24 +47,17 @@ fn done(d: &mut State, t: u64, count: usize) -> Planned
     }
 }
 
-// The rows go to a local first, so that nothing is written where they do not all fit.
-fn plan_apart(d: &mut State, t: u64, rows: &mut [i64]) -> Planned
-    requires { ⌜ late (clockOf (now d)) t ≡ false ⌝ }
-    ensures { λ r. ⌜ r ≡ planAnswer (now (d .entry)) t (length (now (rows .entry))) ⌝ }
-    ensures { λ _. ⌜ now (d .exit) ≡ planAfter (now (d .entry)) t (length (now (rows .entry))) ⌝ }
-    ensures { λ _. ⌜ now (rows .exit) ≡ planSlice (now (d .entry)) t (now (rows .entry)) ⌝ }
+// Whether the rows have room. They are counted only where not every plan would have it.
+fn has_room(d: &State, t: u64, room: usize) -> bool
+    ensures { λ r. ⌜ r ≡ leb (length (planOf (situationOf (now (d .entry))) t) * rowSize) room ⌝ }
 {
-    let mut found = [0; ROOM];
-    let count = rows::find(d, t, &mut found);
-    let size = count * ROW;
-    if rows.len() < size {
-        return refused(15);
+    if room < PLAN {
+        return counts::count(d, t) * ROW <= room;
     }
-    rows::copy(rows, &found, size);
-    done(d, t, count)
+    true
 }
 
-// A slice with room for every plan is written in place.
+// The rows go straight into the lent slice: that they have room is known before the first is written.
 pub fn plan(d: &mut State, t: u64, rows: &mut [i64]) -> Planned
     ensures { λ r. ⌜ r ≡ planAnswer (now (d .entry)) t (length (now (rows .entry))) ⌝ }
     ensures { λ _. ⌜ now (d .exit) ≡ planAfter (now (d .entry)) t (length (now (rows .entry))) ⌝ }
@@ -71,8 +66,8 @@ pub fn plan(d: &mut State, t: u64, rows: &mut [i64]) -> Planned
     if is_late(clock(d), t) {
         return refused(5);
     }
-    if rows.len() < ROOM {
-        return plan_apart(d, t, rows);
+    if !has_room(d, t, rows.len()) {
+        return refused(15);
     }
     let count = rows::find(d, t, rows);
     done(d, t, count)

@@ -6,19 +6,22 @@ use store::SLOTS;
 use store::State;
 use store::VALUES;
 ghost use mathlib.Core.Path.{_≡_};
-ghost use mathlib.Core.List.{_∷_, _++_};
+ghost use mathlib.Core.List.{_∷_};
 ghost use Prim.Native.Nat.{_+_, _*_, _<_, _≤_};
 ghost use lib.IntN.{pos};
-ghost use lib.ListN.{length, take, drop};
+ghost use lib.ListN.{length};
 ghost use lib.Seq.{sets};
-ghost use Rattle.store.specs.Sizes.{end, slots, helds};
+ghost use Rattle.store.specs.Sizes.{end};
 ghost use Rattle.holds.specs.Holds.{situationOf};
 ghost use Rattle.planner.specs.Plan.{planOf, rowSize, numbersOf};
 ghost use Rattle.planner.specs.Walk.{sameNumber, alike};
 
+// The numbers of a row, the most rows that a plan can have, and the numbers of the longest plan.
 pub const ROW: usize = 1 + VALUES;
 
-pub const ROOM: usize = SLOTS * HELDS * ROW;
+pub const ROWS: usize = SLOTS * HELDS;
+
+pub const PLAN: usize = ROWS * ROW;
 
 fn same_number(a: i64, b: i64) -> bool
     ensures { λ r. ⌜ r ≡ sameNumber a b ⌝ }
@@ -26,7 +29,8 @@ fn same_number(a: i64, b: i64) -> bool
     a == b
 }
 
-fn alike(a: [i64; VALUES], b: [i64; VALUES]) -> bool
+// Whether two rows have the same values.
+pub fn alike(a: [i64; VALUES], b: [i64; VALUES]) -> bool
     ensures { λ r. ⌜ r ≡ alike a b ⌝ }
 {
     let mut i = 0;
@@ -56,7 +60,7 @@ fn put_row(out: &mut [i64], at: usize, t: u64, values: [i64; VALUES])
 
 // Walks from due to due, and writes a row where the values differ from the last: how many rows stand at the front of `out`.
 pub fn find(d: &State, t: u64, out: &mut [i64]) -> usize
-    requires { ⌜ slots * helds * rowSize ≤ length (now out) ⌝ }
+    requires { ⌜ length (planOf (situationOf (now d)) t) * rowSize ≤ length (now out) ⌝ }
     ensures { λ r. ⌜ r ≡ length (planOf (situationOf (now (d .entry))) t) ⌝ }
     ensures { λ _. ⌜ now (out .exit) ≡ sets (now (out .entry)) 0 (numbersOf (planOf (situationOf (now (d .entry))) t)) ⌝ }
 {
@@ -73,17 +77,4 @@ pub fn find(d: &State, t: u64, out: &mut [i64]) -> usize
         }
     }
     count
-}
-
-// The first n numbers, to the front of the slice.
-pub fn copy(rows: &mut [i64], from: &[i64], n: usize)
-    requires { do ⌜ n ≤ (← ⟦rows.len()⟧) ⌝ }
-    requires { do ⌜ n ≤ (← ⟦from.len()⟧) ⌝ }
-    ensures { λ _. ⌜ now (rows .exit) ≡ take n (now (from .entry)) ++ drop n (now (rows .entry)) ⌝ }
-{
-    let mut i = 0;
-    while i < n {
-        rows[i] = from[i];
-        i += 1;
-    }
 }

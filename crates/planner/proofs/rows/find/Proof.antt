@@ -4,7 +4,7 @@ use borrow.Author.Needs.{needs}
 use borrow.Author.Tests.{not-true, not-false}
 use Rattle.store.specs.Sizes.{end}
 use Rattle.store.proofs.Tests.{via}
-use Rattle.planner.proofs.Find.{Finding, finding-start, finding-length, finding-end, finding-later, finding-room, finding-same, finding-new}
+use Rattle.planner.proofs.Find.{Finding, finding-start, finding-length, finding-end, counting-later, finding-room, finding-same, finding-new}
 use Rattle.planner.proofs.rows.find.Statement.{statement}
 use Rattle.planner.proofs.rows.find.Tie as tie
 
@@ -24,9 +24,9 @@ find-spec =
     (λ c. omega (arith, finding-room (c .before .before .before .before .before .before .before .before .loop .inv) (c .before .before .before .before .view-at2 .ensures) (omega arith) (via (c .before .before .alike .ensures) (not-true _ (c .before .if2 .taken)))))
     (λ c κs. (omega (arith, finding-length (c .before .before .before .before .before .before .before .before .loop .inv), finding-room (c .before .before .before .before .before .before .before .before .loop .inv) (c .before .before .before .before .view-at2 .ensures) (omega arith) (via (c .before .before .alike .ensures) (not-true _ (c .before .if2 .taken)))), omega arith))
     (λ c. omega (arith, finding-room (c .before .before .before .before .before .before .before .before .before .before .loop .inv) (c .before .before .before .before .before .before .view-at2 .ensures) (omega arith) (via (c .before .before .before .before .alike .ensures) (not-true _ (c .before .before .before .if2 .taken)))))
-    (λ c. omega (arith, finding-later (c .before .before .before .before .before .before .before .before .before .before .loop .inv) (c .before .before .before .before .before .before .view-at2 .ensures) (omega arith)))
+    (λ c. omega (arith, counting-later (c .before .before .before .before .before .before .before .before .before .before .loop .inv .counted) (c .before .before .before .before .before .before .view-at2 .ensures) (omega arith)))
     (λ c. finding-new (c .before .before .before .before .before .before .before .before .before .before .loop .inv) (c .before .before .before .before .before .before .view-at2 .ensures) (omega arith) (via (c .before .before .before .before .alike .ensures) (not-true _ (c .before .before .before .if2 .taken))) (c .before .put-row .ensures))
-    (λ c. omega (arith, finding-later (c .before .before .before .before .before .before .before .loop .inv) (c .before .before .before .view-at2 .ensures) (omega arith)))
+    (λ c. omega (arith, counting-later (c .before .before .before .before .before .before .before .loop .inv .counted) (c .before .before .before .view-at2 .ensures) (omega arith)))
     (λ c. finding-same (c .before .before .before .before .before .before .before .loop .inv) (c .before .before .before .view-at2 .ensures) (omega arith) (via (c .before .alike .ensures) (not-false _ (c .if2 .left))))
     (λ c. finding-length (c .before .before .loop .inv))
     (λ c. finding-end (c .before .before .loop .inv) (omega arith)))
