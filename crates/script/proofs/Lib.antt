@@ -1,3 +1,6 @@
 -- What the proofs of several functions use, and the laws that callers cite.
 pub mod Steps
 pub mod Printing
+pub mod Rooms
+pub mod Fronts
+pub mod Plays

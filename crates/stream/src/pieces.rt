@@ -1,9 +1,12 @@
 // The records of one piece of a script.
 use device::State;
 ghost use mathlib.Core.Path.{_≡_};
-ghost use mathlib.Core.Bool.{true};
-ghost use Prim.Native.Nat.{_≤_, _<_};
-ghost use lib.ListN.{length};
+ghost use mathlib.Core.Bool.{true, false};
+ghost use mathlib.Core.List.{List, [], _++_};
+ghost use Prim.Native.Nat.{ℕ, _+_, _≤_, _<_};
+ghost use lib.ListN.{length, drop};
+ghost use Rattle.records.specs.Kinds.{longest};
+ghost use Rattle.script.specs.Bench.{script, frameRoom, rowsRoom, remaining, Comes};
 
 // Room for the longest answer: a number and 32 rows of at most 96 bytes.
 const ANSWER: usize = 4096;
@@ -24,8 +27,11 @@ fn next(
     out: &mut [u8],
     rows: &mut [i64],
 ) -> Place
-    requires { ⌜ p .from < length (now s) ⌝ }
-    ensures { λ r. ⌜ (p .from < r .from) × (r .from ≤ length (now (s .entry))) ⌝ }
+    requires { ⌜ (p .from < length (now s)) × (frameRoom ≤ length (now out)) × (rowsRoom ≤ length (now rows)) ⌝ }
+    ensures { λ r. ⌜ (p .from < r .from) × (r .from ≤ length (now (s .entry))) × (r .good ≡ false → r .from ≡ length (now (s .entry))) ⌝ }
+    ensures { λ r. ⌜ ((more : List ℕ) → (length (now (s .entry)) < p .from + longest → more ≡ [])
+        → Comes (now (page .entry)) (p .at) (script (now (d .entry)) (drop (p .from) (now (s .entry)) ++ more))
+        (now (page .exit)) (r .at) (remaining (r .good) (now (d .exit)) (drop (r .from) (now (s .entry)) ++ more))) ⌝ }
 {
     let x = script::step(d, s, p.from, out, rows);
     if x.good {
@@ -49,7 +55,7 @@ fn has_page(at: usize, len: usize) -> bool {
 
 // Whether the next record can be told: it is whole, or the last piece is there.
 fn is_ready(p: Place, len: usize, last: bool, page: usize) -> bool
-    ensures { λ r. ⌜ (r ≡ true → p .from < len) ⌝ }
+    ensures { λ r. ⌜ (r ≡ true → (p .from < len) × (last ≡ false → p .from + longest ≤ len)) ⌝ }
 {
     if len <= p.from {
         return false;
@@ -60,7 +66,8 @@ fn is_ready(p: Place, len: usize, last: bool, page: usize) -> bool
     false
 }
 
-// Runs the records at the front of `s` and prints their answers from the front of `page`.
+// Runs the records at the front of `s` and prints their answers from the front of `page`: whatever comes behind `s`, and
+// nothing does behind the last piece, the page and what is left to play come to what the whole script plays.
 pub(crate) fn run(
     d: &mut State,
     s: &[u8],
@@ -69,7 +76,11 @@ pub(crate) fn run(
     out: &mut [u8],
     rows: &mut [i64],
 ) -> Place
+    requires { ⌜ (frameRoom ≤ length (now out)) × (rowsRoom ≤ length (now rows)) ⌝ }
     ensures { λ r. ⌜ r .from ≤ length (now (s .entry)) ⌝ }
+    ensures { λ r. ⌜ ((more : List ℕ) → (last ≡ true → more ≡ [])
+        → Comes (now (page .entry)) 0 (script (now (d .entry)) (now (s .entry) ++ more))
+        (now (page .exit)) (r .at) (remaining (r .good) (now (d .exit)) (drop (r .from) (now (s .entry)) ++ more))) ⌝ }
 {
     let mut p = Place {
         from: 0,

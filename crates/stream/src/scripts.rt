@@ -3,22 +3,29 @@ use crate::input::Input;
 use crate::input::fill;
 use crate::pieces::Place;
 use crate::pieces::run;
+use device::HELDS;
 use device::MOST;
+use device::SLOTS;
 use device::Settings;
 use device::State;
+use device::VALUES;
 use device::WORDS;
 ghost use mathlib.Core.Path.{_≡_};
 ghost use mathlib.Core.Bool.{true};
-ghost use Prim.Native.Nat.{_<_};
+ghost use Prim.Native.Nat.{_≤_, _<_};
+ghost use lib.ListN.{length};
+ghost use Rattle.script.specs.Bench.{benchSettings, frameRoom, rowsRoom};
 
-// The numbers of a whole plan: at most 32 rows of six.
-const ROWS: usize = 192;
+// The numbers of a whole plan: a row for each held value, the second and what holds from then on.
+const ROWS: usize = SLOTS * HELDS * (1 + VALUES);
 
-// Room for every response frame.
-const FRAME: usize = 128;
+// Room for every response frame: the prefix, and more than any payload that the kernel writes.
+const FRAME: usize = records::FRAME_LEAST + 192;
 
 // Bench's device.
-fn settings() -> Settings {
+fn settings() -> Settings
+    ensures { λ r. ⌜ r ≡ benchSettings ⌝ }
+{
     Settings {
         directions: 2,
         limits: true,
@@ -61,7 +68,9 @@ fn play_with(
     page: &mut [u8],
     out: &mut [u8],
     rows: &mut [i64],
-) -> u64 {
+) -> u64
+    requires { ⌜ (frameRoom ≤ length (now out)) × (rowsRoom ≤ length (now rows)) ⌝ }
+{
     let mut x = Input {
         from: 0,
         to: 0,

@@ -1,7 +1,10 @@
-use Prim.Native.Nat.{ℕ}
+-- It says true only where a record starts before the end, and then the last piece is there or a longest record fits.
+use Prim.Native.Nat.{ℕ, _-_, _≤_}
 use mathlib.Core.Path.{_≡_}
 use native.Mathlib.Omega.{arith}
 use borrow.Author.Needs.{needs}
+use borrow.Author.Tests.{leb-true}
+use Rattle.records.specs.Kinds.{longest}
 use Rattle.stream.proofs.pieces.is_ready.Statement.{statement}
 use Rattle.stream.proofs.pieces.is_ready.Tie as tie
 
@@ -10,4 +13,9 @@ is-ready-spec =
     tie.close
     (tie.spec
     (λ c. λ e. absurd (let z : _≡_ {A = ℕ} 0 1 = cc in omega arith))
-    (λ c κs. search needs) (λ c. search needs) (λ c. search needs) (λ c. search needs) (λ c. search needs))
+    (λ c κs. search needs) (λ c. search needs)
+    (λ c. λ e. (omega arith, λ f. absurd (let h = c .if3 .taken in let z : _≡_ {A = ℕ} 0 1 = cc in omega arith)))
+    (λ c.
+    let at-args = c .before .before .before .before .before .before .args in
+    λ e. (omega arith, λ f. let h : longest ≤ at-args .len - at-args .p .from = leb-true _ _ e in omega arith))
+    (λ c. λ e. absurd (let z : _≡_ {A = ℕ} 0 1 = cc in omega arith)))

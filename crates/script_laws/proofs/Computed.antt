@@ -1,0 +1,127 @@
+-- Document 01's example, computed: first which calls the script makes, on any device, then what they answer on bench's.
+use Prim.Native.Nat.{ℕ}
+use mathlib.Core.Path.{_≡_, refl, ap, _∙_}
+use mathlib.Core.Bool.{Bool, true, false, cond, not}
+use mathlib.Core.List.{List, [], _∷_, _++_}
+use mathlib.Core.Option.{bind}
+use native.Mathlib.Omega.{arith}
+use lib.Dec.{leb, eqb}
+use lib.IntN.{pos}
+use lib.ListN.{length}
+use borrow.Author.Tests.{le-leb, eqb-true}
+use Rattle.bytes.specs.Bytes.{numberAt}
+use Rattle.text.specs.Text.{digits, widthIn, decimal}
+use Rattle.text.specs.Pieces.{joined}
+use Rattle.records.specs.Kinds.{rightLength, rightBody}
+use Rattle.records.specs.Records.{isMark, fieldsAt, good, recordAt}
+use Rattle.messages.specs.declared.Field.{Field}
+use Rattle.messages.specs.declared.Command.{Command}
+use Rattle.messages.specs.declared.Request.{Request}
+use Rattle.cbor.specs.Bytes.{numberAt as cborNumber}
+use Rattle.cbor.specs.Head.{infoOf, widthOf, argAt, headAt}
+use Rattle.cbor.specs.Item.{itemsAt, keyAt, pairsAt, fromHead, itemAt, payloadOf}
+use Rattle.cbor.specs.Int.{intOf}
+use Rattle.cbor.specs.Find.{valueOf}
+use Rattle.frames.specs.Prefix.{framed}
+use Rattle.frames.specs.Fields.{upTo as fieldUpTo, truth, mapIn, signed, needed, optional, durationIn, valueIn}
+use Rattle.frames.specs.Requests.{envelopeIn, servedCommand, servedAt, limitsIn, commandIn, fromEnvelope, fromPayload, readRequest}
+use Rattle.frames.specs.Writing.{writingNumber}
+use Rattle.frames.specs.declared.requests.Reading.{Reading}
+use Rattle.kernel.specs.Frame.{responseFrame, numberFrom, obeyedBy, frameNumber, frameAfter}
+use Rattle.device.specs.Zones.{upTo, first, any, idOf, rankOf, isJoined, isUp, slotOf, joined as joinedIn, zoneOf, heldOf, anyJoined, anyUp}
+use Rattle.device.specs.Words.{settingsOf, heldIn, zoneAt, zonesOf, bit, heldWords, putZone, applied, after, settingWords, fresh}
+use Rattle.device.specs.Holds.{situationOf, supports, claimOf, goesBefore, better, winner, inFailsafe, failsafeValue, valueAt, present, stateAt, shown, valuesAt}
+use Rattle.device.specs.Dues.{zoneDues, heldDues, dues, nearer, nearest}
+use Rattle.device.specs.Refusals.{firstOf, late}
+use Rattle.device.specs.Calls.{sinceAfter, zoneChange, headChange, badJoin, joinNumber, joinAfter}
+use Rattle.device.specs.Commands.{unsupported, invalid, tooLow, belowTheMinimum, commandNumber, fieldAction, targetAction, aimAction, action, untilOf, done, obeyed, commandAfter, isCapped, reasonOf, outcomeWith, commandAnswer}
+use Rattle.device.specs.Start.{badMaximum, badSettings, startAfter}
+use Rattle.planner.specs.Plan.{planOf, numbersOf, planNumber}
+use Rattle.planner.specs.Walk.{sameNumber, alike, step, walk}
+use Rattle.planner.proofs.Walk.{planOf-walk}
+use Rattle.script.specs.Runs.{callOf, bodyOf}
+use Rattle.script.specs.Answers.{cell, rowPieces}
+use Rattle.script.specs.Bench.{benchSettings, numbered, responseRoom, planRoom, answered, recordAnswered, planPieces, answeredPieces, ended, behind, playedFrom, played, script, benchText}
+use Rattle.script_laws.specs.Example.{frame3, frame9, exampleScript, zeros, row120, row160, BenchExample}
+
+-- A FRAME THAT IS READ is its command, where there is room for the response
+told-number : (n : ℕ) (frame : List ℕ) → writingNumber n frame (length frame) ≡ n
+unfolding writingNumber firstOf
+told-number n frame = rw (le-leb (length frame) (length frame) (omega arith)) (go (eqb n 0) refl)
+  where
+    go : (b : Bool) → eqb n 0 ≡ b → cond b 0 n ≡ n
+    go true e = omega (arith, eqb-true n 0 e)
+    go false e = refl
+
+module _ (ws : List ℕ) (z t : ℕ) (bytes : List ℕ) (r : Request) (is : readRequest bytes ≡ Reading.Is r) where
+  told : frameNumber ws z t bytes (responseRoom ws z t bytes) ≡ commandNumber ws z t (r .command)
+  unfolding frameNumber responseRoom numberFrom
+  told = rw is (told-number (commandNumber ws z t (r .command)) (responseFrame ws z t (Reading.Is r)))
+
+  told-after : frameAfter ws z t bytes (responseRoom ws z t bytes) ≡ cond (eqb (commandNumber ws z t (r .command)) 0) (commandAfter ws z t (r .command)) ws
+  unfolding frameAfter responseRoom numberFrom obeyedBy
+  told-after = rw (is, told-number (commandNumber ws z t (r .command)) (responseFrame ws z t (Reading.Is r)))
+
+-- consumption v for n seconds
+abbrev limit : ℕ → ℕ → Command
+limit v n = Command.SetLimit (record { consumption = Field.Value (pos v); production = Field.Absent; duration = n; cause = 0 })
+
+abbrev request : ℕ → Command → Request
+request i c = record { id = i; endpoint = 1; feature = 5; command = c }
+
+first-read : readRequest frame3 ≡ Reading.Is (request 1 (limit 11040000 60))
+unfolding cborNumber infoOf widthOf argAt headAt itemsAt keyAt pairsAt fromHead itemAt payloadOf valueOf framed fieldUpTo truth mapIn signed needed optional durationIn valueIn
+    envelopeIn servedCommand servedAt limitsIn commandIn fromEnvelope fromPayload readRequest bind intOf
+first-read = refl
+
+second-read : readRequest frame9 ≡ Reading.Is (request 2 (limit 4600000 20))
+unfolding cborNumber infoOf widthOf argAt headAt itemsAt keyAt pairsAt fromHead itemAt payloadOf valueOf framed fieldUpTo truth mapIn signed needed optional durationIn valueIn
+    envelopeIn servedCommand servedAt limitsIn commandIn fromEnvelope fromPayload readRequest bind intOf
+second-read = refl
+
+-- THE CALLS
+module _ (ws : List ℕ) where
+  abbrev two : List ℕ
+  two = joinAfter (joinAfter ws 3 1 100) 9 2 100
+
+  abbrev tell : List ℕ → ℕ → Command → List ℕ
+  tell us z c = cond (eqb (commandNumber us z 100 c) 0) (commandAfter us z 100 c) us
+
+  abbrev three : List ℕ
+  three = tell two 3 (limit 11040000 60)
+
+  abbrev four : List ℕ
+  four = tell three 9 (limit 4600000 20)
+
+  abbrev planned : ℕ
+  planned = planNumber four 110 (planRoom four 110)
+
+  abbrev line : ℕ → List (List ℕ) → List (List ℕ)
+  line n l = decimal n ∷ (10 ∷ []) ∷ l
+
+  abbrev calls : List (List ℕ)
+  calls =
+      line (joinNumber ws 3 1 100)
+      (line (joinNumber (joinAfter ws 3 1 100) 9 2 100)
+      (line (commandNumber two 3 100 (limit 11040000 60))
+      (line (commandNumber three 9 100 (limit 4600000 20))
+      (line planned (planPieces (cond (eqb planned 0) (planOf (situationOf four) 110) []) ++ [])))))
+
+  made : script ws exampleScript .pieces ≡ calls
+  unfolding numberAt rightLength rightBody isMark fieldsAt good recordAt callOf bodyOf numbered answered recordAnswered answeredPieces planPieces ended behind playedFrom played script
+  made =
+      rw (told two 3 100 frame3 _ first-read, told-after two 3 100 frame3 _ first-read, told three 9 100 frame9 _ second-read, told-after three 9 100 frame9 _ second-read)
+
+-- WHAT THEY ANSWER
+answers : joined (calls (startAfter benchSettings)) ≡ zeros ++ row120 ++ row160
+unfolding joined decimal digits widthIn cell rowPieces planPieces planRoom planNumber numbersOf walk step nearest nearer alike sameNumber dues heldDues zoneDues upTo first any idOf
+    rankOf isJoined isUp slotOf joinedIn zoneOf heldOf anyJoined anyUp settingsOf heldIn zoneAt zonesOf bit heldWords putZone applied after settingWords fresh supports
+    claimOf goesBefore better winner inFailsafe failsafeValue valueAt present stateAt shown valuesAt firstOf late sinceAfter zoneChange
+    headChange badJoin joinNumber joinAfter unsupported invalid tooLow belowTheMinimum
+    commandNumber fieldAction targetAction aimAction action untilOf done obeyed commandAfter isCapped reasonOf outcomeWith commandAnswer
+    badMaximum badSettings startAfter
+answers = simp planOf-walk
+
+pub bench-example : BenchExample
+unfolding benchText
+bench-example = ap joined (made (startAfter benchSettings)) ∙ answers
