@@ -29,7 +29,7 @@ extern "C" {
 #define CEKARUM_RESPONSE_MAX 41  /* bytes of the longest response frame */
 #define CEKARUM_REQUEST_MAX 48   /* bytes of the longest request frame that is written */
 #define CEKARUM_PLAN_MAX 192     /* numbers of the longest plan: 32 rows of 6 */
-#define CEKARUM_REPORT_MAX 114   /* no report is longer: 57 pairs, every bit and every attribute a breach */
+#define CEKARUM_REPORT_MAX 96    /* numbers of the longest report: 48 pairs */
 
 /* The last second the clock can show. */
 #define CEKARUM_LAST_SECOND ((UINT64_C(1) << 40) - 1)
