@@ -1,11 +1,15 @@
-/* Cekarum: the control kernel for one energy endpoint, for C.
+/* Cekarum: the control kernel for one energy endpoint, for C11 and C++17.
  *
  * Link libcapi.a (rt staticlib capi; x86-64). The kernel has no state of its own, takes no memory and calls nothing: all that
  * it reads and writes is what a call lends it. Every call ends with an answer, for every number and every byte it is given;
- * nothing has to be checked first. Calls on one device must not overlap; calls on two devices may.
+ * nothing has to be checked first.
  *
- * Slices are a pointer and a count of elements. A pointer may not be NULL, not even beside the count 0 (lend any valid
- * address). Two slices of one call may not overlap.
+ * What a driver must keep, all of it:
+ * - no pointer is NULL, not even beside the count 0 (lend any valid address);
+ * - each pointer is aligned as its type is, and all the elements that its count says may be read and, where it is not to const,
+ *   written; a device has CEKARUM_WORDS words;
+ * - two lent things of one call do not overlap, unless both are only read;
+ * - calls on one device do not overlap in time; calls on two devices may.
  *
  * A refusal changes nothing: neither the device nor its clock nor a lent buffer, except that cekarum_frame may write a response
  * frame to the front of its output. Beside a refusal values are -1 and lengths 0, except the length of such a response. What
@@ -21,6 +25,28 @@
 extern "C" {
 #endif
 
+/* The functions of the library, the same on every board: numbers of 64 bits, pointers, and counts of 64 bits behind them; each
+ * gives its refusal number. They are for this header alone: call what stands below. */
+uint64_t cekarum_raw_start(uint64_t *device, const uint64_t *settings);
+uint64_t cekarum_raw_join(uint64_t *device, uint64_t zone, uint64_t rank, uint64_t time);
+uint64_t cekarum_raw_leave(uint64_t *device, uint64_t zone, uint64_t time);
+uint64_t cekarum_raw_lost(uint64_t *device, uint64_t zone, uint64_t time);
+uint64_t cekarum_raw_back(uint64_t *device, uint64_t zone, uint64_t time);
+uint64_t cekarum_raw_override(uint64_t *device, uint64_t reason, uint64_t direction, uint64_t time);
+uint64_t cekarum_raw_clear(uint64_t *device, uint64_t time);
+uint64_t cekarum_raw_ask(uint64_t *device, uint64_t time, int64_t *values);
+uint64_t cekarum_raw_plan(uint64_t *device, uint64_t time, int64_t *rows, uint64_t room, uint64_t *count);
+uint64_t cekarum_raw_frame(uint64_t *device, uint64_t zone, uint64_t time, const uint8_t *in, uint64_t in_length, uint8_t *out,
+                           uint64_t out_length, uint64_t *written);
+uint64_t cekarum_raw_read_request(const uint8_t *in, uint64_t in_length, uint64_t *words, int64_t *values);
+uint64_t cekarum_raw_write_request(const uint64_t *words, const int64_t *values, uint8_t *out, uint64_t out_length,
+                                   uint64_t *written);
+uint64_t cekarum_raw_read_response(uint64_t command, const uint8_t *in, uint64_t in_length, uint64_t *words, int64_t *values);
+uint64_t cekarum_raw_write_response(uint64_t command, const uint64_t *words, const int64_t *values, uint8_t *out,
+                                    uint64_t out_length, uint64_t *written);
+uint64_t cekarum_raw_report(const uint64_t *inputs, const uint16_t *attributes, uint64_t attribute_count, uint64_t *pairs,
+                            uint64_t room, uint64_t *count);
+
 /* Words of a device. The driver lends all of them to each call and never looks inside. */
 #define CEKARUM_WORDS 93
 
@@ -29,7 +55,7 @@ extern "C" {
 #define CEKARUM_RESPONSE_MAX 41  /* bytes of the longest response frame */
 #define CEKARUM_REQUEST_MAX 48   /* bytes of the longest request frame that is written */
 #define CEKARUM_PLAN_MAX 192     /* numbers of the longest plan: 32 rows of 6 */
-#define CEKARUM_REPORT_MAX 114   /* no report is longer: 57 pairs, every bit and every attribute a breach */
+#define CEKARUM_REPORT_MAX 96    /* numbers of the longest report: 48 pairs */
 
 /* The last second the clock can show. */
 #define CEKARUM_LAST_SECOND ((UINT64_C(1) << 40) - 1)
@@ -84,31 +110,55 @@ struct cekarum_settings {
 };
 
 /* Makes a fresh device, with its clock at 0, whatever the words held before.
- * Refuses: 16 for a setting out of range, or a maximum[0] below the minimum. The device is then fresh too: it accepts neither limits nor setpoints, consumption only, failsafe duration
- * 7,200, all else 0, none or no. */
-uint64_t cekarum_start(uint64_t *device, struct cekarum_settings settings);
+ * Refuses: 16 for a setting out of range, or a maximum[0] below the minimum. The device is then fresh too: it accepts neither limits
+ * nor setpoints, consumption only, failsafe duration 7,200, all else 0, none or no. */
+static inline uint64_t cekarum_start(uint64_t *device, struct cekarum_settings settings)
+{
+    const uint64_t words[10] = {settings.directions,  settings.accepts_limits, settings.accepts_setpoints, settings.minimum,
+                                settings.maximum[0],  settings.maximum[1],     settings.failsafe[0],       settings.failsafe[1],
+                                settings.failsafe_duration, settings.energy_manager};
+    return cekarum_raw_start(device, words);
+}
 
 /* ---- zones, links, override ----
  * An accepted call moves the clock to its time. Each gives its refusal number, 0 if accepted. */
 
 /* Joins a zone, link up, with no values. Refuses: 5, 6, 7, 8. */
-uint64_t cekarum_join(uint64_t *device, uint64_t zone, uint64_t rank, uint64_t time);
+static inline uint64_t cekarum_join(uint64_t *device, uint64_t zone, uint64_t rank, uint64_t time)
+{
+    return cekarum_raw_join(device, zone, rank, time);
+}
 
 /* Removes a zone and all its values. Refuses: 5, 9. */
-uint64_t cekarum_leave(uint64_t *device, uint64_t zone, uint64_t time);
+static inline uint64_t cekarum_leave(uint64_t *device, uint64_t zone, uint64_t time)
+{
+    return cekarum_raw_leave(device, zone, time);
+}
 
 /* A zone's link went down. When no link is up any more, the failsafe begins. Refuses: 5, 9, 7. */
-uint64_t cekarum_lost(uint64_t *device, uint64_t zone, uint64_t time);
+static inline uint64_t cekarum_lost(uint64_t *device, uint64_t zone, uint64_t time)
+{
+    return cekarum_raw_lost(device, zone, time);
+}
 
 /* A zone's link is up again. Refuses: 5, 9, 7. */
-uint64_t cekarum_back(uint64_t *device, uint64_t zone, uint64_t time);
+static inline uint64_t cekarum_back(uint64_t *device, uint64_t zone, uint64_t time)
+{
+    return cekarum_raw_back(device, zone, time);
+}
 
 /* Sets the override, or replaces it. Reasons 0 and 1 go with consumption (direction 0), 2 with either; on an energy manager
  * also 3 with consumption and 4 with production (direction 1). Refuses: 5, 18. */
-uint64_t cekarum_override(uint64_t *device, uint64_t reason, uint64_t direction, uint64_t time);
+static inline uint64_t cekarum_override(uint64_t *device, uint64_t reason, uint64_t direction, uint64_t time)
+{
+    return cekarum_raw_override(device, reason, direction, time);
+}
 
 /* Clears the override. Refuses: 5, 7. */
-uint64_t cekarum_clear(uint64_t *device, uint64_t time);
+static inline uint64_t cekarum_clear(uint64_t *device, uint64_t time)
+{
+    return cekarum_raw_clear(device, time);
+}
 
 /* ---- what holds, and what will change ---- */
 
@@ -128,12 +178,22 @@ struct cekarum_answer {
 };
 
 /* What holds at this second. Refuses: 5. */
-struct cekarum_answer cekarum_ask(uint64_t *device, uint64_t time);
+static inline struct cekarum_answer cekarum_ask(uint64_t *device, uint64_t time)
+{
+    struct cekarum_answer answer;
+    answer.number = cekarum_raw_ask(device, time, answer.values);
+    return answer;
+}
 
 /* Every later second at which the control state, a limit or a setpoint changes if only the clock moves, in order: six numbers
  * a row: second, state, limits (consumption, production), setpoints (consumption, production); -1 is absent.
  * room is counted in numbers; CEKARUM_PLAN_MAX is always enough. length is in rows. Refuses: 5, 15. */
-struct cekarum_written cekarum_plan(uint64_t *device, uint64_t time, int64_t *rows, uint64_t room);
+static inline struct cekarum_written cekarum_plan(uint64_t *device, uint64_t time, int64_t *rows, uint64_t room)
+{
+    struct cekarum_written plan;
+    plan.number = cekarum_raw_plan(device, time, rows, room, &plan.length);
+    return plan;
+}
 
 /* ---- frames ---- */
 
@@ -141,8 +201,13 @@ struct cekarum_written cekarum_plan(uint64_t *device, uint64_t time, int64_t *ro
  * Refuses, in this order: 1, 2, 3 (envelope), 4, 3 (parameters), 5, 9, 10, 11, 12, 13, 14, 15. At 4, 5 and 9 to 14 the response
  * says so in its status and is written if it has room; if it has none, length is 0 and out stays as it was. At 1, 2, 3 and 15
  * there is no response. CEKARUM_RESPONSE_MAX bytes of room are always enough. length is in bytes. */
-struct cekarum_written cekarum_frame(uint64_t *device, uint64_t zone, uint64_t time, const uint8_t *in, uint64_t in_length,
-                                     uint8_t *out, uint64_t out_length);
+static inline struct cekarum_written cekarum_frame(uint64_t *device, uint64_t zone, uint64_t time, const uint8_t *in,
+                                                   uint64_t in_length, uint8_t *out, uint64_t out_length)
+{
+    struct cekarum_written response;
+    response.number = cekarum_raw_frame(device, zone, time, in, in_length, out, out_length, &response.length);
+    return response;
+}
 
 /* ---- messages, for the other side of the wire ---- */
 
@@ -175,12 +240,47 @@ struct cekarum_request_read {
 };
 
 /* Reads a frame without applying it. Refuses: 1, 2, 3 (envelope), 4, 3 (parameters). All of the request is then 0. */
-struct cekarum_request_read cekarum_read_request(const uint8_t *in, uint64_t in_length);
+static inline struct cekarum_request_read cekarum_read_request(const uint8_t *in, uint64_t in_length)
+{
+    struct cekarum_request_read read;
+    uint64_t words[10];
+    int64_t values[2];
+    read.number = cekarum_raw_read_request(in, in_length, words, values);
+    read.request.id = words[0];
+    read.request.endpoint = words[1];
+    read.request.feature = words[2];
+    read.request.command = words[3];
+    read.request.consumption.kind = words[4];
+    read.request.consumption.value = values[0];
+    read.request.production.kind = words[5];
+    read.request.production.value = values[1];
+    read.request.duration = words[6];
+    read.request.cause = words[7];
+    read.request.directed = words[8] != 0;
+    read.request.direction = words[9];
+    return read;
+}
 
 /* Writes a request frame; a duration of 0 is left out. Refuses: 3 for a value out of range (a kind above 2, or null in
  * SetSetpoint, included), 4 for an endpoint, feature or command that is not served, 15. Negative values and a Set command that
  * names neither direction are written: a device refuses them with 13. CEKARUM_REQUEST_MAX bytes of room are always enough. */
-struct cekarum_written cekarum_write_request(struct cekarum_request request, uint8_t *out, uint64_t out_length);
+static inline struct cekarum_written cekarum_write_request(struct cekarum_request request, uint8_t *out, uint64_t out_length)
+{
+    const uint64_t words[10] = {request.id,
+                                request.endpoint,
+                                request.feature,
+                                request.command,
+                                request.consumption.kind,
+                                request.production.kind,
+                                request.duration,
+                                request.cause,
+                                request.directed,
+                                request.direction};
+    const int64_t values[2] = {request.consumption.value, request.production.value};
+    struct cekarum_written written;
+    written.number = cekarum_raw_write_request(words, values, out, out_length, &written.length);
+    return written;
+}
 
 /* The result stands at status 0, and for SetLimit also at 11 to 14. SetLimit: applied, state, the two effective limits and the
  * reject reason; SetSetpoint: applied (true) and the two effective setpoints; the clears: applied (true). Absent is -1. */
@@ -201,13 +301,35 @@ struct cekarum_response_read {
 };
 
 /* Reads the response to a command. Refuses: 4 for a command that is not served, 1, 2, 3. All is then 0, no or -1. */
-struct cekarum_response_read cekarum_read_response(uint64_t command, const uint8_t *in, uint64_t in_length);
+static inline struct cekarum_response_read cekarum_read_response(uint64_t command, const uint8_t *in, uint64_t in_length)
+{
+    struct cekarum_response_read read;
+    uint64_t words[5];
+    int64_t values[3];
+    read.number = cekarum_raw_read_response(command, in, in_length, words, values);
+    read.response.id = words[0];
+    read.response.status = words[1];
+    read.response.result = words[2] != 0;
+    read.response.applied = words[3] != 0;
+    read.response.state = words[4];
+    read.response.consumption = values[0];
+    read.response.production = values[1];
+    read.response.reason = values[2];
+    return read;
+}
 
 /* Writes the response to a command. Refuses: 4 for a command that is not served; 3 for a value out of range (a negative one
  * other than -1 included), a status that is none, a result that is missing or does not stand there, or applied false in another
  * result than SetLimit's; 15. */
-struct cekarum_written cekarum_write_response(uint64_t command, struct cekarum_response response, uint8_t *out,
-                                              uint64_t out_length);
+static inline struct cekarum_written cekarum_write_response(uint64_t command, struct cekarum_response response, uint8_t *out,
+                                                            uint64_t out_length)
+{
+    const uint64_t words[5] = {response.id, response.status, response.result, response.applied, response.state};
+    const int64_t values[3] = {response.consumption, response.production, response.reason};
+    struct cekarum_written written;
+    written.number = cekarum_raw_write_response(command, words, values, out, out_length, &written.length);
+    return written;
+}
 
 /* ---- conformance ---- */
 
@@ -224,8 +346,17 @@ struct cekarum_inputs {
 
 /* Every breach, once, ascending: two numbers a pair, group then bit or attribute. room is counted in numbers;
  * CEKARUM_REPORT_MAX is always enough. length is in pairs. Refuses: 16, 17, 15. */
-struct cekarum_written cekarum_report(struct cekarum_inputs inputs, const uint16_t *attributes, uint64_t count, uint64_t *pairs,
-                                      uint64_t room);
+static inline struct cekarum_written cekarum_report(struct cekarum_inputs inputs, const uint16_t *attributes, uint64_t count,
+                                                    uint64_t *pairs, uint64_t room)
+{
+    const uint64_t words[8] = {inputs.type,           inputs.map,
+                               inputs.phases,         inputs.directions,
+                               inputs.accepts_limits, inputs.accepts_current_limits,
+                               inputs.accepts_setpoints, inputs.has_process};
+    struct cekarum_written report;
+    report.number = cekarum_raw_report(words, attributes, count, pairs, room, &report.length);
+    return report;
+}
 
 #ifdef __cplusplus
 }

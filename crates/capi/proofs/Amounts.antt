@@ -6,9 +6,7 @@ use mathlib.Core.Path.{_≡_, refl, sym, _∙_}
 use borrow.Author.Tests.{ne-eqb}
 use lib.IntN.{ℤ, pos, negsuc}
 use Rattle.messages.specs.declared.Amount.{Amount}
-use Rattle.store.specs.Sizes.{most}
-use Rattle.command.specs.Says.{negative, natural}
-use Rattle.planner.specs.Walk.{sameNumber}
+use Rattle.kernel.specs.Door.{most, negative, natural, sameNumber}
 use Rattle.capi.specs.Responses.{amountOf}
 use Rattle.capi.proofs.Chosen.{false≢true}
 

@@ -1,8 +1,10 @@
 -- Requests as C has them, flat, and as the kernel has them: each from the other.
 use Prim.Native.Nat.{ℕ}
 use mathlib.Core.Bool.{Bool, true, false, cond, _&&_, _||_}
+use mathlib.Core.List.{List, [], _∷_}
 use lib.Dec.{ltb, eqb}
 use lib.IntN.{ℤ, pos}
+use lib.ListN.{length, getD}
 use Rattle.messages.specs.declared.Field.{Field}
 use Rattle.messages.specs.declared.Target.{Target}
 use Rattle.messages.specs.declared.Aim.{Aim}
@@ -10,7 +12,8 @@ use Rattle.messages.specs.declared.Limits.{Limits}
 use Rattle.messages.specs.declared.Setpoints.{Setpoints}
 use Rattle.messages.specs.declared.Command.{Command}
 use Rattle.messages.specs.declared.Request.{Request}
-use Rattle.frames.specs.declared.requests.Reading.{Reading}
+use Rattle.kernel.specs.Door.{Reading, Written, requestNumber, requestItem, itemFrame, writtenOf, leftBy}
+use Rattle.capi.specs.Words.{at, yes, word}
 use Rattle.capi.specs.declared.requests.FlatField.{FlatField}
 use Rattle.capi.specs.declared.requests.FlatRequest.{FlatRequest}
 use Rattle.capi.specs.declared.requests.FlatReading.{FlatReading}
@@ -132,3 +135,36 @@ unfoldable pub flatReading : Reading → FlatReading
 flatReading (Reading.Is r) = record { number = 0; request = flatRequest r (r .command) }
 flatReading (Reading.Unserved i) = record { number = 4; request = noRequest }
 flatReading (Reading.Refused n) = record { number = n; request = noRequest }
+
+-- AS WORDS: id, endpoint, feature, command, the fields' kinds, duration, cause, directed, direction; the fields' values beside them
+unfoldable pub requestIn : List ℕ → List ℤ → FlatRequest
+requestIn ws vs =
+    record {
+      id = at ws 0;
+      endpoint = at ws 1;
+      feature = at ws 2;
+      command = at ws 3;
+      consumption = record { kind = at ws 4; value = getD vs 0 (pos 0) };
+      production = record { kind = at ws 5; value = getD vs 1 (pos 0) };
+      duration = at ws 6;
+      cause = at ws 7;
+      directed = yes ws 8;
+      direction = at ws 9;
+    }
+
+unfoldable pub requestWords : FlatRequest → List ℕ
+requestWords q =
+    q .id ∷ q .endpoint ∷ q .feature ∷ q .command ∷ q .consumption .kind ∷ q .production .kind ∷ q .duration ∷ q .cause
+    ∷ word (q .directed) ∷ q .direction ∷ []
+
+unfoldable pub requestValues : FlatRequest → List ℤ
+requestValues q = q .consumption .value ∷ q .production .value ∷ []
+
+-- what writing them answers, given the room, and leaves
+unfoldable pub requestWritten : List ℕ → List ℤ → ℕ → Written
+requestWritten ws vs room =
+    writtenOf (requestNumber (requestOf (requestIn ws vs))) (itemFrame (requestItem (requestOf (requestIn ws vs)))) room
+
+unfoldable pub requestLeft : List ℕ → List ℤ → List ℕ → List ℕ
+requestLeft ws vs out =
+    leftBy (requestNumber (requestOf (requestIn ws vs))) (itemFrame (requestItem (requestOf (requestIn ws vs)))) out

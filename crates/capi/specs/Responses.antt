@@ -1,16 +1,17 @@
 -- Responses as C has them, flat, and as the kernel has them: each from the other. Absent is -1.
 use Prim.Native.Nat.{ℕ, zero, suc}
 use mathlib.Core.Bool.{Bool, true, false, cond, not, _||_}
+use mathlib.Core.List.{List, [], _∷_}
 use lib.Dec.{eqb}
 use lib.IntN.{ℤ, pos, negsuc}
+use lib.ListN.{getD}
 use Rattle.messages.specs.declared.Amount.{Amount}
 use Rattle.messages.specs.declared.LimitResult.{LimitResult}
 use Rattle.messages.specs.declared.SetpointResult.{SetpointResult}
 use Rattle.messages.specs.declared.Outcome.{Outcome}
 use Rattle.messages.specs.declared.Response.{Response}
-use Rattle.store.specs.Sizes.{most}
-use Rattle.holds.specs.Holds.{shown}
-use Rattle.frames.specs.declared.responses.Answer.{Answer}
+use Rattle.kernel.specs.Door.{most, shown, Answer, Written, responseNumber, responseItem, itemFrame, writtenOf, leftBy}
+use Rattle.capi.specs.Words.{at, yes, word}
 use Rattle.capi.specs.declared.responses.FlatResponse.{FlatResponse}
 use Rattle.capi.specs.declared.responses.FlatAnswer.{FlatAnswer}
 
@@ -81,3 +82,32 @@ noResponse =
 unfoldable pub flatAnswer : Answer → FlatAnswer
 flatAnswer (Answer.Is r) = record { number = 0; response = flatResponse r (r .outcome) }
 flatAnswer (Answer.Refused n) = record { number = n; response = noResponse }
+
+-- AS WORDS: id, status, result, applied, state; consumption, production and reason beside them
+unfoldable pub responseIn : List ℕ → List ℤ → FlatResponse
+responseIn ws vs =
+    record {
+      id = at ws 0;
+      status = at ws 1;
+      result = yes ws 2;
+      applied = yes ws 3;
+      state = at ws 4;
+      consumption = getD vs 0 (pos 0);
+      production = getD vs 1 (pos 0);
+      reason = getD vs 2 (pos 0);
+    }
+
+unfoldable pub responseWords : FlatResponse → List ℕ
+responseWords p = p .id ∷ p .status ∷ word (p .result) ∷ word (p .applied) ∷ p .state ∷ []
+
+unfoldable pub responseValues : FlatResponse → List ℤ
+responseValues p = p .consumption ∷ p .production ∷ p .reason ∷ []
+
+-- what writing them answers, given the room, and leaves
+unfoldable pub responseWritten : ℕ → List ℕ → List ℤ → ℕ → Written
+responseWritten command ws vs room =
+    let r = responseOf command (responseIn ws vs) in writtenOf (responseNumber command r) (itemFrame (responseItem r)) room
+
+unfoldable pub responseLeft : ℕ → List ℕ → List ℤ → List ℕ → List ℕ
+responseLeft command ws vs out =
+    let r = responseOf command (responseIn ws vs) in leftBy (responseNumber command r) (itemFrame (responseItem r)) out

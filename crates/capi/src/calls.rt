@@ -1,60 +1,58 @@
 // The calls on a device without a frame, the plan among them, and the conformance report.
-use conformance::Answer;
-use conformance::Inputs;
-use device::Asked;
-use device::Settings;
-use device::State;
-use planner::Planned;
+use crate::words::INPUTS;
+use crate::words::SETTINGS;
+use crate::words::inputs_of;
+use crate::words::settings_of;
+use kernel::State;
+use kernel::VALUES;
 ghost use mathlib.Core.Path.{_≡_};
 ghost use mathlib.Core.Bool.{true, false};
 ghost use lib.ListN.{length};
-ghost use Rattle.device.specs.Start.{startNumber, startAfter};
-ghost use Rattle.device.specs.Calls.{joinNumber, joinAfter, leaveNumber, leaveAfter, linkNumber, linkAfter, overrideNumber, overrideAfter, clearNumber, clearAfter, askAnswer, askAfter};
-ghost use Rattle.planner.specs.Plan.{planAnswer, planAfter, planSlice};
-ghost use Rattle.conformance.specs.Report.{reportOf, pairsAfter};
+ghost use Rattle.kernel.specs.Door.{startNumber, startAfter, joinNumber, joinAfter, leaveNumber, leaveAfter, linkNumber, linkAfter, overrideNumber, overrideAfter, clearNumber, clearAfter, askAnswer, askAfter, planAnswer, planAfter, planSlice, reportOf, pairsAfter};
+ghost use Rattle.capi.specs.Words.{settingsOf, inputsOf};
 
 #[no_mangle]
-pub extern "C" fn cekarum_start(device: &mut State, settings: Settings) -> u64
-    ensures { λ r. ⌜ r ≡ startNumber settings ⌝ }
-    ensures { λ _. ⌜ now (device .exit) ≡ startAfter settings ⌝ }
+pub extern "C" fn cekarum_raw_start(device: &mut State, settings: &[u64; SETTINGS]) -> u64
+    ensures { λ r. ⌜ r ≡ startNumber (settingsOf (now (settings .entry))) ⌝ }
+    ensures { λ _. ⌜ now (device .exit) ≡ startAfter (settingsOf (now (settings .entry))) ⌝ }
 {
-    device::calls::start(device, settings)
+    kernel::start(device, settings_of(*settings))
 }
 
 #[no_mangle]
-pub extern "C" fn cekarum_join(device: &mut State, zone: u64, rank: u64, time: u64) -> u64
+pub extern "C" fn cekarum_raw_join(device: &mut State, zone: u64, rank: u64, time: u64) -> u64
     ensures { λ r. ⌜ r ≡ joinNumber (now (device .entry)) zone rank time ⌝ }
     ensures { λ _. ⌜ now (device .exit) ≡ joinAfter (now (device .entry)) zone rank time ⌝ }
 {
-    device::calls::join(device, zone, rank, time)
+    kernel::join(device, zone, rank, time)
 }
 
 #[no_mangle]
-pub extern "C" fn cekarum_leave(device: &mut State, zone: u64, time: u64) -> u64
+pub extern "C" fn cekarum_raw_leave(device: &mut State, zone: u64, time: u64) -> u64
     ensures { λ r. ⌜ r ≡ leaveNumber (now (device .entry)) zone time ⌝ }
     ensures { λ _. ⌜ now (device .exit) ≡ leaveAfter (now (device .entry)) zone time ⌝ }
 {
-    device::calls::leave(device, zone, time)
+    kernel::leave(device, zone, time)
 }
 
 #[no_mangle]
-pub extern "C" fn cekarum_lost(device: &mut State, zone: u64, time: u64) -> u64
+pub extern "C" fn cekarum_raw_lost(device: &mut State, zone: u64, time: u64) -> u64
     ensures { λ r. ⌜ r ≡ linkNumber (now (device .entry)) zone false time ⌝ }
     ensures { λ _. ⌜ now (device .exit) ≡ linkAfter (now (device .entry)) zone false time ⌝ }
 {
-    device::calls::lost(device, zone, time)
+    kernel::lost(device, zone, time)
 }
 
 #[no_mangle]
-pub extern "C" fn cekarum_back(device: &mut State, zone: u64, time: u64) -> u64
+pub extern "C" fn cekarum_raw_back(device: &mut State, zone: u64, time: u64) -> u64
     ensures { λ r. ⌜ r ≡ linkNumber (now (device .entry)) zone true time ⌝ }
     ensures { λ _. ⌜ now (device .exit) ≡ linkAfter (now (device .entry)) zone true time ⌝ }
 {
-    device::calls::back(device, zone, time)
+    kernel::back(device, zone, time)
 }
 
 #[no_mangle]
-pub extern "C" fn cekarum_override(
+pub extern "C" fn cekarum_raw_override(
     device: &mut State,
     reason: u64,
     direction: u64,
@@ -63,38 +61,58 @@ pub extern "C" fn cekarum_override(
     ensures { λ r. ⌜ r ≡ overrideNumber (now (device .entry)) reason direction time ⌝ }
     ensures { λ _. ⌜ now (device .exit) ≡ overrideAfter (now (device .entry)) reason direction time ⌝ }
 {
-    device::calls::set_override(device, reason, direction, time)
+    kernel::set_override(device, reason, direction, time)
 }
 
 #[no_mangle]
-pub extern "C" fn cekarum_clear(device: &mut State, time: u64) -> u64
+pub extern "C" fn cekarum_raw_clear(device: &mut State, time: u64) -> u64
     ensures { λ r. ⌜ r ≡ clearNumber (now (device .entry)) time ⌝ }
     ensures { λ _. ⌜ now (device .exit) ≡ clearAfter (now (device .entry)) time ⌝ }
 {
-    device::calls::clear_override(device, time)
+    kernel::clear_override(device, time)
 }
 
 #[no_mangle]
-pub extern "C" fn cekarum_ask(device: &mut State, time: u64) -> Asked
-    ensures { λ r. ⌜ r ≡ askAnswer (now (device .entry)) time ⌝ }
+pub extern "C" fn cekarum_raw_ask(device: &mut State, time: u64, values: &mut [i64; VALUES]) -> u64
+    ensures { λ r. ⌜ r ≡ askAnswer (now (device .entry)) time .number ⌝ }
     ensures { λ _. ⌜ now (device .exit) ≡ askAfter (now (device .entry)) time ⌝ }
+    ensures { λ _. ⌜ now (values .exit) ≡ askAnswer (now (device .entry)) time .values ⌝ }
 {
-    device::calls::ask(device, time)
+    let asked = kernel::ask(device, time);
+    let shown = asked.values;
+    *values = shown;
+    asked.number
 }
 
 #[no_mangle]
-pub extern "C" fn cekarum_plan(device: &mut State, time: u64, rows: &mut [i64]) -> Planned
-    ensures { λ r. ⌜ r ≡ planAnswer (now (device .entry)) time (length (now (rows .entry))) ⌝ }
+pub extern "C" fn cekarum_raw_plan(
+    device: &mut State,
+    time: u64,
+    rows: &mut [i64],
+    count: &mut u64,
+) -> u64
+    ensures { λ r. ⌜ r ≡ planAnswer (now (device .entry)) time (length (now (rows .entry))) .number ⌝ }
     ensures { λ _. ⌜ now (device .exit) ≡ planAfter (now (device .entry)) time (length (now (rows .entry))) ⌝ }
     ensures { λ _. ⌜ now (rows .exit) ≡ planSlice (now (device .entry)) time (now (rows .entry)) ⌝ }
+    ensures { λ _. ⌜ now (count .exit) ≡ planAnswer (now (device .entry)) time (length (now (rows .entry))) .count ⌝ }
 {
-    planner::plan(device, time, rows)
+    let planned = kernel::plan(device, time, rows);
+    *count = planned.count;
+    planned.number
 }
 
 #[no_mangle]
-pub extern "C" fn cekarum_report(inputs: Inputs, attributes: &[u16], pairs: &mut [u64]) -> Answer
-    ensures { λ r. ⌜ r ≡ reportOf inputs (now (attributes .entry)) (length (now (pairs .entry))) ⌝ }
-    ensures { λ _. ⌜ now (pairs .exit) ≡ pairsAfter inputs (now (attributes .entry)) (now (pairs .entry)) ⌝ }
+pub extern "C" fn cekarum_raw_report(
+    inputs: &[u64; INPUTS],
+    attributes: &[u16],
+    pairs: &mut [u64],
+    count: &mut u64,
+) -> u64
+    ensures { λ r. ⌜ r ≡ reportOf (inputsOf (now (inputs .entry))) (now (attributes .entry)) (length (now (pairs .entry))) .number ⌝ }
+    ensures { λ _. ⌜ now (pairs .exit) ≡ pairsAfter (inputsOf (now (inputs .entry))) (now (attributes .entry)) (now (pairs .entry)) ⌝ }
+    ensures { λ _. ⌜ now (count .exit) ≡ reportOf (inputsOf (now (inputs .entry))) (now (attributes .entry)) (length (now (pairs .entry))) .count ⌝ }
 {
-    conformance::report(inputs, attributes, pairs)
+    let reported = kernel::report(inputs_of(*inputs), attributes, pairs);
+    *count = reported.count;
+    reported.number
 }

@@ -1,6 +1,7 @@
 // Requests for C: flat structs of numbers, and the kernel's requests from them and to them.
-use frames::Reading;
-use frames::Written;
+use crate::words::is_yes;
+use crate::words::word_of;
+use kernel::Reading;
 use messages::Aim;
 use messages::Command;
 use messages::Field;
@@ -11,19 +12,22 @@ use messages::Target;
 ghost use mathlib.Core.Path.{_≡_};
 ghost use mathlib.Core.Bool.{_&&_};
 ghost use lib.ListN.{length};
-ghost use Rattle.frames.specs.Requests.{readRequest, requestNumber, requestItem};
-ghost use Rattle.frames.specs.Writing.{itemFrame, writtenOf, leftBy};
-ghost use Rattle.capi.specs.Requests.{fieldOf, targetOf, aimOf, limitsOf, setpointsOf, limitKind, setpointKind, commandOf, requestOf, noField, flatField, flatTarget, hasAim, aimed, flatSet, flatClear, flatRequest, noRequest, flatReading};
+ghost use Rattle.kernel.specs.Door.{readRequest};
+ghost use Rattle.capi.specs.Requests.{fieldOf, targetOf, aimOf, limitsOf, setpointsOf, limitKind, setpointKind, commandOf, requestOf, noField, flatField, flatTarget, hasAim, aimed, flatSet, flatClear, flatRequest, noRequest, flatReading, requestIn, requestWords, requestValues, requestWritten, requestLeft};
+
+// Words of a request: id, endpoint, feature, command, the fields' kinds, duration, cause, directed, direction.
+const WORDS: usize = 10;
+
+// The fields' values: consumption, production.
+const FIELDS: usize = 2;
 
 // A field of a Set command: kind 0 is absent, 1 null, 2 the number `value`.
-#[repr(C)]
 pub struct FlatField {
     pub kind: u64,
     pub value: i64,
 }
 
 // Set commands use the fields, duration and cause; clears the direction.
-#[repr(C)]
 pub struct FlatRequest {
     pub id: u64,
     pub endpoint: u64,
@@ -37,7 +41,6 @@ pub struct FlatRequest {
     pub direction: u64,
 }
 
-#[repr(C)]
 pub struct FlatReading {
     pub number: u64,
     pub request: FlatRequest,
@@ -298,17 +301,82 @@ fn flat_reading(x: Reading) -> FlatReading
     }
 }
 
-#[no_mangle]
-pub extern "C" fn cekarum_read_request(frame: &[u8]) -> FlatReading
-    ensures { λ r. ⌜ r ≡ flatReading (readRequest (now (frame .entry))) ⌝ }
+// A flat request from its words and values.
+fn request_in(w: [u64; WORDS], v: [i64; FIELDS]) -> FlatRequest
+    ensures { λ q. ⌜ q ≡ requestIn w v ⌝ }
 {
-    flat_reading(frames::read_request(frame))
+    FlatRequest {
+        id: w[0],
+        endpoint: w[1],
+        feature: w[2],
+        command: w[3],
+        consumption: FlatField {
+            kind: w[4],
+            value: v[0],
+        },
+        production: FlatField {
+            kind: w[5],
+            value: v[1],
+        },
+        duration: w[6],
+        cause: w[7],
+        directed: is_yes(w[8]),
+        direction: w[9],
+    }
+}
+
+fn request_words(q: FlatRequest) -> [u64; WORDS]
+    ensures { λ r. ⌜ r ≡ requestWords q ⌝ }
+{
+    [
+        q.id,
+        q.endpoint,
+        q.feature,
+        q.command,
+        q.consumption.kind,
+        q.production.kind,
+        q.duration,
+        q.cause,
+        word_of(q.directed),
+        q.direction,
+    ]
+}
+
+fn request_values(q: FlatRequest) -> [i64; FIELDS]
+    ensures { λ r. ⌜ r ≡ requestValues q ⌝ }
+{
+    [q.consumption.value, q.production.value]
 }
 
 #[no_mangle]
-pub extern "C" fn cekarum_write_request(request: FlatRequest, out: &mut [u8]) -> Written
-    ensures { λ w. ⌜ w ≡ writtenOf (requestNumber (requestOf request)) (itemFrame (requestItem (requestOf request))) (length (now (out .entry))) ⌝ }
-    ensures { λ _. ⌜ now (out .exit) ≡ leftBy (requestNumber (requestOf request)) (itemFrame (requestItem (requestOf request))) (now (out .entry)) ⌝ }
+pub extern "C" fn cekarum_raw_read_request(
+    frame: &[u8],
+    words: &mut [u64; WORDS],
+    values: &mut [i64; FIELDS],
+) -> u64
+    ensures { λ r. ⌜ r ≡ flatReading (readRequest (now (frame .entry))) .number ⌝ }
+    ensures { λ _. ⌜ now (words .exit) ≡ requestWords (flatReading (readRequest (now (frame .entry))) .request) ⌝ }
+    ensures { λ _. ⌜ now (values .exit) ≡ requestValues (flatReading (readRequest (now (frame .entry))) .request) ⌝ }
 {
-    frames::write_request(out, request_of(request))
+    let read = flat_reading(kernel::read_request(frame));
+    let q = read.request;
+    *words = request_words(q);
+    *values = request_values(q);
+    read.number
+}
+
+#[no_mangle]
+pub extern "C" fn cekarum_raw_write_request(
+    words: &[u64; WORDS],
+    values: &[i64; FIELDS],
+    out: &mut [u8],
+    written: &mut u64,
+) -> u64
+    ensures { λ r. ⌜ r ≡ requestWritten (now (words .entry)) (now (values .entry)) (length (now (out .entry))) .number ⌝ }
+    ensures { λ _. ⌜ now (out .exit) ≡ requestLeft (now (words .entry)) (now (values .entry)) (now (out .entry)) ⌝ }
+    ensures { λ _. ⌜ now (written .exit) ≡ requestWritten (now (words .entry)) (now (values .entry)) (length (now (out .entry))) .length ⌝ }
+{
+    let w = kernel::write_request(out, request_of(request_in(*words, *values)));
+    *written = w.length as u64;
+    w.number
 }

@@ -1,10 +1,11 @@
 // Responses for C: flat structs of numbers, and the kernel's responses from them and to them.
-use device::MOST;
-use command::is_negative;
-use command::natural_of;
-use frames::Answer;
-use frames::Written;
-use holds::shown;
+use crate::words::is_yes;
+use crate::words::word_of;
+use kernel::Answer;
+use kernel::MOST;
+use kernel::is_negative;
+use kernel::natural_of;
+use kernel::shown;
 use messages::Amount;
 use messages::LimitResult;
 use messages::Outcome;
@@ -15,13 +16,16 @@ ghost use mathlib.Core.Bool.{not, _||_};
 ghost use lib.Dec.{eqb};
 ghost use lib.IntN.{negsuc};
 ghost use lib.ListN.{length};
-ghost use Rattle.planner.specs.Walk.{sameNumber};
-ghost use Rattle.frames.specs.Responses.{readResponse, responseNumber, responseItem};
-ghost use Rattle.frames.specs.Writing.{itemFrame, writtenOf, leftBy};
-ghost use Rattle.capi.specs.Responses.{amountOf, limitOf, setpointOf, outcomeOf, responseOf, flat, flatResponse, noResponse, flatAnswer};
+ghost use Rattle.kernel.specs.Door.{sameNumber, readResponse};
+ghost use Rattle.capi.specs.Responses.{amountOf, limitOf, setpointOf, outcomeOf, responseOf, flat, flatResponse, noResponse, flatAnswer, responseIn, responseWords, responseValues, responseWritten, responseLeft};
+
+// Words of a response: id, status, result, applied, state.
+const WORDS: usize = 5;
+
+// Its signed values: consumption, production, reason.
+const VALUES: usize = 3;
 
 // Absent is -1. The result stands at status 0, and for SetLimit also at 11 to 14.
-#[repr(C)]
 pub struct FlatResponse {
     pub id: u64,
     pub status: u64,
@@ -33,7 +37,6 @@ pub struct FlatResponse {
     pub reason: i64,
 }
 
-#[repr(C)]
 pub struct FlatAnswer {
     pub number: u64,
     pub response: FlatResponse,
@@ -187,21 +190,75 @@ fn flat_answer(x: Answer) -> FlatAnswer
     }
 }
 
-#[no_mangle]
-pub extern "C" fn cekarum_read_response(command: u64, frame: &[u8]) -> FlatAnswer
-    ensures { λ r. ⌜ r ≡ flatAnswer (readResponse command (now (frame .entry))) ⌝ }
+// A flat response from its words and values.
+fn response_in(w: [u64; WORDS], v: [i64; VALUES]) -> FlatResponse
+    ensures { λ p. ⌜ p ≡ responseIn w v ⌝ }
 {
-    flat_answer(frames::read_response(command, frame))
+    FlatResponse {
+        id: w[0],
+        status: w[1],
+        result: is_yes(w[2]),
+        applied: is_yes(w[3]),
+        state: w[4],
+        consumption: v[0],
+        production: v[1],
+        reason: v[2],
+    }
+}
+
+fn response_words(p: FlatResponse) -> [u64; WORDS]
+    ensures { λ r. ⌜ r ≡ responseWords p ⌝ }
+{
+    [
+        p.id,
+        p.status,
+        word_of(p.result),
+        word_of(p.applied),
+        p.state,
+    ]
+}
+
+fn response_values(p: FlatResponse) -> [i64; VALUES]
+    ensures { λ r. ⌜ r ≡ responseValues p ⌝ }
+{
+    [p.consumption, p.production, p.reason]
 }
 
 #[no_mangle]
-pub extern "C" fn cekarum_write_response(
+pub extern "C" fn cekarum_raw_read_response(
     command: u64,
-    response: FlatResponse,
-    out: &mut [u8],
-) -> Written
-    ensures { λ w. ⌜ w ≡ writtenOf (responseNumber command (responseOf command response)) (itemFrame (responseItem (responseOf command response))) (length (now (out .entry))) ⌝ }
-    ensures { λ _. ⌜ now (out .exit) ≡ leftBy (responseNumber command (responseOf command response)) (itemFrame (responseItem (responseOf command response))) (now (out .entry)) ⌝ }
+    frame: &[u8],
+    words: &mut [u64; WORDS],
+    values: &mut [i64; VALUES],
+) -> u64
+    ensures { λ r. ⌜ r ≡ flatAnswer (readResponse command (now (frame .entry))) .number ⌝ }
+    ensures { λ _. ⌜ now (words .exit) ≡ responseWords (flatAnswer (readResponse command (now (frame .entry))) .response) ⌝ }
+    ensures { λ _. ⌜ now (values .exit) ≡ responseValues (flatAnswer (readResponse command (now (frame .entry))) .response) ⌝ }
 {
-    frames::write_response(out, command, response_of(command, response))
+    let read = flat_answer(kernel::read_response(command, frame));
+    let p = read.response;
+    *words = response_words(p);
+    *values = response_values(p);
+    read.number
+}
+
+#[no_mangle]
+pub extern "C" fn cekarum_raw_write_response(
+    command: u64,
+    words: &[u64; WORDS],
+    values: &[i64; VALUES],
+    out: &mut [u8],
+    written: &mut u64,
+) -> u64
+    ensures { λ r. ⌜ r ≡ responseWritten command (now (words .entry)) (now (values .entry)) (length (now (out .entry))) .number ⌝ }
+    ensures { λ _. ⌜ now (out .exit) ≡ responseLeft command (now (words .entry)) (now (values .entry)) (now (out .entry)) ⌝ }
+    ensures { λ _. ⌜ now (written .exit) ≡ responseWritten command (now (words .entry)) (now (values .entry)) (length (now (out .entry))) .length ⌝ }
+{
+    let w = kernel::write_response(
+        out,
+        command,
+        response_of(command, response_in(*words, *values)),
+    );
+    *written = w.length as u64;
+    w.number
 }

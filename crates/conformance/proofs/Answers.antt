@@ -7,6 +7,7 @@ use native.Mathlib.Omega.{arith}
 use lib.Dec.{eqb}
 use lib.ListN.{length}
 use borrow.Author.Tests.{not-false, lt-ltb, le-ltb}
+use Rattle.conformance.specs.Sizes.{types, pairCount}
 use Rattle.conformance.specs.Lists.{keep, ascends, firstOf, front}
 use Rattle.conformance.specs.Rules.{broken, brokenIn, breaches, candidates}
 use Rattle.conformance.specs.Report.{inRange, numberOf, reportOf, flat, pairsAfter}
@@ -16,7 +17,7 @@ use Rattle.conformance.specs.declared.breaches.Pair.{Pair}
 use Rattle.conformance.proofs.Bounds.{type-below}
 use Rattle.conformance.proofs.Tables.{length-candidates}
 
-pub judged-type : (i : Inputs) {b : Bool} → b ≡ inRange i → not b ≡ false → i .endpoint < 11
+pub judged-type : (i : Inputs) {b : Bool} → b ≡ inRange i → not b ≡ false → i .endpoint < types
 judged-type i {b} range e = type-below i (sym range ∙ not-false b e)
 
 length-flat : (ps : List Pair) → length (flat ps) ≡ 2 * length ps
@@ -36,7 +37,7 @@ keep-shorter p (x ∷ l) = go (p x) (keep-shorter p l)
     go true h = omega arith
     go false h = omega arith
 
-pub few : (i : Inputs) (listed : ℕ → Bool) {n : ℕ} → n ≡ length (brokenIn i listed candidates) → n ≤ 88
+pub few : (i : Inputs) (listed : ℕ → Bool) {n : ℕ} → n ≡ length (brokenIn i listed candidates) → n ≤ pairCount
 few i listed e = omega (arith, keep-shorter (broken i listed) candidates, length-candidates)
 
 abbrev answer : ℕ → ℕ → Answer

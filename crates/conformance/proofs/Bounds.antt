@@ -11,6 +11,7 @@ use lib.Dec.{eqb, ltb}
 use lib.Pow.{pow-mono}
 use lib.ListN.{length, getD}
 use borrow.Author.Tests.{eqb-true, ltb-true}
+use Rattle.conformance.specs.Sizes.{types, bits, maps}
 use Rattle.conformance.specs.Lists.{member}
 use Rattle.conformance.specs.Features.{ASYMMETRIC, BATTERY, V2X, bit}
 use Rattle.conformance.specs.Endpoints.{required, bitsOf}
@@ -22,66 +23,66 @@ use Rattle.conformance.specs.declared.attributes.Row.{Row}
 use Rattle.conformance.proofs.Bools.{and-left, and-right, or-cases}
 use Rattle.conformance.proofs.Tables.{passes}
 
--- a map below 2 ^ 11 has no bit past the tenth
-bit-below : (m b : ℕ) → m < 2048 → bit m b ≡ true → b < 11
+-- a map that the bits make has no other bit
+bit-below : (m b : ℕ) → m < maps → bit m b ≡ true → b < bits
 unfolding bit
 bit-below m b h e =
-    elim (decLt b 11) [
+    elim (decLt b bits) [
       | yes l ↦ l
       | no l ↦
-          let small : m < 2 ^ b = lt-of-lt-of-le h (pow-mono {i = 11} {j = b} (omega arith)) in
+          let small : m < 2 ^ b = lt-of-lt-of-le h (pow-mono {i = bits} {j = b} (omega arith)) in
           absurd (false≢true (rw (div-eq-of-lt small) at e))
     ]
 
 -- the bits of a column's cell
 abbrev below : List ℕ → Bool
 below [] = true
-below (b ∷ bs) = ltb b 11 && below bs
+below (b ∷ bs) = ltb b bits && below bs
 
-member-below : (b : ℕ) (bs : List ℕ) → below bs ≡ true → member b bs ≡ true → b < 11
+member-below : (b : ℕ) (bs : List ℕ) → below bs ≡ true → member b bs ≡ true → b < bits
 unfolding member
 member-below b [] e m = absurd (false≢true m)
 member-below b (x ∷ bs) e m =
-    ⊎-elim (λ f. omega (arith, eqb-true b x f, ltb-true x 11 (and-left (ltb x 11) (below bs) e)))
-    (λ f. member-below b bs (and-right (ltb x 11) (below bs) e) f)
+    ⊎-elim (λ f. omega (arith, eqb-true b x f, ltb-true x bits (and-left (ltb x bits) (below bs) e)))
+    (λ f. member-below b bs (and-right (ltb x bits) (below bs) e) f)
     (or-cases (eqb b x) (member b bs) m)
 
-required-below : (t b : ℕ) → t < 11 → member b (bitsOf required t) ≡ true → b < 11
+required-below : (t b : ℕ) → t < types → member b (bitsOf required t) ≡ true → b < bits
 unfolding required
-required-below t b h m = member-below b (bitsOf required t) (passes (λ t. below (bitsOf required t)) 11 t refl h) m
+required-below t b h m = member-below b (bitsOf required t) (passes (λ t. below (bitsOf required t)) types t refl h) m
 
-pub type-below : (i : Inputs) → inRange i ≡ true → i .endpoint < 11
+pub type-below : (i : Inputs) → inRange i ≡ true → i .endpoint < types
 unfolding inRange
 type-below i range = ltb-true _ _ (and-left _ _ (and-left _ _ (and-left _ _ (and-left _ _ range))))
 
 module _ (i : Inputs) (b : ℕ) (range : inRange i ≡ true) where
-  features-below : i .features < 2048
+  pub features-below : i .features < maps
   unfolding inRange
-  features-below = ltb-true _ _ (and-right (ltb (i .endpoint) 11) _ (and-left _ _ (and-left _ _ (and-left _ _ range))))
+  features-below = ltb-true _ _ (and-right (ltb (i .endpoint) types) _ (and-left _ _ (and-left _ _ (and-left _ _ range))))
 
-  has-below : has i b ≡ true → b < 11
+  has-below : has i b ≡ true → b < bits
   has-below e = bit-below (i .features) b features-below e
 
-  pub need-below : lacksNeed i b ≡ true → b < 11
+  pub need-below : lacksNeed i b ≡ true → b < bits
   unfolding lacksNeed
   need-below e = has-below (and-left _ (not (has i (need b))) e)
 
-  pub clash-below : clashes i b ≡ true → b < 11
+  pub clash-below : clashes i b ≡ true → b < bits
   unfolding clashes
   clash-below e = omega (arith, eqb-true b BATTERY (and-left _ _ (and-left _ _ e)))
 
-  pub supply-below : lacksSupply i b ≡ true → b < 11
+  pub supply-below : lacksSupply i b ≡ true → b < bits
   unfolding lacksSupply
   supply-below e =
       ⊎-elim (λ f. omega (arith, eqb-true b ASYMMETRIC (and-left _ _ (and-left _ _ f))))
       (λ f. omega (arith, eqb-true b V2X (and-left _ _ (and-left _ _ f))))
       (or-cases (eqb b ASYMMETRIC && has i ASYMMETRIC && eqb (i .phases) 1) (eqb b V2X && has i V2X && not (eqb (i .directions) 2)) e)
 
-  pub required-bit-below : lacksRequired i b ≡ true → b < 11
+  pub required-bit-below : lacksRequired i b ≡ true → b < bits
   unfolding lacksRequired
   required-bit-below e = required-below (i .endpoint) b (type-below i range) (and-left _ (not (has i b)) e)
 
-  pub invalid-below : hasInvalid i b ≡ true → b < 11
+  pub invalid-below : hasInvalid i b ≡ true → b < bits
   unfolding hasInvalid
   invalid-below e = has-below (and-right (member b _) (has i b) e)
 

@@ -4,6 +4,7 @@ use mathlib.Core.Bool.{Bool, true, false}
 use mathlib.Core.Path.{_≡_, ap}
 use native.Mathlib.Omega.{arith}
 use lib.ListN.{length, getD, drop}
+use Rattle.conformance.specs.Sizes.{pairCount}
 use Rattle.conformance.specs.Rules.{broken, brokenIn, candidates, noPair}
 use Rattle.conformance.specs.declared.Inputs.{Inputs}
 use Rattle.conformance.proofs.Candidates.{left-yes, left-no, left-none}
@@ -12,11 +13,11 @@ pub record Counted (i : Inputs) (listed : ℕ → Bool) (n k : ℕ) : Type 0 whe
   pub whole : n + length (brokenIn i listed (drop k candidates)) ≡ length (brokenIn i listed candidates)
 
 module _ {i : Inputs} {listed : ℕ → Bool} {n k : ℕ} (w : Counted i listed n k) where
-  pub end : 88 ≤ k → n ≡ length (brokenIn i listed candidates)
+  pub end : pairCount ≤ k → n ≡ length (brokenIn i listed candidates)
   end h = omega (arith, ap length (left-none i listed k h))
 
   -- the pair at k is a breach, as the code found, or it is none
-  module _ {b : Bool} (h : k < 88) (found : b ≡ broken i listed (getD candidates k noPair)) where
+  module _ {b : Bool} (h : k < pairCount) (found : b ≡ broken i listed (getD candidates k noPair)) where
     pub counted : {n' : ℕ} → b ≡ true → n' ≡ n + 1 → Counted i listed n' (k + 1)
     counted e f = record { whole = omega (arith, w .whole, ap length (left-yes i listed k h found e)) }
 

@@ -5,6 +5,7 @@ use mathlib.Core.Path.{_≡_, refl, ap, _∙_}
 use mathlib.Core.List.{List, [], _∷_, List·Memᴰ, List·Memᴰ·head, List·Memᴰ·not-nil}
 use native.Mathlib.Omega.{arith}
 use lib.ListN.{length, getD}
+use Rattle.conformance.specs.Sizes.{bits, bitGroups, attributeGroup, bitPairs, rowCount, pairCount}
 use Rattle.conformance.specs.Lists.{member}
 use Rattle.conformance.specs.Attributes.{rows, noRow}
 use Rattle.conformance.specs.Rules.{bitRules, broken, candidates, noPair, breaches}
@@ -17,14 +18,14 @@ use Rattle.conformance.proofs.Members.{stands, kept, keeps, keep-ascend
 use Rattle.conformance.proofs.Bounds.{need-below, clash-below, supply-below, required-bit-below, invalid-below, attribute-row}
 
 -- the pair at a place stands among the candidates
-placed : (k : ℕ) (p : Pair) → k < 88 → getD candidates k noPair ≡ p → List·Memᴰ p candidates
+placed : (k : ℕ) (p : Pair) → k < pairCount → getD candidates k noPair ≡ p → List·Memᴰ p candidates
 placed k p h e = rw e at (stands candidates noPair k (rw length-candidates h))
 
-bit-placed : (g n : ℕ) → g < 5 → n < 11 → List·Memᴰ (pairOf (suc g) n) candidates
+bit-placed : (g n : ℕ) → g < bitGroups → n < bits → List·Memᴰ (pairOf (suc g) n) candidates
 bit-placed g n hg hn =
-    let group : (g * 11 + n) / 11 + 1 ≡ suc g = omega arith in
-    let number : (g * 11 + n) % 11 ≡ n = omega arith in
-    placed (g * 11 + n) (pairOf (suc g) n) (omega arith) (rw (group, number) at (bit-pair (g * 11 + n) (omega arith)))
+    let group : (g * bits + n) / bits + 1 ≡ suc g = omega arith in
+    let number : (g * bits + n) % bits ≡ n = omega arith in
+    placed (g * bits + n) (pairOf (suc g) n) (omega arith) (rw (group, number) at (bit-pair (g * bits + n) (omega arith)))
 
 -- only a candidate can be broken
 judged : (i : Inputs) (listed : ℕ → Bool) → inRange i ≡ true → (g n : ℕ) → broken i listed (pairOf g n) ≡ true → List·Memᴰ (pairOf g n) candidates
@@ -37,8 +38,8 @@ judged i listed r (suc (suc (suc (suc zero)))) n e = bit-placed 3 n (omega arith
 judged i listed r (suc (suc (suc (suc (suc zero))))) n e = bit-placed 4 n (omega arith) (invalid-below i n r e)
 judged i listed r (suc (suc (suc (suc (suc (suc zero)))))) n e =
     let row : (k : ℕ) × (k < length rows) × (getD rows k noRow .0 ≡ n) = attribute-row i listed n e in
-    let h : row .0 < 33 = rw length-rows at (row .1) in
-    placed (55 + row .0) (pairOf 6 n) (omega arith) (row-pair (row .0) h ∙ ap (pairOf 6) (row .2))
+    let h : row .0 < rowCount = rw length-rows at (row .1) in
+    placed (bitPairs + row .0) (pairOf attributeGroup n) (omega arith) (row-pair (row .0) h ∙ ap (pairOf attributeGroup) (row .2))
 judged i listed r (suc (suc (suc (suc (suc (suc (suc g))))))) n e = absurd (false≢true e)
 
 pub exact : Exact

@@ -9,5 +9,6 @@ pub mod Bounds
 pub mod Listed
 pub mod Answers
 pub mod Laws
+pub mod Longest
 pub mod Witnesses
 pub mod Rises

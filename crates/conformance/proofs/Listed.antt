@@ -8,6 +8,7 @@ use lib.Dec.{eqb, ltb}
 use lib.ListN.{length, getD, set, replicate, length-set, length-replicate, getD-replicate}
 use lib.Seq.{getD-set-same, getD-set-other}
 use borrow.Author.Tests.{eqb-true, eqb-false, ltb-true}
+use Rattle.conformance.specs.Sizes.{numberEnd, pairCount}
 use Rattle.conformance.specs.Lists.{member, keep, flagged, marked}
 use Rattle.conformance.specs.Attributes.{rows, mandatory}
 use Rattle.conformance.specs.Rules.{bitRules, lacksAttribute, broken, brokenIn, candidates, noPair, breaches}
@@ -38,10 +39,10 @@ mark-all (x ∷ ns) s n h =
     ∙ ap (λ b. b || member n ns) (mark-one s x n h)
     ∙ or-swap (eqb n x) (flagged s n) (member n ns)
 
-pub listed-flag : (ns : List ℕ) (n : ℕ) → n < 82 → flagged (foldl marked (replicate 82 false) ns) n ≡ member n ns
+pub listed-flag : (ns : List ℕ) (n : ℕ) → n < numberEnd → flagged (foldl marked (replicate numberEnd false) ns) n ≡ member n ns
 listed-flag ns n h =
-    mark-all ns (replicate 82 false) n (rw length-replicate h)
-    ∙ ap (λ b. b || member n ns) (getD-replicate 82 n false false h)
+    mark-all ns (replicate numberEnd false) n (rw length-replicate h)
+    ∙ ap (λ b. b || member n ns) (getD-replicate numberEnd n false false h)
 
 -- two tests that agree on a list keep the same
 keep-same : {A : Type 0} (p q : A → Bool) (l : List A) (d : A) → ((k : ℕ) → k < length l → p (getD l k d) ≡ q (getD l k d)) → keep p l ≡ keep q l
@@ -50,16 +51,16 @@ keep-same p q [] d same = refl
 keep-same p q (x ∷ l) d same = rw (same 0 (omega arith), keep-same p q l d (λ k h. same (suc k) (omega arith)))
 
 -- no candidate's number is past the flags
-number-below : (k : ℕ) → k < 88 → getD candidates k noPair .number < 82
+number-below : (k : ℕ) → k < pairCount → getD candidates k noPair .number < numberEnd
 unfolding candidates rows
-number-below k h = ltb-true _ _ (passes (λ k. ltb (getD candidates k noPair .number) 82) 88 k refl h)
+number-below k h = ltb-true _ _ (passes (λ k. ltb (getD candidates k noPair .number) numberEnd) pairCount k refl h)
 
 broken-same : (i : Inputs) (f g : ℕ → Bool) (p : Pair) → f (p .number) ≡ g (p .number) → broken i f p ≡ broken i g p
 unfolding broken lacksAttribute
 broken-same i f g p e =
     ap (λ b. getD (false ∷ bitRules i (p .number) ++ (not (eqb (i .endpoint) 0) && mandatory i (p .number) && not b) ∷ []) (p .group) false) e
 
-pub by-flags : (i : Inputs) (ns : List ℕ) (flags : List Bool) → flags ≡ foldl marked (replicate 82 false) ns → brokenIn i (flagged flags) candidates ≡ breaches i ns
+pub by-flags : (i : Inputs) (ns : List ℕ) (flags : List Bool) → flags ≡ foldl marked (replicate numberEnd false) ns → brokenIn i (flagged flags) candidates ≡ breaches i ns
 unfolding breaches
 by-flags i ns flags e =
     rw e

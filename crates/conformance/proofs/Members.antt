@@ -25,7 +25,8 @@ module _ {A : Type 0} (p : A → Bool) where
   kept x [] m = elim m [ ]
   kept x (y ∷ l) m = go (p y) refl (λ m. kept x l m) m
     where
-      go : (b : Bool) → p y ≡ b → (List·Memᴰ x (keep p l) → (p x ≡ true) × List·Memᴰ x l) → List·Memᴰ x (cond b (y ∷ keep p l) (keep p l)) → (p x ≡ true) × List·Memᴰ x (y ∷ l)
+      go : (b : Bool) → p y ≡ b → (List·Memᴰ x (keep p l) → (p x ≡ true) × List·Memᴰ x l)
+          → List·Memᴰ x (cond b (y ∷ keep p l) (keep p l)) → (p x ≡ true) × List·Memᴰ x (y ∷ l)
       go true e later (List·Memᴰ·head f) = (ap p f ∙ e, List·Memᴰ·head f)
       go true e later (List·Memᴰ·tail m) = (later m .0, List·Memᴰ·tail (later m .1))
       go false e later m = (later m .0, List·Memᴰ·tail (later m .1))

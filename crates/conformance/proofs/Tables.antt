@@ -10,6 +10,7 @@ use native.Mathlib.Omega.{arith}
 use lib.Dec.{eqb}
 use lib.ListN.{length, getD, List·getD-map}
 use borrow.Author.Tests.{eqb-true}
+use Rattle.conformance.specs.Sizes.{types, bits, bitPairs, attributeGroup, rowCount, pairCount}
 use Rattle.conformance.specs.Lists.{member}
 use Rattle.conformance.specs.Features.{bit}
 use Rattle.conformance.specs.Endpoints.{bitsOf}
@@ -40,17 +41,17 @@ mask (b ∷ bs) = 2 ^ b + mask bs
 abbrev right : List (List ℕ) → ℕ → ℕ → Bool
 right column t b = Bool·beq (bit (mask (bitsOf column t)) b) (member b (bitsOf column t))
 
-pub mask-at : (column : List (List ℕ)) → every (λ t. every (right column t) 11) 11 ≡ true → (t b : ℕ) → t < 11 → b < 11
+pub mask-at : (column : List (List ℕ)) → every (λ t. every (right column t) bits) types ≡ true → (t b : ℕ) → t < types → b < bits
     → bit (getD (map mask column) t 0) b ≡ member b (bitsOf column t)
 mask-at column e t b ht hb =
     rw (List·getD-map mask column t [])
-    (same _ _ (passes (right column t) 11 b (passes (λ t. every (right column t) 11) 11 t e ht) hb))
+    (same _ _ (passes (right column t) bits b (passes (λ t. every (right column t) bits) types t e ht) hb))
 
 -- section 3.3: a row's condition is that of its number
-pub row-condition : (k : ℕ) → k < 33 → conditionIn rows (getD rows k noRow .0) ≡ getD rows k noRow .1
+pub row-condition : (k : ℕ) → k < rowCount → conditionIn rows (getD rows k noRow .0) ≡ getD rows k noRow .1
 unfolding rows conditionIn
 row-condition k h =
-    eqb-true _ _ (passes (λ k. eqb (conditionIn rows (getD rows k noRow .0)) (getD rows k noRow .1)) 33 k refl h)
+    eqb-true _ _ (passes (λ k. eqb (conditionIn rows (getD rows k noRow .0)) (getD rows k noRow .1)) rowCount k refl h)
 
 -- the pairs of a report by place: eleven bits in each of five groups, then the rows
 abbrev pub pairOf : ℕ → ℕ → Pair
@@ -65,21 +66,21 @@ pair-same e f = cc
 is-same : (p q : Pair) → is p q ≡ true → p ≡ q
 is-same p q e = pair-same (eqb-true _ _ (and-left _ (eqb (p .number) (q .number)) e)) (eqb-true _ _ (and-right (eqb (p .group) (q .group)) _ e))
 
-pub bit-pair : (k : ℕ) → k < 55 → getD candidates k noPair ≡ pairOf (k / 11 + 1) (k % 11)
+pub bit-pair : (k : ℕ) → k < bitPairs → getD candidates k noPair ≡ pairOf (k / bits + 1) (k % bits)
 unfolding candidates rows
-bit-pair k h = is-same _ _ (passes (λ k. is (getD candidates k noPair) (pairOf (k / 11 + 1) (k % 11))) 55 k refl h)
+bit-pair k h = is-same _ _ (passes (λ k. is (getD candidates k noPair) (pairOf (k / bits + 1) (k % bits))) bitPairs k refl h)
 
-pub row-pair : (k : ℕ) → k < 33 → getD candidates (55 + k) noPair ≡ pairOf 6 (getD rows k noRow .0)
+pub row-pair : (k : ℕ) → k < rowCount → getD candidates (bitPairs + k) noPair ≡ pairOf attributeGroup (getD rows k noRow .0)
 unfolding candidates rows
-row-pair k h = is-same _ _ (passes (λ k. is (getD candidates (55 + k) noPair) (pairOf 6 (getD rows k noRow .0))) 33 k refl h)
+row-pair k h = is-same _ _ (passes (λ k. is (getD candidates (bitPairs + k) noPair) (pairOf attributeGroup (getD rows k noRow .0))) rowCount k refl h)
 
-pub row-read : (k m : ℕ) (r : Row) → m ≡ 55 + k → k < 33 → r ≡ getD rows k noRow → pairOf 6 (r .0) ≡ getD candidates m noPair
+pub row-read : (k m : ℕ) (r : Row) → m ≡ bitPairs + k → k < rowCount → r ≡ getD rows k noRow → pairOf attributeGroup (r .0) ≡ getD candidates m noPair
 row-read k m r e h f = rw (e, f, row-pair k h)
 
-pub length-rows : length rows ≡ 33
+pub length-rows : length rows ≡ rowCount
 unfolding rows
 length-rows = refl
 
-pub length-candidates : length candidates ≡ 88
+pub length-candidates : length candidates ≡ pairCount
 unfolding candidates rows
 length-candidates = refl

@@ -9,5 +9,6 @@ use Rattle.conformance.specs.Report.{inRange, flat}
 use Rattle.conformance.specs.Examples.{examples, Witnessed}
 
 pub witnessed : Witnessed
-unfolding Witnessed examples inRange flat breaches keep candidates broken bitRules lacksNeed clashes lacksSupply lacksRequired hasInvalid lacksAttribute mandatory conditionIn conditions rows required invalid member bit
+unfolding Witnessed examples inRange flat breaches keep candidates broken bitRules lacksNeed clashes lacksSupply lacksRequired hasInvalid
+    lacksAttribute mandatory conditionIn conditions rows required invalid member bit
 witnessed = (refl, refl)

@@ -7,6 +7,7 @@ use native.Mathlib.Nat.{zero-add}
 use native.Mathlib.Omega.{arith}
 use lib.ListN.{length, getD, drop}
 use lib.Seq.{sets, sets-eq, length-sets}
+use Rattle.conformance.specs.Sizes.{pairCount}
 use Rattle.conformance.specs.Lists.{front}
 use Rattle.conformance.specs.Rules.{broken, brokenIn, candidates, noPair}
 use Rattle.conformance.specs.Report.{flat}
@@ -27,12 +28,12 @@ unfolding front
 start i listed old h = record { long = refl; room = omega arith; rest = sets-eq (left i listed 0) old 0 (omega arith) ∙ rw (zero-add) }
 
 module _ {i : Inputs} {listed : ℕ → Bool} {old pairs : List ℕ} {at k : ℕ} (w : Written i listed old pairs at k) where
-  pub end : 88 ≤ k → pairs ≡ front (left i listed 0) old
+  pub end : pairCount ≤ k → pairs ≡ front (left i listed 0) old
   unfolding flat
   end h = rw (left-none i listed k h) at (w .rest)
 
   -- the pair at k is a breach, as the code found, or it is none
-  module _ {b : Bool} (h : k < 88) (found : b ≡ broken i listed (getD candidates k noPair)) where
+  module _ {b : Bool} (h : k < pairCount) (found : b ≡ broken i listed (getD candidates k noPair)) where
     pub room-for : b ≡ true → at + 1 < length pairs
     unfolding flat
     room-for e = omega (arith, ap (λ ps. length (flat ps)) (left-yes i listed k h found e))

@@ -2,8 +2,9 @@
 use Prim.Native.Nat.{ℕ, _*_}
 use mathlib.Core.Bool.{Bool, not, _&&_, cond}
 use mathlib.Core.List.{List, [], _∷_}
-use lib.Dec.{ltb, eqb}
+use lib.Dec.{ltb, leb, eqb}
 use lib.ListN.{length}
+use Rattle.conformance.specs.Sizes.{types, maps, phaseCount, directionKinds}
 use Rattle.conformance.specs.Lists.{ascends, firstOf, front}
 use Rattle.conformance.specs.Rules.{breaches}
 use Rattle.conformance.specs.declared.Inputs.{Inputs}
@@ -12,7 +13,8 @@ use Rattle.conformance.specs.declared.breaches.Pair.{Pair}
 
 -- endpoint type 0 to 10, an 11-bit feature map, phase count 1 to 3, directions 0 to 2
 unfoldable pub inRange : Inputs → Bool
-inRange i = ltb (i .endpoint) 11 && ltb (i .features) 2048 && ltb 0 (i .phases) && ltb (i .phases) 4 && ltb (i .directions) 3
+inRange i =
+    ltb (i .endpoint) types && ltb (i .features) maps && ltb 0 (i .phases) && leb (i .phases) phaseCount && ltb (i .directions) directionKinds
 
 -- the refusal: 16, 17, 15 in that order. The room is counted in numbers, two a pair
 unfoldable pub numberOf : Inputs → List ℕ → ℕ → ℕ

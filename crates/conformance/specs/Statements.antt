@@ -1,10 +1,11 @@
--- What is proved of the list of breaches, beside the call's contract (proofs/Laws and proofs/Rises have the proofs).
-use Prim.Native.Nat.{ℕ, suc, _<_}
+-- What is proved of the list of breaches, beside the call's contract (proofs/Laws, proofs/Rises and proofs/Longest).
+use Prim.Native.Nat.{ℕ, suc, _<_, _≤_}
 use mathlib.Core.Bool.{true}
 use mathlib.Core.Path.{_≡_}
 use mathlib.Core.Logic.{_⊎_}
 use mathlib.Core.List.{List, [], _∷_, List·Memᴰ}
 use lib.ListN.{length, getD}
+use Rattle.conformance.specs.Sizes.{longest}
 use Rattle.conformance.specs.Lists.{member, ascends}
 use Rattle.conformance.specs.Rules.{broken, breaches}
 use Rattle.conformance.specs.Report.{inRange}
@@ -45,3 +46,9 @@ unfoldable pub Sound : Type 0
 Sound =
     (i : Inputs) (attributes : List ℕ) → inRange i ≡ true
     → (breaches i attributes ≡ [] → (p : Pair) → Breaks i attributes p → ⊥) × (((p : Pair) → Breaks i attributes p → ⊥) → breaches i attributes ≡ [])
+
+-- no report is longer than the longest, and one device has that one
+unfoldable pub Longest : Type 0
+Longest =
+    ((i : Inputs) (attributes : List ℕ) → inRange i ≡ true → length (breaches i attributes) ≤ longest)
+    × ((i : Inputs) × (inRange i ≡ true) × (length (breaches i []) ≡ longest))

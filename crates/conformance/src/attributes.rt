@@ -5,6 +5,7 @@ ghost use mathlib.Core.List.{foldl};
 ghost use Prim.Native.Nat.{_<_};
 ghost use lib.ListN.{getD, set};
 ghost use Rattle.conformance.specs.Attributes.{noRow, conditions, rows};
+ghost use Rattle.conformance.specs.Sizes.{rowCount};
 ghost use Rattle.conformance.specs.Lists.{marked};
 use crate::Inputs;
 use crate::features::ASYMMETRIC;
@@ -13,14 +14,11 @@ use crate::features::FORECAST;
 use crate::features::PROCESS;
 use crate::features::V2X;
 use crate::features::has;
+use crate::sizes::CONDITIONS;
+use crate::sizes::ROWS;
 
 // A row of the table: the attribute's number, and the code of its condition. Bytes, since a constant is laid out at each use.
 pub struct Row(pub u8, pub u8);
-
-pub const ROWS: usize = 33;
-
-// One more than the largest number of the table.
-pub const NUMBERS: usize = 82;
 
 const OPTIONAL: u8 = 0;
 
@@ -49,8 +47,6 @@ const IF_FORECAST: u8 = 11;
 const IF_OUT: u8 = 12;
 
 const IF_PROCESS_STATE: u8 = 13;
-
-const CONDITIONS: usize = 14;
 
 const TABLE: [Row; ROWS] = [
     Row(1, ALWAYS), // deviceType
@@ -89,7 +85,7 @@ const TABLE: [Row; ROWS] = [
 ];
 
 pub fn row_at(k: usize) -> Row
-    requires { ⌜ k < 33 ⌝ }
+    requires { ⌜ k < rowCount ⌝ }
     ensures { λ r. ⌜ r ≡ getD rows k noRow ⌝ }
 {
     TABLE[k]

@@ -4,30 +4,33 @@ ghost use mathlib.Core.List.{_∷_, []};
 ghost use Prim.Native.Nat.{_+_, _≤_, _<_};
 ghost use lib.ListN.{length, getD};
 ghost use lib.Seq.{sets};
+ghost use Rattle.conformance.specs.Sizes.{types, rowCount, pairCount};
 ghost use Rattle.conformance.specs.Lists.{flagged, front};
 ghost use Rattle.conformance.specs.Attributes.{rows, noRow, conditions};
 ghost use Rattle.conformance.specs.Rules.{lacksAttribute, broken, candidates, noPair, brokenIn};
 ghost use Rattle.conformance.specs.Report.{flat};
 use crate::Inputs;
-use crate::attributes::ROWS;
 use crate::attributes::flag;
 use crate::attributes::row_at;
-use crate::features::BITS;
 use crate::rules::broken_bit;
+use crate::sizes::ATTRIBUTE_GROUP;
+use crate::sizes::BIT_GROUPS;
+use crate::sizes::BITS;
+use crate::sizes::ROWS;
 
 pub struct Pair {
     pub group: u64,
     pub number: u64,
 }
 
-// Eleven bits in each of the groups 1 to 5, then the rows of the table.
-const BIT_PAIRS: usize = 5 * BITS;
+// Each bit in each of its groups, then the rows of the table.
+const BIT_PAIRS: usize = BIT_GROUPS * BITS;
 
 const CANDIDATES: usize = BIT_PAIRS + ROWS;
 
 // The k-th pair that can stand in a report.
 fn candidate(k: usize) -> Pair
-    requires { ⌜ k < 88 ⌝ }
+    requires { ⌜ k < pairCount ⌝ }
     ensures { λ r. ⌜ r ≡ getD candidates k noPair ⌝ }
 {
     if k < BIT_PAIRS {
@@ -38,14 +41,14 @@ fn candidate(k: usize) -> Pair
     }
     let r = row_at(k - BIT_PAIRS);
     Pair {
-        group: 6,
+        group: ATTRIBUTE_GROUP,
         number: r.0 as u64,
     }
 }
 
 // Group 6: whether the attribute of a row is mandatory and not listed. Not applied to DEVICE_ROOT, type 0.
 fn lacks_attribute(i: Inputs, holds: &[bool], listed: &[bool], k: usize) -> bool
-    requires { ⌜ (k < 33) × (now holds ≡ conditions i) ⌝ }
+    requires { ⌜ (k < rowCount) × (now holds ≡ conditions i) ⌝ }
     ensures { λ r. ⌜ r ≡ lacksAttribute i (flagged (now (listed .entry))) (getD rows k noRow .0) ⌝ }
 {
     let r = row_at(k);
@@ -54,7 +57,7 @@ fn lacks_attribute(i: Inputs, holds: &[bool], listed: &[bool], k: usize) -> bool
 
 // Whether the rule of the k-th pair is broken.
 fn is_broken(i: Inputs, holds: &[bool], listed: &[bool], k: usize) -> bool
-    requires { ⌜ (i .endpoint < 11) × (k < 88) × (now holds ≡ conditions i) ⌝ }
+    requires { ⌜ (i .endpoint < types) × (k < pairCount) × (now holds ≡ conditions i) ⌝ }
     ensures { λ r. ⌜ r ≡ broken i (flagged (now (listed .entry))) (getD candidates k noPair) ⌝ }
 {
     if k < BIT_PAIRS {
@@ -65,7 +68,7 @@ fn is_broken(i: Inputs, holds: &[bool], listed: &[bool], k: usize) -> bool
 
 // How many pairs the report has.
 pub fn count(i: Inputs, holds: &[bool], listed: &[bool]) -> usize
-    requires { ⌜ (i .endpoint < 11) × (now holds ≡ conditions i) ⌝ }
+    requires { ⌜ (i .endpoint < types) × (now holds ≡ conditions i) ⌝ }
     ensures { λ r. ⌜ r ≡ length (brokenIn i (flagged (now (listed .entry))) candidates) ⌝ }
 {
     let mut n: usize = 0;
@@ -89,7 +92,7 @@ fn put(pairs: &mut [u64], at: usize, p: Pair)
 
 // The report's pairs, from the front of the buffer, which has the room.
 pub fn write(i: Inputs, holds: &[bool], listed: &[bool], pairs: &mut [u64])
-    requires { ⌜ (i .endpoint < 11) × (now holds ≡ conditions i) ⌝ }
+    requires { ⌜ (i .endpoint < types) × (now holds ≡ conditions i) ⌝ }
     requires { ⌜ length (flat (brokenIn i (flagged (now listed)) candidates)) ≤ length (now pairs) ⌝ }
     ensures { λ _. ⌜ now (pairs .exit) ≡ front (flat (brokenIn i (flagged (now (listed .entry))) candidates)) (now (pairs .entry)) ⌝ }
 {

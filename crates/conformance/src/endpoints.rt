@@ -2,6 +2,7 @@
 ghost use mathlib.Core.Path.{_≡_};
 ghost use Prim.Native.Nat.{_<_};
 ghost use Rattle.conformance.specs.Endpoints.{required, invalid, bitsOf};
+ghost use Rattle.conformance.specs.Sizes.{types, bits};
 ghost use Rattle.conformance.specs.Lists.{member};
 use crate::features::BATTERY;
 use crate::features::CORE;
@@ -10,8 +11,8 @@ use crate::features::FLEX;
 use crate::features::PROCESS;
 use crate::features::V2X;
 use crate::features::has;
-
-const TYPES: usize = 11;
+use crate::sizes::MAPS;
+use crate::sizes::TYPES;
 
 // What most types forbid: the bits of batteries and of vehicles.
 const STORES: u16 = 1 << BATTERY | 1 << EMOB | 1 << V2X;
@@ -31,7 +32,7 @@ const REQUIRED: [u16; TYPES] = [
 ];
 
 const INVALID: [u16; TYPES] = [
-    2047, // DEVICE_ROOT
+    MAPS as u16 - 1, // DEVICE_ROOT
     STORES | 1 << FLEX | 1 << PROCESS, // GRID_CONNECTION
     STORES, // INVERTER
     STORES | 1 << FLEX | 1 << PROCESS, // PV_STRING
@@ -52,7 +53,7 @@ fn wide(mask: u16) -> u64
 
 // Whether an endpoint type requires a bit.
 pub fn requires_bit(endpoint: u64, b: u64) -> bool
-    requires { ⌜ (endpoint < 11) × (b < 11) ⌝ }
+    requires { ⌜ (endpoint < types) × (b < bits) ⌝ }
     ensures { λ r. ⌜ r ≡ member b (bitsOf required endpoint) ⌝ }
 {
     has(wide(REQUIRED[endpoint as usize]), b)
@@ -60,7 +61,7 @@ pub fn requires_bit(endpoint: u64, b: u64) -> bool
 
 // Whether an endpoint type forbids a bit.
 pub fn forbids_bit(endpoint: u64, b: u64) -> bool
-    requires { ⌜ (endpoint < 11) × (b < 11) ⌝ }
+    requires { ⌜ (endpoint < types) × (b < bits) ⌝ }
     ensures { λ r. ⌜ r ≡ member b (bitsOf invalid endpoint) ⌝ }
 {
     has(wide(INVALID[endpoint as usize]), b)

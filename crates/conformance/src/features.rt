@@ -3,8 +3,6 @@ ghost use mathlib.Core.Path.{_≡_};
 ghost use Prim.Native.Nat.{_<_};
 ghost use Rattle.conformance.specs.Features.{bit};
 
-pub const BITS: usize = 11;
-
 pub const CORE: u64 = 0;
 
 pub const FLEX: u64 = 1;

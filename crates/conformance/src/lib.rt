@@ -4,16 +4,21 @@ mod breaches;
 mod endpoints;
 mod features;
 mod rules;
+mod sizes;
 
 ghost use mathlib.Core.Path.{_≡_};
 ghost use lib.ListN.{length};
 ghost use Rattle.conformance.specs.Lists.{ascends};
 ghost use Rattle.conformance.specs.Report.{inRange, reportOf, pairsAfter};
-use attributes::NUMBERS;
 use attributes::conditions;
 use attributes::mark_listed;
 use breaches::count;
 use breaches::write;
+use sizes::DIRECTIONS;
+use sizes::MAPS;
+use sizes::NUMBERS;
+use sizes::PHASES;
+use sizes::TYPES;
 
 // What a device says of itself. Numbers are wider than their ranges, so that one out of range can be told and refused.
 #[repr(C)]
@@ -38,7 +43,11 @@ pub struct Answer {
 fn in_range(i: Inputs) -> bool
     ensures { λ r. ⌜ r ≡ inRange i ⌝ }
 {
-    (i.endpoint < 11) & (i.features < 2048) & (0 < i.phases) & (i.phases < 4) & (i.directions < 3)
+    (i.endpoint < TYPES as u64)
+        & (i.features < MAPS)
+        & (0 < i.phases)
+        & (i.phases <= PHASES)
+        & (i.directions < DIRECTIONS)
 }
 
 // Whether each number of the list is above the one before it.

@@ -3,6 +3,7 @@ ghost use mathlib.Core.Path.{_≡_};
 ghost use mathlib.Core.Bool.{false};
 ghost use Prim.Native.Nat.{_<_};
 ghost use lib.ListN.{getD};
+ghost use Rattle.conformance.specs.Sizes.{types, bits, bitGroups};
 ghost use Rattle.conformance.specs.Rules.{need, lacksNeed, clashes, lacksSupply, lacksRequired, hasInvalid, bitRules};
 use crate::Inputs;
 use crate::endpoints::forbids_bit;
@@ -22,7 +23,7 @@ fn need(b: u64) -> u64
 }
 
 fn lacks_need(i: Inputs, b: u64) -> bool
-    requires { ⌜ b < 11 ⌝ }
+    requires { ⌜ b < bits ⌝ }
     ensures { λ r. ⌜ r ≡ lacksNeed i b ⌝ }
 {
     has(i.features, b) & !has(i.features, need(b))
@@ -43,14 +44,14 @@ fn lacks_supply(i: Inputs, b: u64) -> bool
 }
 
 fn lacks_required(i: Inputs, b: u64) -> bool
-    requires { ⌜ (i .endpoint < 11) × (b < 11) ⌝ }
+    requires { ⌜ (i .endpoint < types) × (b < bits) ⌝ }
     ensures { λ r. ⌜ r ≡ lacksRequired i b ⌝ }
 {
     requires_bit(i.endpoint, b) & !has(i.features, b)
 }
 
 fn has_invalid(i: Inputs, b: u64) -> bool
-    requires { ⌜ (i .endpoint < 11) × (b < 11) ⌝ }
+    requires { ⌜ (i .endpoint < types) × (b < bits) ⌝ }
     ensures { λ r. ⌜ r ≡ hasInvalid i b ⌝ }
 {
     forbids_bit(i.endpoint, b) & has(i.features, b)
@@ -58,7 +59,7 @@ fn has_invalid(i: Inputs, b: u64) -> bool
 
 // Whether the rule of one of the groups 1 to 5 is broken for a bit.
 pub fn broken_bit(i: Inputs, group: usize, b: u64) -> bool
-    requires { ⌜ (i .endpoint < 11) × (group < 5) × (b < 11) ⌝ }
+    requires { ⌜ (i .endpoint < types) × (group < bitGroups) × (b < bits) ⌝ }
     ensures { λ r. ⌜ r ≡ getD (bitRules i b) group false ⌝ }
 {
     match group {

@@ -10,6 +10,7 @@ use Rattle.store.specs.Zones.{freeZone, newZone, linked, slotOf, joined, zoneOf
 use Rattle.store.specs.Words.{clockOf, sinceOf, overrideOf, settingsOf, zonesOf, headChange, after}
 use Rattle.holds.specs.Links.{sinceAfter}
 use Rattle.holds.specs.Holds.{situationOf, valuesAt}
+use Rattle.rules.specs.Rules.{badJoin, goTogether}
 use Rattle.device.specs.Refusals.{firstOf, late}
 use Rattle.store.specs.declared.Zone.{Zone}
 use Rattle.store.specs.declared.Change.{Change}

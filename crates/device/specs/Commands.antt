@@ -1,31 +1,20 @@
 -- A command as a call to the device: its number, what it leaves, and what is answered.
-use Prim.Native.Nat.{ℕ, zero, suc, _+_, min}
-use mathlib.Core.Bool.{Bool, true, false, cond, not, _&&_, _||_}
+use Prim.Native.Nat.{ℕ}
+use mathlib.Core.Bool.{Bool, cond, not}
 use mathlib.Core.List.{List, [], _∷_}
-use lib.Dec.{ltb, leb, eqb}
-use lib.ListN.{getD}
-use lib.IntN.{ℤ, pos, negsuc}
-use Rattle.messages.specs.Numbers.{belowMinimum, aboveContractual, invalidValue, overrideSet, notSupported}
-use Rattle.messages.specs.declared.Amount.{Amount}
-use Rattle.messages.specs.declared.Amount.the-variants.{Absent, Is}
-use Rattle.messages.specs.declared.Field.{Field}
-use Rattle.messages.specs.declared.Target.{Target}
-use Rattle.messages.specs.declared.Aim.{Aim}
-use Rattle.messages.specs.declared.Limits.{Limits}
-use Rattle.messages.specs.declared.Setpoints.{Setpoints}
+use lib.Dec.{eqb}
 use Rattle.messages.specs.declared.Command.{Command}
 use Rattle.messages.specs.declared.Outcome.{Outcome}
-use Rattle.store.specs.Sizes.{helds, slots, most}
-use Rattle.store.specs.Zones.{upTo, nothing, freeZone, holding, slotOf, joined, zoneOf, heldOf}
+use Rattle.store.specs.Sizes.{slots}
+use Rattle.store.specs.Zones.{freeZone, slotOf, joined, zoneOf}
 use Rattle.store.specs.Words.{clockOf, sinceOf, overrideOf, settingsOf, zonesOf, after}
-use Rattle.holds.specs.Holds.{isLimit, directionOf, supports, situationOf, withZone, valuesAt}
+use Rattle.store.specs.declared.Settings.{Settings}
+use Rattle.holds.specs.Holds.{situationOf, withZone, valuesAt}
+use Rattle.command.specs.Content.{isUnserved, contentTests}
+use Rattle.command.specs.Obeys.{obeyed}
+use Rattle.command.specs.Outcomes.{isCapped, outcomeWith}
 use Rattle.device.specs.Refusals.{firstOf, late}
 use Rattle.device.specs.Calls.{zoneChange}
-use Rattle.store.specs.declared.Held.{Held}
-use Rattle.store.specs.declared.Zone.{Zone}
-use Rattle.store.specs.declared.Settings.{Settings}
-use Rattle.command.specs.declared.Action.{Action}
-use Rattle.command.specs.declared.said.Kind.{Kind}
 use Rattle.device.specs.declared.Decision.{Decision}
 use Rattle.device.specs.declared.Answer.{Answer}
 

@@ -6,6 +6,7 @@ use lib.Dec.{ltb, leb, eqb}
 use lib.ListN.{getD}
 use Rattle.store.specs.Sizes.{most, valueEnd}
 use Rattle.store.specs.Words.{fresh}
+use Rattle.rules.specs.Rules.{badSettings}
 use Rattle.device.specs.Refusals.{firstOf}
 use Rattle.store.specs.declared.Settings.{Settings}
 

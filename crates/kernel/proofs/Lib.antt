@@ -1,3 +1,4 @@
+pub mod Door
 pub mod InRange
 pub mod Unserved
 pub mod Framing

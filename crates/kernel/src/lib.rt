@@ -13,8 +13,22 @@
 // ask(d, t)                             5; the control state, limits and setpoints at t, -1 absent
 // frame(d, zone, t, bytes, out)         1, 2, 3, 4, 5, 9 to 15; the response frame from the front of `out`
 // plan(d, t, rows)                      5, 15; rows of six numbers from the front of `rows`
+// read_request, write_request           1, 2, 3, 4; 3, 4, 15; for the other side of the wire
+// read_response, write_response         4, 1, 2, 3; 4, 3, 15; likewise
+// report(inputs, attributes, pairs)     16, 17, 15; the conformance report, from the front of `pairs`
+//
+// A signed number at the edge: `shown` writes an amount as one, -1 for absent, `is_negative` and `natural_of` read one.
 mod frame_call; // frame_call.rt: bytes in, the device, bytes out
 
+pub use conformance::Answer as Reported;
+pub use conformance::Inputs;
+pub use conformance::report;
+pub use device::Asked;
+pub use device::MOST;
+pub use device::Settings;
+pub use device::State;
+pub use device::VALUES;
+pub use device::WORDS;
 pub use device::calls::ask;
 pub use device::calls::back;
 pub use device::calls::clear_override;
@@ -23,6 +37,17 @@ pub use device::calls::leave;
 pub use device::calls::lost;
 pub use device::calls::set_override;
 pub use device::calls::start;
+pub use command::is_negative;
+pub use command::natural_of;
+pub use holds::shown;
 pub use frame_call::Framed;
 pub use frame_call::frame;
+pub use frames::Answer;
+pub use frames::Reading;
+pub use frames::Written;
+pub use frames::read_request;
+pub use frames::read_response;
+pub use frames::write_request;
+pub use frames::write_response;
+pub use planner::Planned;
 pub use planner::plan;

@@ -11,7 +11,7 @@ use Rattle.text.specs.Text.{decimal}
 use Rattle.text.specs.Pieces.{putAll, pastAll}
 use Rattle.text.proofs.Pieces.{pieces-more}
 use Rattle.device.specs.Calls.{joinNumber, joinAfter, leaveNumber, leaveAfter, linkNumber, linkAfter, overrideNumber, overrideAfter, clearNumber, clearAfter, askNumber, askAnswer, askAfter}
-use Rattle.device.specs.Holds.{situationOf}
+use Rattle.holds.specs.Holds.{situationOf}
 use Rattle.planner.specs.Plan.{planOf, numbersOf, planNumber, planAnswer, planAfter, front, planSlice}
 use Rattle.kernel.specs.Frame.{frameNumber, frameAnswer, frameOut}
 use Rattle.records.specs.Kinds.{head, longest}

@@ -17,7 +17,7 @@ use Rattle.bytes.proofs.Order.{below}
 use Rattle.text.specs.Text.{decimal}
 use Rattle.text.specs.Pieces.{putAll, pastAll}
 use Rattle.text.proofs.Pieces.{whole-length, pieces-more, pieces-length}
-use Rattle.planner.specs.Plan.{rowSize}
+use Rattle.kernel.specs.Door.{rowSize}
 use Rattle.script.specs.Answers.{cell, rowPieces, tablePieces}
 
 -- a cell by its sign

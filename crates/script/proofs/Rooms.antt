@@ -11,23 +11,23 @@ use lib.IntN.{ℤ, pos, ℤ-discrete}
 use lib.ListN.{length, take, drop, length-append}
 use lib.Seq.{take-at, drop-at}
 use borrow.Author.Tests.{le-ltb, le-leb}
-use Rattle.cbor.specs.Bytes.{bytesOf}
+use Rattle.bytes.specs.Bytes.{bytesOf}
 use Rattle.cbor.specs.Head.{headBytes}
 use Rattle.cbor.specs.Item.{Item, Pairs, encode, encodePairs, countPairs}
 use Rattle.cbor.proofs.Widths.{head-length, head-short}
-use Rattle.cbor.proofs.Numbers.{bytes-length}
+use Rattle.bytes.proofs.NumberLaws.{bytes-length}
 use Rattle.messages.specs.declared.Amount.{Amount}
 use Rattle.messages.specs.declared.Outcome.{Outcome}
 use Rattle.messages.specs.declared.Response.{Response}
 use Rattle.messages.specs.Refusals.{firstOf}
 use Rattle.frames.specs.Prefix.{frameOf}
-use Rattle.frames.specs.Fields.{truthItem, amountItem, withField, present}
+use Rattle.map_fields.specs.Fields.{truthItem, amountItem, withField, present}
 use Rattle.frames.specs.Responses.{limitFields, setpointFields, clearFields, outcomeItem, responseFields, responseItem}
 use Rattle.frames.specs.Requests.{readRequest}
 use Rattle.frames.specs.Writing.{itemFrame, writingNumber}
 use Rattle.frames.specs.declared.requests.Reading.{Reading}
-use Rattle.device.specs.Sizes.{helds}
-use Rattle.device.specs.Holds.{situationOf, valuesAt}
+use Rattle.store.specs.Sizes.{helds}
+use Rattle.holds.specs.Holds.{situationOf, valuesAt}
 use Rattle.planner.specs.Rows.{last, rowsOf, plan}
 use Rattle.planner.specs.Plan.{planOf, rowSize, numbersOf, planNumber}
 use Rattle.planner.proofs.Walk.{planOf-few}

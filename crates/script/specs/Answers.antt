@@ -4,7 +4,7 @@ use mathlib.Core.List.{List, [], _∷_, _++_}
 use lib.IntN.{ℤ, pos, negsuc}
 use lib.ListN.{take, drop}
 use Rattle.text.specs.Text.{decimal}
-use Rattle.planner.specs.Plan.{rowSize}
+use Rattle.kernel.specs.Door.{rowSize}
 
 -- a number of a row, "absent as `-`"
 unfoldable pub cell : ℤ → List ℕ

@@ -9,13 +9,13 @@ use lib.IntN.{ℤ, pos}
 use lib.ListN.{length, getD, drop}
 use Rattle.text.specs.Text.{decimal}
 use Rattle.text.specs.Pieces.{putAll, pastAll, joined}
-use Rattle.device.specs.Sizes.{slots, helds, most}
-use Rattle.device.specs.Holds.{situationOf}
+use Rattle.store.specs.Sizes.{slots, helds, most}
+use Rattle.holds.specs.Holds.{situationOf}
 use Rattle.device.specs.Calls.{joinNumber, joinAfter, leaveNumber, leaveAfter, linkNumber, linkAfter, overrideNumber, overrideAfter, clearNumber, clearAfter, askNumber, askAfter}
 use Rattle.device.specs.Start.{startAfter}
-use Rattle.device.specs.declared.Settings.{Settings}
+use Rattle.store.specs.declared.Settings.{Settings}
 use Rattle.frames.specs.Requests.{readRequest}
-use Rattle.frames.specs.Puts.{payloadRoom}
+use Rattle.frames.specs.Sizes.{payloadRoom}
 use Rattle.planner.specs.Plan.{planOf, rowSize, numbersOf, planNumber, planAfter}
 use Rattle.kernel.specs.Frame.{responseFrame, frameNumber, frameAfter}
 use Rattle.records.specs.Records.{recordAt}

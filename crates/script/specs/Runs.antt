@@ -5,8 +5,8 @@ use mathlib.Core.List.{List}
 use lib.Dec.{eqb}
 use lib.IntN.{ℤ}
 use lib.ListN.{length, getD, take, drop}
-use Rattle.device.specs.Calls.{joinNumber, joinAfter, leaveNumber, leaveAfter, linkNumber, linkAfter, overrideNumber, overrideAfter, clearNumber, clearAfter, askAnswer, askAfter}
-use Rattle.planner.specs.Plan.{planAnswer, planAfter, planSlice}
+use Rattle.kernel.specs.Door.{joinNumber, joinAfter, leaveNumber, leaveAfter, linkNumber, linkAfter, overrideNumber, overrideAfter, clearNumber, clearAfter, askAnswer, askAfter}
+use Rattle.kernel.specs.Door.{planAnswer, planAfter, planSlice}
 use Rattle.kernel.specs.Frame.{frameAnswer, frameAfter, frameOut}
 use Rattle.records.specs.Kinds.{join, leave, lost, back, frame, plan, override, clear}
 use Rattle.records.specs.Records.{recordAt}

@@ -6,11 +6,11 @@ ghost use lib.Dec.{ltb};
 ghost use lib.ListN.{length, take, drop};
 ghost use Rattle.bytes.specs.Bytes.{putWhole, pastWhole};
 ghost use Rattle.text.specs.Pieces.{putAll, pastAll};
-ghost use Rattle.planner.specs.Plan.{rowSize};
+ghost use Rattle.kernel.specs.Door.{rowSize};
 ghost use Rattle.script.specs.Answers.{cell, rowPieces, tablePieces, answerPieces};
 
 // How many numbers a row has: the second, and what holds from then on.
-const ROW: usize = 1 + device::VALUES;
+const ROW: usize = 1 + kernel::VALUES;
 
 fn put_cell(out: &mut [u8], at: usize, n: i64) -> usize
     ensures { λ r. ⌜ r ≡ pastWhole (now (out .entry)) at (cell n) ⌝ }

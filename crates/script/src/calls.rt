@@ -1,6 +1,6 @@
 // The call that a record makes, and its run on a device.
 use bytes::byte_at;
-use device::State;
+use kernel::State;
 use records::Record;
 use records::Scan;
 use records::read_record;

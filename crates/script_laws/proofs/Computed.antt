@@ -17,25 +17,33 @@ use Rattle.records.specs.Records.{isMark, fieldsAt, good, recordAt}
 use Rattle.messages.specs.declared.Field.{Field}
 use Rattle.messages.specs.declared.Command.{Command}
 use Rattle.messages.specs.declared.Request.{Request}
-use Rattle.cbor.specs.Bytes.{numberAt as cborNumber}
 use Rattle.cbor.specs.Head.{infoOf, widthOf, argAt, headAt}
 use Rattle.cbor.specs.Item.{itemsAt, keyAt, pairsAt, fromHead, itemAt, payloadOf}
-use Rattle.cbor.specs.Int.{intOf}
 use Rattle.cbor.specs.Find.{valueOf}
 use Rattle.frames.specs.Prefix.{framed}
-use Rattle.frames.specs.Fields.{upTo as fieldUpTo, truth, mapIn, signed, needed, optional, durationIn, valueIn}
+use Rattle.map_fields.specs.Fields.{upTo as fieldUpTo}
+use Rattle.map_fields.specs.Fields.{truth, mapIn, signed, needed, optional, durationIn, valueIn}
 use Rattle.frames.specs.Requests.{envelopeIn, servedCommand, servedAt, limitsIn, commandIn, fromEnvelope, fromPayload, readRequest}
 use Rattle.frames.specs.Writing.{writingNumber}
 use Rattle.frames.specs.declared.requests.Reading.{Reading}
 use Rattle.kernel.specs.Frame.{responseFrame, numberFrom, obeyedBy, frameNumber, frameAfter}
-use Rattle.device.specs.Zones.{upTo, first, any, idOf, rankOf, isJoined, isUp, slotOf, joined as joinedIn, zoneOf, heldOf, anyJoined, anyUp}
-use Rattle.device.specs.Words.{settingsOf, heldIn, zoneAt, zonesOf, bit, heldWords, putZone, applied, after, settingWords, fresh}
-use Rattle.device.specs.Holds.{situationOf, supports, claimOf, goesBefore, better, winner, inFailsafe, failsafeValue, valueAt, present, stateAt, shown, valuesAt}
-use Rattle.device.specs.Dues.{zoneDues, heldDues, dues, nearer, nearest}
+use Rattle.store.specs.Zones.{upTo, first, any, idOf, rankOf, isJoined, isUp, slotOf, zoneOf, heldOf, anyJoined, anyUp}
+use Rattle.store.specs.Zones.{joined as joinedIn}
+use Rattle.store.specs.Words.{settingsOf, heldIn, zoneAt, zonesOf, bit, heldWords, putZone, applied, after, settingWords, fresh}
+use Rattle.holds.specs.Holds.{situationOf, supports, claimOf, goesBefore, better, winner, inFailsafe, failsafeValue, valueAt, present, stateAt, shown, valuesAt}
+use Rattle.holds.specs.Dues.{zoneDues, heldDues, dues, nearer, nearest}
 use Rattle.device.specs.Refusals.{firstOf, late}
-use Rattle.device.specs.Calls.{sinceAfter, zoneChange, headChange, badJoin, joinNumber, joinAfter}
-use Rattle.device.specs.Commands.{unsupported, invalid, tooLow, belowTheMinimum, commandNumber, fieldAction, targetAction, aimAction, action, untilOf, done, obeyed, commandAfter, isCapped, reasonOf, outcomeWith, commandAnswer}
-use Rattle.device.specs.Start.{badMaximum, badSettings, startAfter}
+use Rattle.holds.specs.Links.{sinceAfter}
+use Rattle.device.specs.Calls.{zoneChange, joinNumber, joinAfter}
+use Rattle.store.specs.Words.{headChange}
+use Rattle.rules.specs.Rules.{badJoin}
+use Rattle.command.specs.Says.{says, someOf}
+use Rattle.command.specs.Content.{unsupported, invalid, tooLow, belowTheMinimum}
+use Rattle.device.specs.Commands.{commandNumber, commandAfter, commandAnswer}
+use Rattle.command.specs.Obeys.{fieldAction, action, untilOf, done, obeyed}
+use Rattle.command.specs.Outcomes.{isCapped, reasonOf, outcomeWith}
+use Rattle.rules.specs.Rules.{badMaximum, badSettings}
+use Rattle.device.specs.Start.{startAfter}
 use Rattle.planner.specs.Plan.{planOf, numbersOf, planNumber}
 use Rattle.planner.specs.Walk.{sameNumber, alike, step, walk}
 use Rattle.planner.proofs.Walk.{planOf-walk}

@@ -1,6 +1,6 @@
 use Rattle.capi.specs.Requests.{commandOf}
 use borrow.Author.Tests.{eq-eqb, ne-eqb}
-use Rattle.store.proofs.Tests.{via}
+use Rattle.kernel.proofs.Door.{via}
 use borrow.Author.Needs.{needs}
 use Rattle.capi.proofs.requests.command_of.Statement.{statement}
 use Rattle.capi.proofs.requests.command_of.Tie as tie

@@ -1,6 +1,6 @@
 use mir.Facts.{toZ-ofZ}
 use Rattle.capi.proofs.Amounts.{left-out, too-low, put-in}
-use Rattle.store.proofs.Tests.{via}
+use Rattle.kernel.proofs.Door.{via}
 use borrow.Author.Needs.{needs}
 use Rattle.capi.proofs.responses.amount_of.Statement.{statement}
 use Rattle.capi.proofs.responses.amount_of.Tie as tie

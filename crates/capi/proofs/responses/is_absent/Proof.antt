@@ -1,4 +1,4 @@
-use Rattle.planner.proofs.Alike.{same-bits}
+use Rattle.kernel.proofs.Door.{same-bits}
 use borrow.Author.Needs.{needs}
 use Rattle.capi.proofs.responses.is_absent.Statement.{statement}
 use Rattle.capi.proofs.responses.is_absent.Tie as tie

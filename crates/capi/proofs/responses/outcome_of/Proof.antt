@@ -3,7 +3,7 @@ use Rattle.messages.specs.declared.Outcome.{Outcome}
 use Rattle.capi.proofs.Chosen.{first, second}
 use Rattle.capi.specs.Responses.{outcomeOf}
 use borrow.Author.Tests.{eq-eqb, ne-eqb}
-use Rattle.store.proofs.Tests.{via}
+use Rattle.kernel.proofs.Door.{via}
 use borrow.Author.Needs.{needs}
 use Rattle.capi.proofs.responses.outcome_of.Statement.{statement}
 use Rattle.capi.proofs.responses.outcome_of.Tie as tie

@@ -1,6 +1,7 @@
 use Prim.Native.Nat.{_-_}
 use native.Mathlib.Omega.{arith}
 use mathlib.Core.Path.{sym}
+use Rattle.conformance.specs.Sizes.{bitPairs}
 use Rattle.conformance.proofs.Tables.{bit-pair, row-read}
 use borrow.Author.Needs.{needs}
 use Rattle.conformance.proofs.breaches.candidate.Statement.{statement}
@@ -12,4 +13,4 @@ candidate-spec =
     (tie.spec
     (λ c. search needs) (λ c. sym (bit-pair (c .before .args .k) (c .if1 .taken))) (λ c κs. search needs)
     (λ c. search needs)
-    (λ c. row-read (c .before .before .before .args .k - 55) (c .before .before .before .args .k) _ (omega arith) (omega arith) (c .before .row-at .ensures)))
+    (λ c. row-read (c .before .before .before .args .k - bitPairs) (c .before .before .before .args .k) _ (omega arith) (omega arith) (c .before .row-at .ensures)))

@@ -2,16 +2,17 @@ use native.Mathlib.Nat.{zero-add}
 use Prim.Native.Nat.{_-_, _≤_}
 use mathlib.Core.Logic.{⊎-elim}
 use native.Mathlib.Omega.{arith}
+use Rattle.conformance.specs.Sizes.{pairCount}
 use Rattle.conformance.specs.Lists.{flagged}
 use Rattle.conformance.proofs.Counts.{Counted, counted, passed, end}
 use Rattle.conformance.proofs.breaches.count.Statement.{statement}
 use Rattle.conformance.proofs.breaches.count.Tie as tie
 
 abbrev Inv-loop : tie.InvT-loop
-Inv-loop i holds listed n₀ k₀ n k = (k ≤ 88) × (n ≤ k) × Counted i (flagged listed) n k
+Inv-loop i holds listed n₀ k₀ n k = (k ≤ pairCount) × (n ≤ k) × Counted i (flagged listed) n k
 
 abbrev μ-loop : tie.MeasureT-loop
-μ-loop i holds listed n₀ k₀ n k = 88 - k
+μ-loop i holds listed n₀ k₀ n k = pairCount - k
 
 pub count-spec : {M : Type 1} → statement M
 count-spec =

@@ -1,6 +1,7 @@
 use Prim.Native.Nat.{_-_}
 use mathlib.Core.Path.{_∙_}
 use native.Mathlib.Omega.{arith}
+use Rattle.conformance.specs.Sizes.{bitPairs}
 use Rattle.conformance.proofs.Candidates.{bit-broken, row-broken}
 use borrow.Author.Needs.{needs}
 use Rattle.conformance.proofs.breaches.is_broken.Statement.{statement}
@@ -13,4 +14,4 @@ is-broken-spec =
     (λ c κs. search needs)
     (λ c. c .broken-bit .ensures ∙ bit-broken (c .before .before .before .before .args .i) _ (c .before .before .before .before .args .k) (c .before .if1 .taken))
     (λ c κs. search needs)
-    (λ c. c .lacks-attribute .ensures ∙ row-broken (c .before .before .before .before .args .i) _ (c .before .before .before .before .args .k - 55) (c .before .before .before .before .args .k) (omega arith) (omega arith)))
+    (λ c. c .lacks-attribute .ensures ∙ row-broken (c .before .before .before .before .args .i) _ (c .before .before .before .before .args .k - bitPairs) (c .before .before .before .before .args .k) (omega arith) (omega arith)))

@@ -2,16 +2,17 @@ use mathlib.Core.Path.{_∙_}
 use Prim.Native.Nat.{_*_, _-_, _≤_}
 use mathlib.Core.Logic.{⊎-elim}
 use native.Mathlib.Omega.{arith}
+use Rattle.conformance.specs.Sizes.{pairCount}
 use Rattle.conformance.specs.Lists.{flagged}
 use Rattle.conformance.proofs.Writes.{Written, start, room-for, stored, passed, end}
 use Rattle.conformance.proofs.breaches.write.Statement.{statement}
 use Rattle.conformance.proofs.breaches.write.Tie as tie
 
 abbrev Inv-loop : tie.InvT-loop
-Inv-loop i holds listed pairs₀ at₀ k₀ pairs at k = (k ≤ 88) × (at ≤ 2 * k) × Written i (flagged listed) pairs₀ pairs at k
+Inv-loop i holds listed pairs₀ at₀ k₀ pairs at k = (k ≤ pairCount) × (at ≤ 2 * k) × Written i (flagged listed) pairs₀ pairs at k
 
 abbrev μ-loop : tie.MeasureT-loop
-μ-loop i holds listed pairs₀ at₀ k₀ pairs at k = 88 - k
+μ-loop i holds listed pairs₀ at₀ k₀ pairs at k = pairCount - k
 
 pub write-spec : {M : Type 1} → statement M
 write-spec =

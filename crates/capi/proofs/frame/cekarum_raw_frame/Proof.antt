@@ -1,0 +1,12 @@
+-- The call is the kernel's; its answer goes out as a number and a length.
+use mathlib.Core.Path.{ap}
+use borrow.Author.Needs.{needs}
+use Rattle.capi.proofs.frame.cekarum_raw_frame.Statement.{statement}
+use Rattle.capi.proofs.frame.cekarum_raw_frame.Tie as tie
+
+pub cekarum-raw-frame-spec : {M : Type 1} → statement M
+cekarum-raw-frame-spec =
+    tie.close
+    (tie.spec
+    (λ c κs. search needs) (λ c. search needs)
+    (λ c. (ap (λ a. a .number) (c .before .before .frame .ensures .0), (c .before .before .frame .ensures .1 .0, (c .before .before .frame .ensures .1 .1, ap (λ a. a .length) (c .before .before .frame .ensures .0))))))

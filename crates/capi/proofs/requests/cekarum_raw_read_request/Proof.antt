@@ -1,0 +1,13 @@
+-- What was read is made flat, then put into words and values.
+use mathlib.Core.Path.{ap, _∙_}
+use Rattle.capi.specs.Requests.{flatReading, requestWords, requestValues}
+use borrow.Author.Needs.{needs}
+use Rattle.capi.proofs.requests.cekarum_raw_read_request.Statement.{statement}
+use Rattle.capi.proofs.requests.cekarum_raw_read_request.Tie as tie
+
+pub cekarum-raw-read-request-spec : {M : Type 1} → statement M
+cekarum-raw-read-request-spec =
+    tie.close
+    (tie.spec
+    (λ c κs. search needs) (λ c κs. search needs) (λ c κs. search needs) (λ c κs. search needs)
+    (λ c. let e = c .before .before .before .flat-reading .ensures ∙ ap flatReading (c .before .before .before .before .read-request .ensures) in (ap (λ a. a .number) e, (c .before .request-words .ensures ∙ ap (λ a. requestWords (a .request)) e, c .request-values .ensures ∙ ap (λ a. requestValues (a .request)) e))))

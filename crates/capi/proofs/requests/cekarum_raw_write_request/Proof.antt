@@ -1,0 +1,14 @@
+-- The words and values are a flat request, that one a request, and the kernel writes it.
+use mathlib.Core.Path.{ap}
+use Rattle.capi.specs.Requests.{requestWritten, requestLeft}
+use borrow.Author.Needs.{needs}
+use Rattle.capi.proofs.requests.cekarum_raw_write_request.Statement.{statement}
+use Rattle.capi.proofs.requests.cekarum_raw_write_request.Tie as tie
+
+pub cekarum-raw-write-request-spec : {M : Type 1} → statement M
+unfolding requestWritten requestLeft
+cekarum-raw-write-request-spec =
+    tie.close
+    (tie.spec
+    (λ c κs. search needs) (λ c κs. search needs) (λ c κs. search needs) (λ c. search needs)
+    (λ c. rw (← c .before .before .before .before .request-in .ensures, ← c .before .before .before .request-of .ensures) (ap (λ a. a .number) (c .before .before .write-request .ensures .0), (c .before .before .write-request .ensures .1, ap (λ a. a .length) (c .before .before .write-request .ensures .0)))))

@@ -1,0 +1,22 @@
+-- Each field is the number at its place; result and applied are a yes.
+use Rattle.capi.specs.Responses.{responseIn}
+use mir.Val.{SFits}
+use mir.Syntax.{w64}
+use mir.Facts.{toZ-ofZ}
+use lib.IntN.{pos}
+use lib.ListN.{getD}
+use borrow.Author.Needs.{needs}
+use Rattle.capi.proofs.responses.response_in.Statement.{statement}
+use Rattle.capi.proofs.responses.response_in.Tie as tie
+
+pub response-in-spec : {M : Type 1} → statement M
+unfolding responseIn
+response-in-spec =
+    tie.close
+    (tie.spec
+    (λ c. search needs) (λ c. search needs) (λ c. search needs) (λ c κs. search needs) (λ c. search needs) (λ c κs. search needs) (λ c. search needs) (λ c. search needs) (λ c. search needs) (λ c. search needs)
+    (λ c.
+    let f : SFits w64 (getD (c .before .before .before .before .before .args .t2) 0 (pos 0)) = search needs in
+    let g : SFits w64 (getD (c .before .before .before .before .before .args .t2) 1 (pos 0)) = search needs in
+    let h : SFits w64 (getD (c .before .before .before .before .before .args .t2) 2 (pos 0)) = search needs in
+    rw (c .before .before .before .before .is-yes .ensures, c .before .before .before .is-yes2 .ensures, toZ-ofZ f, toZ-ofZ g, toZ-ofZ h)))

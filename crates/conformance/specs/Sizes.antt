@@ -1,0 +1,45 @@
+-- Sizes of the tables, each said once; src/sizes.rt has them for the code.
+use Prim.Native.Nat.{ℕ, _+_, _*_, _^_}
+
+-- endpoint types (document 000)
+abbrev pub types : ℕ
+types = 11
+
+-- bits of the feature map (document 003 section 1), and the maps that they make
+abbrev pub bits : ℕ
+bits = 11
+
+abbrev pub maps : ℕ
+maps = 2 ^ bits
+
+-- phases at most, and the kinds of supported directions: consumption, production, both
+abbrev pub phaseCount : ℕ
+phaseCount = 3
+
+abbrev pub directionKinds : ℕ
+directionKinds = 3
+
+-- the groups that judge bits, and the one behind them, which judges attributes
+abbrev pub bitGroups : ℕ
+bitGroups = 5
+
+abbrev pub attributeGroup : ℕ
+attributeGroup = bitGroups + 1
+
+-- rows of section 3.3, and one more than the largest attribute number
+abbrev pub rowCount : ℕ
+rowCount = 33
+
+abbrev pub numberEnd : ℕ
+numberEnd = 82
+
+-- pairs of a group and a bit, and all pairs that can stand in a report
+abbrev pub bitPairs : ℕ
+bitPairs = bitGroups * bits
+
+abbrev pub pairCount : ℕ
+pairCount = bitPairs + rowCount
+
+-- pairs of the longest report (proofs/Longest)
+abbrev pub longest : ℕ
+longest = 48
