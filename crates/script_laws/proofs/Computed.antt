@@ -78,13 +78,13 @@ abbrev request : ℕ → Command → Request
 request i c = record { id = i; endpoint = 1; feature = 5; command = c }
 
 first-read : readRequest frame3 ≡ Reading.Is (request 1 (limit 11040000 60))
-unfolding cborNumber infoOf widthOf argAt headAt itemsAt keyAt pairsAt fromHead itemAt payloadOf valueOf framed fieldUpTo truth mapIn signed needed optional durationIn valueIn
-    envelopeIn servedCommand servedAt limitsIn commandIn fromEnvelope fromPayload readRequest bind intOf
+unfolding numberAt infoOf widthOf argAt headAt itemsAt keyAt pairsAt fromHead itemAt payloadOf valueOf framed fieldUpTo truth mapIn signed needed optional durationIn valueIn
+    envelopeIn servedCommand servedAt limitsIn commandIn fromEnvelope fromPayload readRequest bind
 first-read = refl
 
 second-read : readRequest frame9 ≡ Reading.Is (request 2 (limit 4600000 20))
-unfolding cborNumber infoOf widthOf argAt headAt itemsAt keyAt pairsAt fromHead itemAt payloadOf valueOf framed fieldUpTo truth mapIn signed needed optional durationIn valueIn
-    envelopeIn servedCommand servedAt limitsIn commandIn fromEnvelope fromPayload readRequest bind intOf
+unfolding numberAt infoOf widthOf argAt headAt itemsAt keyAt pairsAt fromHead itemAt payloadOf valueOf framed fieldUpTo truth mapIn signed needed optional durationIn valueIn
+    envelopeIn servedCommand servedAt limitsIn commandIn fromEnvelope fromPayload readRequest bind
 second-read = refl
 
 -- THE CALLS
@@ -126,7 +126,7 @@ unfolding joined decimal digits widthIn cell rowPieces planPieces planRoom planN
     rankOf isJoined isUp slotOf joinedIn zoneOf heldOf anyJoined anyUp settingsOf heldIn zoneAt zonesOf bit heldWords putZone applied after settingWords fresh supports
     claimOf goesBefore better winner inFailsafe failsafeValue valueAt present stateAt shown valuesAt firstOf late sinceAfter zoneChange
     headChange badJoin joinNumber joinAfter unsupported invalid tooLow belowTheMinimum
-    commandNumber fieldAction targetAction aimAction action untilOf done obeyed commandAfter isCapped reasonOf outcomeWith commandAnswer
+    commandNumber says someOf fieldAction action untilOf done obeyed commandAfter isCapped reasonOf outcomeWith commandAnswer
     badMaximum badSettings startAfter
 answers = simp planOf-walk
 
