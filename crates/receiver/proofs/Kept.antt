@@ -10,29 +10,20 @@ use lib.Seq.{length-take-le, take-length, take-append-add, paste, take-paste, le
 use lib.Dec.{leb, ltb}
 use borrow.Author.Tests.{ltb-true, ltb-false, le-leb}
 use Rattle.bytes.specs.Bytes.{putWhole}
-use Rattle.bytes.proofs.PutLaws.{put-whole, copied, taken-length}
 use Rattle.prefix.specs.Prefix.{endOf, badEnd}
 use Rattle.prefix.proofs.Ends.{good-end, end-good, end-short, end-stays}
 use Rattle.receiver.specs.declared.record.Record.{Record}
 use Rattle.receiver.specs.Receive.{fresh, shut, isOpen, endFor, recordAt, refused, accepted, received, Done}
 use Rattle.receiver.proofs.Counts.{Counts, prefix, payload, counts, fits, in-prefix, in-payload, end-new, end-known, at-end, no-end, at-prefix, at-payload, record-is}
-use Rattle.receiver.proofs.Tests.{at-bad, at-taken, before-end}
+use Rattle.receiver.proofs.Tests.{put-paste, at-bad, at-taken, before-end}
 
 -- what is put behind the bytes in the room
 module _ (room scrap : List ℕ) (h n : ℕ) (l : h + n ≤ length room) (m : n ≤ length scrap) where
-  least : n ≡ min n (length scrap)
-  least = sym (min-eq-left m)
-
-  put-paste : putWhole room h (take n scrap) ≡ paste room h scrap n
-  put-paste =
-      put-whole room (take n scrap) h (omega (arith, taken-length room scrap h n n least)) .0
-      ∙ sym (copied room scrap h n n least (paste room h scrap n) l refl)
-
   pub put-taken : take (h + n) (putWhole room h (take n scrap)) ≡ take h room ++ take n scrap
-  put-taken = rw put-paste (take-paste room h scrap n (omega arith) m)
+  put-taken = rw (put-paste room scrap h n l m) (take-paste room h scrap n (omega arith) m)
 
   pub put-length : length (putWhole room h (take n scrap)) ≡ length room
-  put-length = rw put-paste (length-paste room h scrap n l m)
+  put-length = rw (put-paste room scrap h n l m) (length-paste room h scrap n l m)
 
 -- the record and the room hold p, the bytes of an unfinished frame
 pub record Holds (r : Record) (room p : List ℕ) : Type 0 where

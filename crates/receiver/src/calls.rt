@@ -1,5 +1,5 @@
 // A scrap taken: decided first, then copied in one piece.
-use crate::ends::end_for;
+use crate::ends::end_of;
 use crate::record::Answer;
 use crate::record::Decision;
 use crate::record::Record;
@@ -10,8 +10,11 @@ use crate::record::refuse;
 use prefix::FRAME;
 use prefix::is_bad_end;
 ghost use mathlib.Core.Path.{_≡_};
-ghost use Prim.Native.Nat.{_+_, _<_, _^_, min};
-ghost use Rattle.receiver.specs.Receive.{taking, recordAt, received, Does};
+ghost use mathlib.Core.Bool.{true};
+ghost use Prim.Native.Nat.{_+_, _<_, _≤_, _^_, min};
+ghost use lib.ListN.{length};
+ghost use lib.Seq.{paste};
+ghost use Rattle.receiver.specs.Receive.{isOpen, taking, recordAt, received, Does};
 
 fn smaller(a: usize, b: usize) -> usize
     ensures { λ n. ⌜ n ≡ min a b ⌝ }
@@ -38,18 +41,13 @@ fn accept(have: usize, end: usize, n: usize) -> Decision
     }
 }
 
-// What a scrap leads to; nothing is stored yet.
-fn decide(r: Record, room: &[u8], scrap: &[u8]) -> Decision
+// Decides while the prefix is not whole in the room.
+fn at_prefix(r: Record, room: &[u8], scrap: &[u8]) -> Decision
+    requires { ⌜ (isOpen r ≡ true) × (2052 ≤ length (now room)) × (r .need ≡ 0) ⌝ }
     ensures { λ x. ⌜ x .answer ≡ received r (now (room .entry)) (now (scrap .entry)) .answer ⌝ }
     ensures { λ x. ⌜ x .after ≡ received r (now (room .entry)) (now (scrap .entry)) .after ⌝ }
 {
-    if room.len() < FRAME {
-        return refuse(15, r);
-    }
-    if !is_open(r) {
-        return refuse(1, r);
-    }
-    let end = end_for(r, room, scrap);
+    let end = end_of(r.have, room, scrap);
     if is_bad_end(end) {
         return refuse(
             1,
@@ -64,12 +62,46 @@ fn decide(r: Record, room: &[u8], scrap: &[u8]) -> Decision
     accept(r.have, end, n)
 }
 
+// What a scrap leads to; nothing is stored yet.
+fn decide(r: Record, room: &[u8], scrap: &[u8]) -> Decision
+    ensures { λ x. ⌜ x .answer ≡ received r (now (room .entry)) (now (scrap .entry)) .answer ⌝ }
+    ensures { λ x. ⌜ x .after ≡ received r (now (room .entry)) (now (scrap .entry)) .after ⌝ }
+{
+    if room.len() < FRAME {
+        return refuse(15, r);
+    }
+    if !is_open(r) {
+        return refuse(1, r);
+    }
+    if r.need == 0 {
+        return at_prefix(r, room, scrap);
+    }
+    let n = smaller(scrap.len(), r.need - r.have);
+    accept(r.have, r.need, n)
+}
+
+// Stores the first `n` bytes of the scrap at `at`.
+fn copy(room: &mut [u8], at: usize, scrap: &[u8], n: usize)
+    requires { ⌜ (at + n ≤ length (now room)) × (n ≤ length (now scrap)) ⌝ }
+    ensures { λ _. ⌜ now (room .exit) ≡ paste (now (room .entry)) at (now (scrap .entry)) n ⌝ }
+{
+    let mut i = 0;
+    while i < n {
+        room[at + i] = scrap[i];
+        i += 1;
+    }
+}
+
 // Takes bytes of a scrap up to the end of one frame, the record by value.
 pub fn step(r: Record, room: &mut [u8], scrap: &[u8]) -> Decision
     ensures { λ x. ⌜ Does (received r (now (room .entry)) (now (scrap .entry))) (x .answer) (x .after) (now (room .exit)) ⌝ }
 {
     let x = decide(r, room, scrap);
-    let _past = bytes::put_bytes(room, r.have, scrap, x.answer.taken);
+    let n = x.answer.taken;
+    if n == 0 {
+        return x;
+    }
+    copy(room, r.have, scrap, n);
     x
 }
 

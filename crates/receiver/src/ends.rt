@@ -1,14 +1,10 @@
-// Where the frame in hand ends: as its record knows, or as its prefix says, which may stand half in the room and half
-// in the scrap.
-use crate::record::Record;
+// Where the frame in hand ends, as its prefix says, which may stand half in the room and half in the scrap.
 use prefix::PREFIX;
 ghost use mathlib.Core.Path.{_≡_};
-ghost use mathlib.Core.Bool.{true};
 ghost use mathlib.Core.List.{_++_};
 ghost use Prim.Native.Nat.{_<_, _≤_};
 ghost use lib.ListN.{length, getD, take};
 ghost use Rattle.prefix.specs.Prefix.{endOf};
-ghost use Rattle.receiver.specs.Receive.{isOpen, endFor};
 
 // The byte `i` of the room's first `have` bytes with the scrap behind them.
 fn byte(have: usize, room: &[u8], scrap: &[u8], i: usize) -> usize
@@ -23,7 +19,7 @@ fn byte(have: usize, room: &[u8], scrap: &[u8], i: usize) -> usize
 }
 
 // Where the frame ends that these bytes begin with; 5, the soonest, while its prefix is not whole.
-fn end_of(have: usize, room: &[u8], scrap: &[u8]) -> usize
+pub fn end_of(have: usize, room: &[u8], scrap: &[u8]) -> usize
     requires { ⌜ (have < 4) × (4 ≤ length (now room)) ⌝ }
     ensures { λ e. ⌜ e ≡ endOf (take have (now (room .entry)) ++ now (scrap .entry)) ⌝ }
 {
@@ -35,15 +31,4 @@ fn end_of(have: usize, room: &[u8], scrap: &[u8]) -> usize
     let c = byte(have, room, scrap, 2);
     let d = byte(have, room, scrap, 3);
     PREFIX + (((a * 256 + b) * 256 + c) * 256 + d)
-}
-
-// Where the frame ends that an open record has in hand.
-pub fn end_for(r: Record, room: &[u8], scrap: &[u8]) -> usize
-    requires { ⌜ (isOpen r ≡ true) × (2052 ≤ length (now room)) ⌝ }
-    ensures { λ e. ⌜ e ≡ endFor r (now (room .entry)) (now (scrap .entry)) ⌝ }
-{
-    if r.need == 0 {
-        return end_of(r.have, room, scrap);
-    }
-    r.need
 }
