@@ -1,4 +1,4 @@
-/* A small driver: two zones join, each sets a limit by a frame, and the plan says what will change. */
+/* A small driver: two zones join, each sets a limit by frames that come in scraps, and the plan says what will change. */
 #include "cekarum.h"
 #include <stdio.h>
 
@@ -38,6 +38,38 @@ static void apply(uint64_t *device, uint64_t zone, uint64_t time, const uint8_t 
     printf("\n");
 }
 
+/* One connection of a zone: where it stands in its stream, and room for a frame. All zero when it is made. */
+struct connection {
+    uint64_t zone;
+    struct cekarum_receiver receiver;
+    uint8_t room[CEKARUM_FRAME_MAX];
+};
+
+/* What the network brought, perhaps the end of one frame and the start of the next. */
+static void arrived(uint64_t *device, struct connection *c, uint64_t time, const uint8_t *scrap, uint64_t length)
+{
+    for (;;) {
+        struct cekarum_received got = cekarum_receive(&c->receiver, c->room, sizeof c->room, scrap, length);
+        if (got.number != CEKARUM_OK) {
+            say("bytes", got.number); /* the connection is closed, and another begins with one that is all zero */
+            return;
+        }
+        if (got.length > 0)
+            apply(device, c->zone, time, c->room, got.length);
+        if (got.taken == length)
+            return;
+        scrap += got.taken;
+        length -= got.taken;
+    }
+}
+
+/* A stream as a socket would hand it over: at most 13 bytes at once. */
+static void stream(uint64_t *device, struct connection *c, uint64_t time, const uint8_t *bytes, uint64_t length)
+{
+    for (uint64_t at = 0; at < length; at += 13)
+        arrived(device, c, time, bytes + at, length - at < 13 ? length - at : 13);
+}
+
 static void print_plan(uint64_t *device, uint64_t time)
 {
     int64_t rows[CEKARUM_PLAN_MAX];
@@ -50,13 +82,16 @@ static void print_plan(uint64_t *device, uint64_t time)
 int main(void)
 {
     static uint64_t device[CEKARUM_WORDS];
-    uint8_t frame[CEKARUM_REQUEST_MAX];
+    static struct connection three = {.zone = 3}, nine = {.zone = 9};
+    uint8_t sent[2 * CEKARUM_REQUEST_MAX];
     say("start", cekarum_start(device, settings));
     say("join zone 3", cekarum_join(device, 3, 1, 100));
     say("join zone 9", cekarum_join(device, 9, 2, 100));
-    apply(device, 3, 100, frame, limit_frame(7, 11040000, 60, frame, sizeof frame));
-    apply(device, 9, 100, frame, limit_frame(8, 4600000, 20, frame, sizeof frame));
-    apply(device, 9, 100, frame, limit_frame(9, 1000, 20, frame, sizeof frame)); /* below the minimum */
+    uint64_t n = limit_frame(7, 11040000, 60, sent, sizeof sent);
+    stream(device, &three, 100, sent, n);
+    n = limit_frame(8, 4600000, 20, sent, sizeof sent);
+    n += limit_frame(9, 1000, 20, sent + n, sizeof sent - n); /* below the minimum */
+    stream(device, &nine, 100, sent, n);
     print_plan(device, 110);
     return 0;
 }

@@ -209,6 +209,39 @@ static inline struct cekarum_written cekarum_frame(uint64_t *device, uint64_t zo
     return response;
 }
 
+/* ---- frames that come in scraps ---- */
+
+/* Where one connection stands in its stream of frames. All zero for a new connection; the driver never looks inside. */
+struct cekarum_receiver {
+    uint64_t words[3];
+};
+
+struct cekarum_received {
+    uint64_t number;
+    uint64_t taken;  /* bytes of the scrap that were taken; the driver calls again with the others */
+    uint64_t length; /* bytes of the frame that is whole now, at the front of room until the next call; 0: none is */
+};
+
+/* What follows cekarum_receive; only it calls this. */
+uint64_t cekarum_raw_receive(uint64_t *receiver, uint8_t *room, uint64_t room_length, const uint8_t *scrap,
+                             uint64_t scrap_length, uint64_t *counts);
+
+/* Takes what the network brought, of every length, none included, up to the end of one frame. The receiver and the room belong
+ * together and are kept between the calls of one connection; CEKARUM_FRAME_MAX bytes of room are needed and always enough.
+ * Refuses: 15 for less room, tested first; 1 for a length of 0 or above 2,048, which closes the receiver: every later call is
+ * refused with 1 too, until the connection is made anew and the receiver is made zero with it. The same for words that no call
+ * leaves. Beside a refusal nothing is taken, and the room stays as it was. */
+static inline struct cekarum_received cekarum_receive(struct cekarum_receiver *receiver, uint8_t *room, uint64_t room_length,
+                                                      const uint8_t *scrap, uint64_t scrap_length)
+{
+    uint64_t counts[2] = {0, 0};
+    struct cekarum_received received;
+    received.number = cekarum_raw_receive(receiver->words, room, room_length, scrap, scrap_length, counts);
+    received.taken = counts[0];
+    received.length = counts[1];
+    return received;
+}
+
 /* ---- messages, for the other side of the wire ---- */
 
 /* What a field of a Set command is. */

@@ -5,4 +5,5 @@ mod calls; // calls.rt: the device's calls, the plan, the report
 mod frame; // frame.rt: a frame applied
 mod requests; // requests.rt: requests, read and written
 mod responses; // responses.rt: responses, read and written
+mod scraps; // scraps.rt: frames that come in scraps
 mod words; // words.rt: settings and inputs as words

@@ -5,6 +5,8 @@ use libc::STDIN_FILENO;
 use libc::STDOUT_FILENO;
 use lines::ANSWER;
 use lines::LONGEST;
+use lines::ROOM;
+use receiver::RECORD;
 ghost use Prim.Native.Nat.{_≤_};
 
 // How much of a line is kept from earlier pieces of the input, and where the next answer goes.
@@ -64,6 +66,8 @@ fn settle(out: &[u8], at: usize) -> usize {
 // Answers the line that is kept.
 fn answer_kept(
     d: &mut State,
+    words: &mut [u64; RECORD],
+    room: &mut [u8],
     kept: &[u8],
     n: usize,
     bytes: &mut [u8],
@@ -72,7 +76,7 @@ fn answer_kept(
 ) -> usize {
     if n <= kept.len() {
         let p = settle(out, at);
-        return lines::answer(d, &kept[..n], bytes, out, p);
+        return lines::answer(d, words, room, &kept[..n], bytes, out, p);
     }
     at
 }
@@ -80,6 +84,8 @@ fn answer_kept(
 // Answers a line, whose beginning may be kept.
 fn line(
     d: &mut State,
+    words: &mut [u64; RECORD],
+    room: &mut [u8],
     s: &[u8],
     kept: &mut [u8],
     bytes: &mut [u8],
@@ -89,15 +95,17 @@ fn line(
     let have = place.kept;
     if have == 0 {
         let p = settle(out, place.at);
-        return lines::answer(d, s, bytes, out, p);
+        return lines::answer(d, words, room, s, bytes, out, p);
     }
     let n = keep(kept, have, s);
-    answer_kept(d, kept, n, bytes, out, place.at)
+    answer_kept(d, words, room, kept, n, bytes, out, place.at)
 }
 
 // Answers the line from `from` to `to`.
 fn part(
     d: &mut State,
+    words: &mut [u64; RECORD],
+    room: &mut [u8],
     s: &[u8],
     from: usize,
     to: usize,
@@ -108,7 +116,7 @@ fn part(
 ) -> usize {
     if to <= s.len() {
         if from <= to {
-            return line(d, &s[from..to], kept, bytes, out, place);
+            return line(d, words, room, &s[from..to], kept, bytes, out, place);
         }
     }
     place.at
@@ -125,6 +133,8 @@ fn keep_rest(s: &[u8], from: usize, kept: &mut [u8], have: usize) -> usize {
 // Answers the lines of a piece of the input, and keeps what is left.
 fn piece(
     d: &mut State,
+    words: &mut [u64; RECORD],
+    room: &mut [u8],
     s: &[u8],
     kept: &mut [u8],
     bytes: &mut [u8],
@@ -140,7 +150,18 @@ fn piece(
             let n = keep_rest(s, from, kept, have);
             return Place { kept: n, at };
         }
-        at = part(d, s, from, end, kept, bytes, out, Place { kept: have, at });
+        at = part(
+            d,
+            words,
+            room,
+            s,
+            from,
+            end,
+            kept,
+            bytes,
+            out,
+            Place { kept: have, at },
+        );
         have = 0;
         from = end + 1;
     }
@@ -150,6 +171,8 @@ fn piece(
 // Reads a piece, answers its lines, and writes the answers, so that one who types sees them.
 fn turn(
     d: &mut State,
+    words: &mut [u64; RECORD],
+    room: &mut [u8],
     kept: &mut [u8],
     bytes: &mut [u8],
     out: &mut [u8],
@@ -165,6 +188,8 @@ fn turn(
     let n = io::count(got, &input);
     let place = piece(
         d,
+        words,
+        room,
         &input[..n],
         kept,
         bytes,
@@ -176,27 +201,51 @@ fn turn(
 }
 
 // A last line without its newline counts.
-fn finish(d: &mut State, kept: &[u8], n: usize, bytes: &mut [u8], out: &mut [u8]) {
-    let at = answer_kept(d, kept, n, bytes, out, 0);
+fn finish(
+    d: &mut State,
+    words: &mut [u64; RECORD],
+    room: &mut [u8],
+    kept: &[u8],
+    n: usize,
+    bytes: &mut [u8],
+    out: &mut [u8],
+) {
+    let at = answer_kept(d, words, room, kept, n, bytes, out, 0);
     flush(out, at);
 }
 
-fn run(d: &mut State, kept: &mut [u8], bytes: &mut [u8], out: &mut [u8]) {
+fn run(
+    d: &mut State,
+    words: &mut [u64; RECORD],
+    room: &mut [u8],
+    kept: &mut [u8],
+    bytes: &mut [u8],
+    out: &mut [u8],
+) {
     let mut more = true;
     let mut have = 0;
     let mut turns = u64::MAX;
     while turns > 0 && more {
-        have = turn(d, kept, bytes, out, have, &mut more);
+        have = turn(d, words, room, kept, bytes, out, have, &mut more);
         turns -= 1;
     }
-    finish(d, kept, have, bytes, out);
+    finish(d, words, room, kept, have, bytes, out);
 }
 
 fn main() {
     let mut d = [0u64; WORDS];
+    let mut words = [0u64; RECORD];
+    let mut room = [0u8; ROOM];
     let mut kept = [0u8; LONGEST + 1];
     let mut bytes = [0u8; LONGEST / 2];
     let mut out = io::large_buffer();
     lines::before_start(&mut d);
-    run(&mut d, &mut kept, &mut bytes, &mut out);
+    run(
+        &mut d,
+        &mut words,
+        &mut room,
+        &mut kept,
+        &mut bytes,
+        &mut out,
+    );
 }

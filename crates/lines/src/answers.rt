@@ -14,11 +14,14 @@ use crate::print::put_end;
 use crate::print::put_list;
 use crate::print::put_number;
 use crate::print::put_pairs;
+use crate::scraps::is_scrap;
+use crate::scraps::scrap;
 use crate::words::span;
 use crate::words::split;
 use device::Settings;
 use device::State;
 use device::calls;
+use receiver::RECORD;
 ghost use Prim.Native.Nat.{_≤_};
 ghost use lib.ListN.{length};
 
@@ -315,9 +318,17 @@ fn last_word(
     put_bad(out, at)
 }
 
-// Writes the answer to a line behind `at`, and says the position past it. `bytes` is room for the bytes of a line: half
-// of the longest line is enough.
-pub fn answer(d: &mut State, s: &[u8], bytes: &mut [u8], out: &mut [u8], at: usize) -> usize {
+// Writes the answer to a line behind `at`, and says the position past it. `words` and `room` are the receiver's, `bytes` is
+// room for the bytes of a line: half of the longest line is enough.
+pub fn answer(
+    d: &mut State,
+    words: &mut [u64; RECORD],
+    room: &mut [u8],
+    s: &[u8],
+    bytes: &mut [u8],
+    out: &mut [u8],
+    at: usize,
+) -> usize {
     if s.len() == 0 {
         return at;
     }
@@ -326,6 +337,9 @@ pub fn answer(d: &mut State, s: &[u8], bytes: &mut [u8], out: &mut [u8], at: usi
     }
     let mut ends = [0usize; WORDS];
     let count = split(s, &mut ends);
+    if is_scrap(s, &ends) {
+        return scrap(words, room, s, &ends, count, bytes, out, at);
+    }
     line(d, s, &ends, count, bytes, out, at)
 }
 

@@ -5,6 +5,7 @@
 // override REASON DIRECTION TIME, clear TIME
 // ask TIME, plan TIME ROOM
 // frame ZONE TIME ROOM BYTES, request BYTES, response COMMAND BYTES
+// scrap new ROOM BYTES, scrap same ROOM BYTES
 // conf TYPE MAP PHASES DIRECTIONS LIMITS CURRENT SETPOINTS PROCESS ROOM ATTRIBUTES
 //
 // Words are parted by one space, numbers are decimal, bytes are lowercase hex, `-` is none. Any other line is answered
@@ -16,6 +17,7 @@ mod fields; // fields.rt: the numbers of a line
 mod lists; // lists.rt: attributes parted by commas
 mod numbers; // numbers.rt: a decimal number
 mod print; // print.rt: the parts of an answer
+mod scraps; // scraps.rt: frames that come in scraps
 mod words; // words.rt: where the words of a line are
 
 pub use answers::answer;
@@ -24,6 +26,7 @@ pub use hex::Read;
 pub use hex::read_hex;
 pub use numbers::Number;
 pub use numbers::read_number;
+pub use scraps::ROOM;
 
 // The longest line; a longer one is a bad line.
 pub const LONGEST: usize = 16384;

@@ -23,7 +23,8 @@ pub fn put_number(out: &mut [u8], at: usize, number: u64) -> usize {
     put_end(out, p)
 }
 
-fn put_hex_or_none(out: &mut [u8], at: usize, bytes: &[u8], n: usize) -> usize {
+// The first n bytes, or `-`.
+pub fn put_hex_or_none(out: &mut [u8], at: usize, bytes: &[u8], n: usize) -> usize {
     if n == 0 {
         return bytes::put_byte(out, at, b'-');
     }

@@ -10,4 +10,4 @@ answer-kept-spec =
     tie.close
     (tie.spec
     (λ c κs. search needs) (λ c. sym (length-take-le _ _ (omega arith))) (λ c κs. search needs)
-    (λ c. search needs) (λ c. search needs) (λ c. search needs) (λ c. search needs))
+    (λ c. search needs) (λ c. search needs) (λ c. search needs) (λ c. search needs) (λ c. search needs))
