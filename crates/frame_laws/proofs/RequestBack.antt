@@ -81,7 +81,7 @@ command-ascend (Command.SetSetpoint l) = limits-ascend (limitsOf l)
 command-ascend (Command.ClearSetpoint a) = (omega arith, tt)
 command-ascend (Command.Unserved n) = tt
 
-wide-parts : (d k : ℕ) → (ltb most32 d || ltb 255 k) ≡ false → (d ≤ most32) × (k ≤ 255)
+pub wide-parts : (d k : ℕ) → (ltb most32 d || ltb 255 k) ≡ false → (d ≤ most32) × (k ≤ 255)
 wide-parts d k h = (ltb-false most32 d (or-left _ _ h), ltb-false 255 k (or-right (ltb most32 d) _ h))
 
 pub command-ok : (c : Command) (d : ℕ) → commandWide c ≡ false → Command64 c → OkFields (commandFields c) d
@@ -102,7 +102,7 @@ command-short (Command.SetSetpoint l) = limits-short (limitsOf l)
 command-short (Command.ClearSetpoint a) = (short-aim 1 a, tt)
 command-short (Command.Unserved n) = tt
 
-command-few : (c : Command) → length (commandFields c) ≤ 4
+pub command-few : (c : Command) → length (commandFields c) ≤ 4
 unfolding commandFields limitsFields
 command-few (Command.SetLimit l) = omega arith
 command-few (Command.ClearLimit a) = omega arith
@@ -122,7 +122,7 @@ command-back (Command.SetSetpoint l) s w h =
 command-back (Command.ClearSetpoint a) s w h = rw (values ((1, aimItem a) ∷ []) 0 1 (omega arith, tt), aim-back a w)
 command-back (Command.Unserved n) s w h = absurd (no-both (sym s))
 
-wire-served : (c : Command) → isServed c ≡ true → (wireNumber c ≤ 4) × (servedCommand (wireNumber c) ≡ true)
+pub wire-served : (c : Command) → isServed c ≡ true → (wireNumber c ≤ 4) × (servedCommand (wireNumber c) ≡ true)
 unfolding servedCommand
 wire-served (Command.SetLimit l) s = (omega arith, refl)
 wire-served (Command.ClearLimit a) s = (omega arith, refl)
@@ -163,38 +163,39 @@ module _ (r : Request) where
       let h : ShortFields (requestFields r) 90 = (omega (arith, short-uint 1 (r .id)), (omega (arith, short-uint 2 (r .endpoint)), (omega (arith, short-uint 3 (r .feature)), (omega (arith, short-uint 4 (wireNumber (r .command))), (inner-short, tt))))) in
       map-short (requestFields r) 90 h
 
-  module _ (h : Command64 (r .command)) (e : requestNumber r ≡ 0) where
+  module _ (e : requestNumber r ≡ 0) where
     parts : (requestWide r ≡ false) × (requestUnserved r ≡ false)
     unfolding requestNumber
     parts = no-test (requestWide r) (requestUnserved r) e
 
-    ranges : (r .id ≤ most32) × (r .endpoint ≤ 255) × (r .feature ≤ 65535) × (commandWide (r .command) ≡ false)
+    pub request-ranges : (r .id ≤ most32) × (r .endpoint ≤ 255) × (r .feature ≤ 65535) × (commandWide (r .command) ≡ false)
     unfolding requestWide
-    ranges =
+    request-ranges =
         let w = parts .0 in
         (ltb-false most32 (r .id) (or-left _ _ (or-left _ _ (or-left _ _ w))), ltb-false 255 (r .endpoint) (or-right (ltb most32 (r .id)) _ (or-left _ _ (or-left _ _ w))), ltb-false 65535 (r .feature) (or-right (ltb most32 (r .id) || ltb 255 (r .endpoint)) _ (or-left _ _ w)), or-right (ltb most32 (r .id) || ltb 255 (r .endpoint) || ltb 65535 (r .feature)) _ w)
 
-    served : (servedAt (r .endpoint) (r .feature) && isServed (r .command)) ≡ true
+    pub request-served : (servedAt (r .endpoint) (r .feature) && isServed (r .command)) ≡ true
     unfolding requestUnserved
-    served = not-is-false _ (parts .1)
+    request-served = not-is-false _ (parts .1)
 
-    is-served : isServed (r .command) ≡ true
-    is-served = and-right (servedAt (r .endpoint) (r .feature)) _ served
+    pub is-served : isServed (r .command) ≡ true
+    is-served = and-right (servedAt (r .endpoint) (r .feature)) _ request-served
 
+  module _ (h : Command64 (r .command)) (e : requestNumber r ≡ 0) where
     item-ok : Ok (requestItem r) levels
     unfolding requestItem
     item-ok =
-        ok-map (requestFields r) 7 request-few request-ascend (request-ok (ranges .0) (ranges .1) (ranges .2) (omega (arith, wire-served (r .command) is-served .0)) (ranges .3) h)
+        ok-map (requestFields r) 7 request-few request-ascend (request-ok (request-ranges e .0) (request-ranges e .1) (request-ranges e .2) (omega (arith, wire-served (r .command) (is-served e) .0)) (request-ranges e .3) h)
 
     envelope-back : envelopeIn (present (requestFields r)) ≡ some (record { id = r .id; endpoint = r .endpoint; feature = r .feature; command = wireNumber (r .command); parameters = present (commandFields (r .command)) })
     unfolding envelopeIn bind requestFields needed mapIn
     envelope-back =
         let v : (k : ℕ) → _ = λ (k : ℕ). values (requestFields r) 0 k request-ascend in
-        rw (v 1, v 2, v 3, v 4, v 5, uint-back most32 (r .id) (ranges .0), uint-back 255 (r .endpoint) (ranges .1), uint-back 65535 (r .feature) (ranges .2), uint-back 65535 (wireNumber (r .command)) (omega (arith, wire-served (r .command) is-served .0)))
+        rw (v 1, v 2, v 3, v 4, v 5, uint-back most32 (r .id) (request-ranges e .0), uint-back 255 (r .endpoint) (request-ranges e .1), uint-back 65535 (r .feature) (request-ranges e .2), uint-back 65535 (wireNumber (r .command)) (omega (arith, wire-served (r .command) (is-served e) .0)))
 
     message-back : fromEnvelope (envelopeIn (present (requestFields r))) ≡ Reading.Is r
     unfolding fromEnvelope
-    message-back = rw (envelope-back, and-left (servedAt (r .endpoint) (r .feature)) (isServed (r .command)) served, wire-served (r .command) is-served .1, command-back (r .command) is-served (ranges .3) h)
+    message-back = rw (envelope-back, and-left (servedAt (r .endpoint) (r .feature)) (isServed (r .command)) (request-served e), wire-served (r .command) (is-served e) .1, command-back (r .command) (is-served e) (request-ranges e .3) h)
 
 pub request-reads-back : RequestReadsBack
 unfolding mapIn requestItem

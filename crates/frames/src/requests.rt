@@ -4,6 +4,7 @@ use map_fields::is_map;
 use map_fields::is_uint;
 use map_fields::read_value;
 use crate::prefix::is_framed;
+use crate::sizes::PREFIX;
 use map_fields::all4;
 use map_fields::all5;
 use map_fields::both;
@@ -223,7 +224,7 @@ pub fn read_request(frame: &[u8]) -> Reading
     ensures { λ r. ⌜ r ≡ readRequest (now (frame .entry)) ⌝ }
 {
     if is_framed(frame) {
-        return read_payload(&frame[4..]);
+        return read_payload(&frame[PREFIX..]);
     }
     Reading::Refused(1)
 }

@@ -10,6 +10,7 @@ use map_fields::put_uint;
 use map_fields::put_value;
 use crate::requests::MOST32;
 use crate::requests::is_served;
+use crate::sizes::ROOM;
 use map_fields::both;
 use map_fields::either;
 use messages::Aim;
@@ -29,9 +30,6 @@ ghost use Rattle.frames.specs.Requests.{fieldOf, limitsOf, limitsFields,
 ghost use Rattle.map_fields.specs.Puts.{Puts};
 ghost use Rattle.frames.specs.Sizes.{paramsRoom, payloadRoom};
 ghost use Rattle.frames.specs.Writing.{itemFrame, writtenOf, leftBy};
-
-// More bytes than any payload written here has.
-pub const ROOM: usize = 192;
 
 // A direction as an amount.
 fn aim_amount(a: Aim) -> Amount
