@@ -18,8 +18,10 @@ use Rattle.messages.specs.declared.Aim.{Aim}
 use Rattle.messages.specs.declared.Limits.{Limits}
 use Rattle.messages.specs.declared.Command.{Command}
 use Rattle.frames.specs.Prefix.{framed, payloadIn}
-use Rattle.map_fields.specs.Fields.{mapIn, upTo, needed, optional, inRange, signed, valueIn, durationIn, aimIn}
-use Rattle.frames.specs.Requests.{Envelope, envelopeIn, servedAt, servedCommand, limitsIn, targetOf, setpointsOf, commandIn, withCommand, fromEnvelope, fromPayload, readRequest}
+use Rattle.map_fields.specs.Fields.{mapIn, upTo, needed, optional, inRange, signed, most32, valueIn, amountIn, aimIn}
+use Rattle.frames.specs.Settings.{settingIn, targetOf, limitsFrom, setpointsFrom}
+use Rattle.frames.specs.declared.settings.Setting.{Setting}
+use Rattle.frames.specs.Requests.{Envelope, envelopeIn, servedAt, servedCommand, commandIn, withCommand, fromEnvelope, fromPayload, readRequest}
 use Rattle.frames.specs.declared.requests.Reading.{Reading}
 use Rattle.device.specs.declared.Settings.{Settings}
 use Rattle.device.specs.declared.Action.{Action}
@@ -103,13 +105,16 @@ unfolding valueIn optional
 small-value null none = tt
 small-value null (some i) = every-map SmallField SmallField (signed null i) (λ f. f) (small-signed null i) (λ f h. h)
 
-small-limits : (null : Bool) (ps : Pairs) → Every SmallLimits (limitsIn null ps)
-unfolding limitsIn
-small-limits null ps =
-    every-bind SmallField SmallLimits (valueIn null (valueOf ps 1)) _ (small-value null (valueOf ps 1)) (λ c hc.
-    every-bind SmallField SmallLimits (valueIn null (valueOf ps 2)) _ (small-value null (valueOf ps 2)) (λ p hp.
-    any-bind SmallLimits (durationIn (valueOf ps 3)) _ (λ d.
-    any-bind SmallLimits (needed (upTo 255) (valueOf ps 4)) _ (λ k. (hc, hp)))))
+abbrev SmallSetting : Setting → Type 0
+SmallSetting s = SmallField (s .consumption) × SmallField (s .production)
+
+small-setting : (null : Bool) (ps : Pairs) → Every SmallSetting (settingIn null ps)
+unfolding settingIn
+small-setting null ps =
+    every-bind SmallField SmallSetting (valueIn null (valueOf ps 1)) _ (small-value null (valueOf ps 1)) (λ c hc.
+    every-bind SmallField SmallSetting (valueIn null (valueOf ps 2)) _ (small-value null (valueOf ps 2)) (λ p hp.
+    any-bind SmallSetting (amountIn most32 (valueOf ps 3)) _ (λ d.
+    any-bind SmallSetting (needed (upTo 255) (valueOf ps 4)) _ (λ k. (hc, hp)))))
 
 small-target : (f : Field) → SmallField f → SmallTarget (targetOf f)
 small-target Field.Absent h = tt
@@ -117,18 +122,18 @@ small-target Field.Null h = tt
 small-target (Field.Value z) h = h
 
 small-command : (c : ℕ) (ps : Pairs) → Every SmallCommand (commandIn c ps)
-unfolding commandIn setpointsOf
+unfolding commandIn limitsFrom setpointsFrom
 small-command c ps = go (eqb c 1) (eqb c 2) (eqb c 3)
   where
     go : (x y z : Bool) → Every SmallCommand (
-        cond x (Option·map Command.SetLimit (limitsIn true ps))
+        cond x (Option·map (λ s. Command.SetLimit (limitsFrom s)) (settingIn true ps))
         (cond y (Option·map Command.ClearLimit (aimIn (valueOf ps 1)))
-        (cond z (Option·map (λ l. Command.SetSetpoint (setpointsOf l)) (limitsIn false ps))
+        (cond z (Option·map (λ s. Command.SetSetpoint (setpointsFrom s)) (settingIn false ps))
         (Option·map Command.ClearSetpoint (aimIn (valueOf ps 1))))))
-    go true y z = every-map SmallLimits SmallCommand (limitsIn true ps) Command.SetLimit (small-limits true ps) (λ m h. h)
+    go true y z = every-map SmallSetting SmallCommand (settingIn true ps) (λ s. Command.SetLimit (limitsFrom s)) (small-setting true ps) (λ m h. h)
     go false true z = any-map SmallCommand (aimIn (valueOf ps 1)) Command.ClearLimit (λ a. tt)
     go false false true =
-        every-map SmallLimits SmallCommand (limitsIn false ps) (λ l. Command.SetSetpoint (setpointsOf l)) (small-limits false ps)
+        every-map SmallSetting SmallCommand (settingIn false ps) (λ s. Command.SetSetpoint (setpointsFrom s)) (small-setting false ps)
         (λ m h. (small-target (m .consumption) (h .0), small-target (m .production) (h .1)))
     go false false false = any-map SmallCommand (aimIn (valueOf ps 1)) Command.ClearSetpoint (λ a. tt)
 

@@ -17,7 +17,6 @@ use Rattle.cbor.proofs.Widths.{by-width, head-length, head-short}
 use Rattle.messages.specs.declared.Field.{Field}
 use Rattle.messages.specs.declared.Amount.{Amount}
 use Rattle.messages.specs.declared.Aim.{Aim}
-use Rattle.messages.specs.declared.Limits.{Limits}
 use Rattle.messages.specs.declared.LimitResult.{LimitResult}
 use Rattle.messages.specs.declared.SetpointResult.{SetpointResult}
 use Rattle.messages.specs.declared.Command.{Command}
@@ -26,14 +25,15 @@ use Rattle.messages.specs.declared.Request.{Request}
 use Rattle.messages.specs.declared.Response.{Response}
 use Rattle.messages.specs.Numbers.{wireNumber}
 use Rattle.messages.specs.Refusals.{firstOf}
-use Rattle.map_fields.specs.Fields.{Fields, present, most32, mostValue, valueItem, durationItem, aimItem, amountItem, truthItem}
+use Rattle.map_fields.specs.Fields.{Fields, present, most32, mostValue, valueItem, aimItem, amountItem, truthItem}
 use Rattle.map_fields.specs.Puts.{fieldBytes}
 use Rattle.map_fields.proofs.Added.{map-bytes, fields-none, fields-more}
 use Rattle.map_fields.proofs.Joined.{no-both, and-left, and-right, or-left, or-right}
 use Rattle.frames.specs.Prefix.{frameOf}
 use Rattle.frames.specs.Writing.{itemFrame}
 use Rattle.frames.specs.Sizes.{longestRequest, longestResponse}
-use Rattle.frames.specs.Requests.{limitsFields, limitsOf, commandFields, requestFields, requestItem, requestNumber, requestWide, requestUnserved, commandWide, aimWide, isServed, servedAt, servedCommand}
+use Rattle.frames.specs.Settings.{durationAmount, settingOfLimits, settingOfSetpoints, settingFields}
+use Rattle.frames.specs.Requests.{commandFields, requestFields, requestItem, requestNumber, requestWide, requestUnserved, commandWide, aimWide, isServed, servedAt, servedCommand}
 use Rattle.frames.specs.Responses.{limitFields, setpointFields, clearFields, mapItem, outcomeItem, responseFields, responseItem, responseNumber, responseFits, fits, stands, goesWith, limitInRange, setpointInRange, amountUpTo, isStatus, isNothing, statusAlone, statusFits, statusNumber}
 use Rattle.frame_laws.specs.Longest.{RequestLongest, RequestReached, ResponseLongest, ResponseReached, StatusLongest}
 use Rattle.frame_laws.proofs.Maps.{count-fields}
@@ -96,11 +96,11 @@ module _ (k : ℕ) (low : k < 24) where
   value-long (Field.Value (pos n)) = uint-long n 9 (head-short n)
   value-long (Field.Value (negsuc n)) = rw length-append (omega (arith, head-length 0 k, len-1 k low, head-length 1 n, head-short n))
 
-  duration-long : (d : ℕ) → d ≤ most32 → length (fieldBytes k (durationItem d)) ≤ 6
-  unfolding durationItem
+  duration-long : (d : ℕ) → d ≤ most32 → length (fieldBytes k (amountItem (durationAmount d))) ≤ 6
+  unfolding amountItem
   duration-long d h = go (eqb d 0)
     where
-      go : (b : Bool) → length (fieldBytes k (cond b none (some (Item.uint d)))) ≤ 6
+      go : (b : Bool) → length (fieldBytes k (amountItem (cond b Amount.Absent (Amount.Is d)))) ≤ 6
       go true = omega (arith, none-long)
       go false = uint-long d 5 (len-5 d (omega arith))
 
@@ -124,22 +124,23 @@ module _ (k : ℕ) (low : k < 24) where
   below-long fs n few h = rw length-append (omega (arith, head-length 0 k, len-1 k low, map-long fs n few h))
 
 -- REQUESTS
-limits-long : (l : Limits) → l .duration ≤ most32 → l .cause ≤ 255 → length (encodePairs (present (limitsFields l))) ≤ 29
-unfolding limitsFields
-limits-long l d c =
-    pairs-more 1 _ _ 10 19 (value-long 1 (omega arith) (l .consumption))
-    (pairs-more 2 _ _ 10 9 (value-long 2 (omega arith) (l .production))
-    (pairs-more 3 _ _ 6 3 (duration-long 3 (omega arith) (l .duration) d)
-    (pairs-more 4 _ _ 3 0 (uint-long 4 (omega arith) (l .cause) 2 (len-2 (l .cause) (omega arith))) pairs-none)))
+setting-long : (c p : Field) (d k : ℕ) → d ≤ most32 → k ≤ 255
+    → length (encodePairs (present (settingFields (record { consumption = c; production = p; duration = durationAmount d; cause = k })))) ≤ 29
+unfolding settingFields
+setting-long c p d k hd hk =
+    pairs-more 1 _ _ 10 19 (value-long 1 (omega arith) c)
+    (pairs-more 2 _ _ 10 9 (value-long 2 (omega arith) p)
+    (pairs-more 3 _ _ 6 3 (duration-long 3 (omega arith) d hd)
+    (pairs-more 4 _ _ 3 0 (uint-long 4 (omega arith) k 2 (len-2 k (omega arith))) pairs-none)))
 
 one-aim : (a : Aim) → aimWide a ≡ false → length (encodePairs (present ((1, aimItem a) ∷ []))) ≤ 29
 one-aim a w = omega (arith, pairs-more 1 (aimItem a) [] 2 0 (aim-long 1 (omega arith) a w) pairs-none)
 
 command-long : (c : Command) → commandWide c ≡ false → length (encodePairs (present (commandFields c))) ≤ 29
-unfolding commandFields commandWide limitsOf
-command-long (Command.SetLimit l) w = let x = wide-parts (l .duration) (l .cause) w in limits-long l (x .0) (x .1)
+unfolding commandFields commandWide settingOfLimits settingOfSetpoints
+command-long (Command.SetLimit l) w = let x = wide-parts (l .duration) (l .cause) w in setting-long _ _ _ _ (x .0) (x .1)
 command-long (Command.ClearLimit a) w = one-aim a w
-command-long (Command.SetSetpoint l) w = let x = wide-parts (l .duration) (l .cause) w in limits-long (limitsOf l) (x .0) (x .1)
+command-long (Command.SetSetpoint l) w = let x = wide-parts (l .duration) (l .cause) w in setting-long _ _ _ _ (x .0) (x .1)
 command-long (Command.ClearSetpoint a) w = one-aim a w
 command-long (Command.Unserved n) w = omega (arith, pairs-none)
 
@@ -232,7 +233,7 @@ status-longest i s e =
 
 -- THE LONGEST ARE AS LONG
 pub request-reached : RequestReached
-unfolding itemFrame frameOf requestItem requestFields commandFields limitsFields present valueItem durationItem encode encodePairs countPairs headBytes infoOf widthOf bytesOf requestNumber requestWide requestUnserved commandWide servedAt firstOf
+unfolding itemFrame frameOf requestItem requestFields commandFields settingOfLimits settingFields present valueItem amountItem encode encodePairs countPairs headBytes infoOf widthOf bytesOf requestNumber requestWide requestUnserved commandWide servedAt firstOf
 request-reached = (
   record {
     id = 4294967295;

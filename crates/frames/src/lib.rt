@@ -2,6 +2,7 @@
 mod prefix; // prefix.rt: the length prefix, tested and written
 mod requests; // requests.rt: requests, read
 mod responses; // responses.rt: responses, read
+mod settings; // settings.rt: the parameters of a Set command
 mod sizes; // sizes.rt: how many bytes frames have
 mod write_requests; // write_requests.rt: requests, written
 mod write_responses; // write_responses.rt: responses, written
