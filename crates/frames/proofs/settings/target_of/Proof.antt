@@ -2,8 +2,8 @@ use mir.Syntax.{w64}
 use mir.Val.{SFits}
 use mir.ValLaws.{toZ-ofZ}
 use borrow.Author.Needs.{needs}
-use Rattle.frames.proofs.requests.target_of.Statement.{statement}
-use Rattle.frames.proofs.requests.target_of.Tie as tie
+use Rattle.frames.proofs.settings.target_of.Statement.{statement}
+use Rattle.frames.proofs.settings.target_of.Tie as tie
 
 pub target-of-spec : {M : Type 1} → statement M
 target-of-spec =

@@ -2,8 +2,8 @@ use mir.Syntax.{w64}
 use mir.Val.{SFits}
 use mir.ValLaws.{toZ-ofZ}
 use borrow.Author.Needs.{needs}
-use Rattle.frames.proofs.write_requests.field_of.Statement.{statement}
-use Rattle.frames.proofs.write_requests.field_of.Tie as tie
+use Rattle.frames.proofs.settings.field_of.Statement.{statement}
+use Rattle.frames.proofs.settings.field_of.Tie as tie
 
 pub field-of-spec : {M : Type 1} → statement M
 field-of-spec =
