@@ -1,3 +1,4 @@
+-- The four readers are those of `limitsIn`, key by key; `all4` says that each was ok.
 use Rattle.frames.proofs.Requested.{values-read}
 use borrow.Author.Needs.{needs}
 use Rattle.frames.proofs.requests.read_values.Statement.{statement}

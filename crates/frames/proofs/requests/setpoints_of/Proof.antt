@@ -1,3 +1,4 @@
+-- `target_of` gives both targets; the other fields are copied.
 use Rattle.frames.specs.Requests.{setpointsOf}
 use borrow.Author.Needs.{needs}
 use Rattle.frames.proofs.requests.setpoints_of.Statement.{statement}

@@ -1,3 +1,4 @@
+-- Each field is one pair or none, and the cause is one, so that the sum is at most four and no addition overflows.
 use Rattle.map_fields.specs.Fields.{valueItem, amountItem}
 use native.Mathlib.Omega.{arith}
 use Rattle.frames.proofs.Writes.{pairs-small, limits-count}

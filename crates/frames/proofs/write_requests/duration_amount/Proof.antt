@@ -1,3 +1,4 @@
+-- A duration of 0 is left out, and any other is its number, as in `durationItem`.
 use borrow.Author.Tests.{eq-eqb, ne-eqb}
 use Rattle.map_fields.specs.Fields.{amountItem, durationItem}
 use Rattle.frames.proofs.write_requests.duration_amount.Statement.{statement}

@@ -1,3 +1,4 @@
+-- `field_of` gives both fields; the other two are copied.
 use Rattle.frames.specs.Requests.{limitsOf}
 use borrow.Author.Needs.{needs}
 use Rattle.frames.proofs.write_requests.limits_of.Statement.{statement}

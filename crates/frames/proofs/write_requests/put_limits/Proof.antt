@@ -1,3 +1,4 @@
+-- Four fields, each put behind the one before: their bytes one after the other are those of `limitsFields`.
 use Rattle.frames.proofs.Writes.{limits-bytes}
 use Rattle.map_fields.proofs.Added.{puts-more, puts-same}
 use borrow.Author.Needs.{needs}
