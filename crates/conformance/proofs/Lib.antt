@@ -1,3 +1,4 @@
+-- What the proofs of several functions use, and the laws of the report that callers cite.
 pub mod Bools
 pub mod Walks
 pub mod Tables

@@ -145,6 +145,7 @@ fn none_met() -> Met
     }
 }
 
+// The pass over the zones as they stand.
 pub fn tops(d: &State, t: u64) -> Met
     ensures { λ r. ⌜ Meets r (λ q. winner t q (zonesOf (now (d .entry)))) ⌝ }
     ensures { λ r. ⌜ r .next ≡ nearest t (heldDues (zonesOf (now (d .entry)))) ⌝ }

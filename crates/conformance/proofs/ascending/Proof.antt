@@ -1,3 +1,4 @@
+-- `least` is one above the number before k, so that what is left ascends from it just where the whole list ascends.
 use Prim.Native.Nat.{_≤_, _-_}
 use mathlib.Core.Path.{_≡_, refl}
 use native.Mathlib.Omega.{arith}

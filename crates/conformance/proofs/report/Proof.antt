@@ -1,3 +1,4 @@
+-- 16, 17 and 15 are known before anything is written; `count` says the length, and `write` has the room for it.
 use native.Mathlib.Omega.{arith}
 use Rattle.conformance.proofs.Listed.{by-flags}
 use Rattle.conformance.proofs.Answers.{judged-type, few, room, ends-16, ends-17, ends-15, ends-0}

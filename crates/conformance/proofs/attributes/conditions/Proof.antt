@@ -1,3 +1,4 @@
+-- `has` gives each feature bit, and each place of the array is that of the definition's list.
 use Rattle.conformance.specs.Attributes.{conditions}
 use borrow.Author.Needs.{needs}
 use Rattle.conformance.proofs.attributes.conditions.Statement.{statement}

@@ -1,3 +1,4 @@
+-- Within the list it is the store; past its end a store changes nothing.
 use mathlib.Core.Path.{sym}
 use mathlib.Core.Bool.{true}
 use lib.Seq.{set-out}

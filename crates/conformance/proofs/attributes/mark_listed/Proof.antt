@@ -1,3 +1,4 @@
+-- To mark the numbers from k on in the flags now is to mark them all in the flags of the start.
 use borrow.Author.Needs.{needs}
 use Prim.Native.Nat.{_≤_, _-_}
 use mathlib.Core.Path.{_≡_, refl}

@@ -1,3 +1,4 @@
+-- The table of the code is that of specs/, row by row.
 use Rattle.conformance.specs.Attributes.{rows}
 use mathlib.Core.Path.{refl}
 use borrow.Author.Needs.{needs}

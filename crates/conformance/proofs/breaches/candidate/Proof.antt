@@ -1,3 +1,4 @@
+-- The first pairs go by group and bit, quotient and rest by BITS; behind them stand the table's rows.
 use Prim.Native.Nat.{_-_}
 use native.Mathlib.Omega.{arith}
 use mathlib.Core.Path.{sym}

@@ -1,3 +1,4 @@
+-- The pairs counted and those left from place k make the whole report; n is at most k, so it does not overflow.
 use native.Mathlib.Nat.{zero-add}
 use Prim.Native.Nat.{_-_, _≤_}
 use mathlib.Core.Logic.{⊎-elim}

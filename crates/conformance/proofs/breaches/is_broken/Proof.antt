@@ -1,3 +1,4 @@
+-- A place among the bits has `broken_bit`'s rule, and one behind them that of its row, `lacks_attribute`'s.
 use Prim.Native.Nat.{_-_}
 use mathlib.Core.Path.{_∙_}
 use native.Mathlib.Omega.{arith}

@@ -1,3 +1,4 @@
+-- `row_at` gives the number and its condition, `flag` whether it holds and whether the number is listed.
 use Rattle.conformance.proofs.Candidates.{row-lacks}
 use borrow.Author.Needs.{needs}
 use Rattle.conformance.proofs.breaches.lacks_attribute.Statement.{statement}

@@ -1,3 +1,4 @@
+-- What is left to store from place k, at `at`, makes the whole report, and has room; at is at most 2 * k, so no sum overflows.
 use mathlib.Core.Path.{_∙_}
 use Prim.Native.Nat.{_*_, _-_, _≤_}
 use mathlib.Core.Logic.{⊎-elim}

@@ -1,3 +1,4 @@
+-- A type's mask in INVALID has just the bits of its list in `invalid`: computed over all types and bits.
 use mathlib.Core.Path.{refl, _∙_}
 use Rattle.conformance.specs.Endpoints.{invalid}
 use Rattle.conformance.specs.Lists.{member}

@@ -1,3 +1,4 @@
+-- A type's mask in REQUIRED has just the bits of its list in `required`: computed over all types and bits.
 use mathlib.Core.Path.{refl, _∙_}
 use Rattle.conformance.specs.Endpoints.{required}
 use Rattle.conformance.specs.Lists.{member}

@@ -1,3 +1,4 @@
+-- The number picks the rule at its place in `bitRules`; one past 3 is 4, as there are five.
 use mathlib.Core.Path.{_≡_}
 use native.Mathlib.Omega.{arith}
 use Rattle.conformance.specs.Rules.{bitRules}

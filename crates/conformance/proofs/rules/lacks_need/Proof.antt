@@ -1,3 +1,4 @@
+-- `need` gives a bit of the map, below 64, and `has` says whether each of the two is there.
 use Prim.Native.Nat.{_<_}
 use mathlib.Core.Bool.{Bool, true, false, cond}
 use native.Mathlib.Omega.{arith}

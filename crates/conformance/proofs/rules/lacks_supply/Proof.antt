@@ -1,3 +1,4 @@
+-- `has` gives both bits; the two alternatives are the definition's.
 use Rattle.conformance.specs.Rules.{lacksSupply}
 use borrow.Author.Needs.{needs}
 use Rattle.conformance.proofs.rules.lacks_supply.Statement.{statement}

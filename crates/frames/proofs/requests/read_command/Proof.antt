@@ -1,3 +1,4 @@
+-- Commands 1 and 3 are read by `read_values`, with null and without it; a clear is what is left.
 use Rattle.frames.proofs.Requested.{limit-is, limit-wrong, setpoint-is, setpoint-wrong, clear-is}
 use borrow.Author.Needs.{needs}
 use Rattle.frames.proofs.requests.read_command.Statement.{statement}

@@ -1,3 +1,4 @@
+-- Both cases are those of `fieldOf`; a value of 64 signed bits is copied whole.
 use mir.Syntax.{w64}
 use mir.Val.{SFits}
 use mir.ValLaws.{toZ-ofZ}

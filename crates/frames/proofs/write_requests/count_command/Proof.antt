@@ -1,3 +1,4 @@
+-- A Set command has the pairs that `count_limits` counts, a clear one for its direction or none, an unserved one none.
 use Rattle.map_fields.proofs.Added.{count-none}
 use mathlib.Core.Path.{ap, sym, _∙_}
 use Rattle.map_fields.specs.Puts.{pairsOf}

@@ -1,3 +1,4 @@
+-- The bytes are those of the command's fields: `put_limits` for a Set command, one amount for a clear, none else.
 use native.Mathlib.Omega.{arith}
 use mathlib.Core.Path.{ap, sym, _∙_}
 use Rattle.map_fields.specs.Puts.{fieldBytes}

@@ -1,3 +1,4 @@
+-- The head of a map of five, four numbers, and the parameters behind the head of their map: that is the item's encoding.
 use native.Mathlib.Omega.{arith}
 use Rattle.frames.proofs.Writes.{request-bytes}
 use Rattle.map_fields.proofs.Added.{puts-more, puts-wider, puts-same, puts-head}

@@ -1,3 +1,4 @@
+-- The head of a map of two or three, id, status and the result behind them: that is the item's encoding.
 use Rattle.frames.specs.Responses.{outcomeItem}
 use native.Mathlib.Omega.{arith}
 use Rattle.frames.proofs.Writes.{pairs-small, response-bytes}

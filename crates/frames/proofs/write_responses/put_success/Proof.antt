@@ -1,3 +1,4 @@
+-- The head of a map of one pair, and success behind it, are the bytes of a clear's result.
 use native.Mathlib.Omega.{arith}
 use Rattle.frames.proofs.Writes.{clear-bytes}
 use Rattle.map_fields.proofs.Added.{puts-more, puts-wider, puts-same}

@@ -1,3 +1,4 @@
+-- A value that has not ended takes the lead where its seat is no larger; `least` gives the nearer end.
 use mathlib.Core.Path.{_∙_}
 use native.Mathlib.Omega.{arith}
 use borrow.Author.Needs.{needs}

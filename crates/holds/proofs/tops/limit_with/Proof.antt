@@ -1,3 +1,4 @@
+-- Of a value that has not ended, `least` gives the smaller limit and the nearer end; an ended one changes nothing.
 use mathlib.Core.Path.{_∙_}
 use native.Mathlib.Omega.{arith}
 use borrow.Author.Needs.{needs}

@@ -1,3 +1,4 @@
+-- MOST is the number of a claim that is not there, and END is the nearest of no ends.
 use mathlib.Core.Path.{refl}
 use native.Mathlib.Omega.{arith}
 use Rattle.holds.specs.Pass.{numberOf, placeOf}

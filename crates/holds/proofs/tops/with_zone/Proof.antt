@@ -1,3 +1,4 @@
+-- A free slot adds nothing; of a joined zone each quantity is added by `limit_with` or `lead_with`, the ends in the same order.
 use mathlib.Core.Bool.{true, false}
 use mathlib.Core.Path.{_≡_}
 use borrow.Author.Needs.{needs}

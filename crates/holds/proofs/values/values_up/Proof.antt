@@ -1,3 +1,4 @@
+-- Where both directions are supported, `shown` alone is `shown_if`; `with_state` sets the control state in front.
 use mir.Facts.{toZ-ofZ}
 use mir.Val.{SFits}
 use mir.Syntax.{w64}

@@ -1,3 +1,4 @@
+-- `state_up` gives the first number, and the four others are copied.
 use mir.Facts.{toZ-ofZ}
 use mir.Val.{SFits}
 use mir.Syntax.{w64}
