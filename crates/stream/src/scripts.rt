@@ -69,7 +69,7 @@ fn play_with(
     out: &mut [u8],
     rows: &mut [i64],
 ) -> u64
-    requires { ⌜ (frameRoom ≤ length (now out)) × (rowsRoom ≤ length (now rows)) ⌝ }
+    requires { ⌜ (frameRoom ≤ length (now out)) × (length (now rows) ≡ rowsRoom) ⌝ }
 {
     let mut x = Input {
         from: 0,
