@@ -24,9 +24,12 @@ pub use conformance::Answer as Reported;
 pub use conformance::Inputs;
 pub use conformance::report;
 pub use device::Asked;
+use device::HELDS;
 pub use device::MOST;
+use device::SLOTS;
 pub use device::Settings;
 pub use device::State;
+pub use device::VALUE_END;
 pub use device::VALUES;
 pub use device::WORDS;
 pub use device::calls::ask;
@@ -51,3 +54,16 @@ pub use frames::write_request;
 pub use frames::write_response;
 pub use planner::Planned;
 pub use planner::plan;
+
+// Numbers of a plan's row: the second, and what holds from then on; and of the longest plan, a row for each held value.
+pub const ROW: usize = 1 + VALUES;
+
+pub const PLAN: usize = SLOTS * HELDS * ROW;
+
+// Numbers of the longest report, two a pair.
+pub const REPORT: usize = 2 * 48;
+
+// Bytes of the longest frame, prefix and payload, and of the longest response frame.
+pub const FRAME: usize = 4 + 2048;
+
+pub const RESPONSE: usize = 41;

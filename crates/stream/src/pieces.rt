@@ -1,12 +1,13 @@
 // The records of one piece of a script.
-use device::State;
+use kernel::PLAN;
+use kernel::State;
 ghost use mathlib.Core.Path.{_≡_};
 ghost use mathlib.Core.Bool.{true};
 ghost use Prim.Native.Nat.{_≤_, _<_};
 ghost use lib.ListN.{length};
 
-// Room for the longest answer: a number and 32 rows of at most 96 bytes.
-const ANSWER: usize = 4096;
+// Room for the longest answer: its number and those of the longest plan, each of at most twenty characters and one behind them.
+const ANSWER: usize = (1 + PLAN) * 21;
 
 // Records are run up to `from` and answers printed up to `at`; `good` is false behind a bad record.
 pub(crate) struct Place {

@@ -3,19 +3,15 @@ use crate::input::Input;
 use crate::input::fill;
 use crate::pieces::Place;
 use crate::pieces::run;
-use device::MOST;
-use device::Settings;
-use device::State;
-use device::WORDS;
+use kernel::MOST;
+use kernel::PLAN;
+use kernel::RESPONSE;
+use kernel::Settings;
+use kernel::State;
+use kernel::WORDS;
 ghost use mathlib.Core.Path.{_≡_};
 ghost use mathlib.Core.Bool.{true};
 ghost use Prim.Native.Nat.{_<_};
-
-// The numbers of a whole plan: at most 32 rows of six.
-const ROWS: usize = 192;
-
-// Room for every response frame.
-const FRAME: usize = 128;
 
 // Bench's device.
 fn settings() -> Settings {
@@ -91,7 +87,7 @@ pub fn play(limit: u64) -> u64 {
     kernel::start(&mut d, settings());
     let mut buf = io::large_buffer();
     let mut page = io::large_buffer();
-    let mut out = [0u8; FRAME];
-    let mut rows = [0i64; ROWS];
+    let mut out = [0u8; RESPONSE];
+    let mut rows = [0i64; PLAN];
     play_with(&mut d, limit, &mut buf, &mut page, &mut out, &mut rows)
 }

@@ -1,3 +1,4 @@
+-- A good step moves on within the piece, and a bad one to its end.
 use mathlib.Core.Path.{sym, _∙_, ap}
 use native.Mathlib.Omega.{arith}
 use Rattle.script.proofs.Steps.{step-moves}
@@ -11,5 +12,11 @@ next-spec =
     tie.close
     (tie.spec
     (λ c κs. search needs) (λ c κs. search needs) (λ c. search needs) (λ c. search needs) (λ c. search needs)
-    (λ c. let m = step-moves (c .before .before .before .before .before .before .before .before .before .before .before .before .before .before .before .before .args .d .now) (c .before .before .before .before .before .before .before .before .before .before .before .before .before .before .before .before .args .s .now) (c .before .before .before .before .before .before .before .before .before .before .before .before .before .before .before .before .args .p .from) (c .before .before .before .before .before .before .before .before .before .before .before .before .before .before .before .before .args .out .now) (c .before .before .before .before .before .before .before .before .before .before .before .before .before .before .before .before .args .rows .now) (ap (λ (y : Stepped). y .good) (sym (c .before .before .before .before .before .before .before .before .before .step .ensures .0)) ∙ c .before .before .before .before .before .if1 .taken) in let n = ap (λ (y : Stepped). y .next) (c .before .before .before .before .before .before .before .before .before .step .ensures .0) in (omega (arith, m .0), omega (arith, m .1)))
+    (λ c.
+    let at-args = c .before .before .before .before .before .before .before .before .before .before .before .before .before .before .before .before .args in
+    let stepped = c .before .before .before .before .before .before .before .before .before .step .ensures .0 in
+    let m = step-moves (at-args .d .now) (at-args .s .now) (at-args .p .from) (at-args .out .now) (at-args .rows .now)
+    (ap (λ (y : Stepped). y .good) (sym stepped) ∙ c .before .before .before .before .before .if1 .taken) in
+    let n = ap (λ (y : Stepped). y .next) stepped in
+    (omega (arith, m .0), omega (arith, m .1)))
     (λ c. search needs) (λ c. search needs) (λ c. search needs))

@@ -1,3 +1,4 @@
+-- The bytes left fall with each record, and the buffers keep their lengths.
 use Prim.Native.Nat.{_≤_, _-_}
 use mathlib.Core.Path.{_≡_, refl}
 use native.Mathlib.Omega.{arith}
