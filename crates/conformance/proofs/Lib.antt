@@ -1,4 +1,4 @@
--- What the proofs of several functions use, and the laws of the report that callers cite.
+-- What the proofs of several functions use, and the laws of the report.
 pub mod Bools
 pub mod Walks
 pub mod Tables

@@ -1,5 +1,5 @@
 // The records of one piece of a script.
-use device::State;
+use kernel::State;
 ghost use mathlib.Core.Path.{_≡_};
 ghost use mathlib.Core.Bool.{true, false};
 ghost use mathlib.Core.List.{List, [], _++_};

@@ -1,4 +1,4 @@
--- Within the list it is the element; past its end it is the default, false.
+-- The flag at the place, and a no past the end.
 use mathlib.Core.Path.{sym}
 use mathlib.Core.Bool.{false}
 use lib.ListN.{List·getD-eq-default}

@@ -1,4 +1,4 @@
--- Within the list it is the store; past its end a store changes nothing.
+-- The flag at the place is set; past the end there is none to set.
 use mathlib.Core.Path.{sym}
 use mathlib.Core.Bool.{true}
 use lib.Seq.{set-out}

@@ -1,4 +1,4 @@
--- The table of the code is that of specs/, row by row.
+-- The code's table is the definition's, row by row.
 use Rattle.conformance.specs.Attributes.{rows}
 use mathlib.Core.Path.{refl}
 use borrow.Author.Needs.{needs}

@@ -1,4 +1,4 @@
--- The two stores are the pair, and both places are in the room that is asked for.
+-- Two stores, one behind the other.
 use native.Mathlib.Numerals.{add-one}
 use borrow.Author.Needs.{needs}
 use Rattle.conformance.proofs.breaches.put.Statement.{statement}

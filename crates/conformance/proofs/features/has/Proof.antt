@@ -1,4 +1,4 @@
--- Shifted by b, the lowest bit is the definition's; b is below 64, so the shift is defined.
+-- A bit is read by a shift, which is a division by its power.
 use Rattle.conformance.specs.Features.{bit}
 use mathlib.Core.Path.{refl}
 use borrow.Author.Needs.{needs}

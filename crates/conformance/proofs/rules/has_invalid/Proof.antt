@@ -1,4 +1,4 @@
--- `forbids_bit` and `has` give the two parts of the definition.
+-- The bit is forbidden and set.
 use Rattle.conformance.specs.Rules.{hasInvalid}
 use borrow.Author.Needs.{needs}
 use Rattle.conformance.proofs.rules.has_invalid.Statement.{statement}

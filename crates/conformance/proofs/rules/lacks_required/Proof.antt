@@ -1,4 +1,4 @@
--- `requires_bit` and `has` give the two parts of the definition.
+-- The bit is required and clear.
 use Rattle.conformance.specs.Rules.{lacksRequired}
 use borrow.Author.Needs.{needs}
 use Rattle.conformance.proofs.rules.lacks_required.Statement.{statement}

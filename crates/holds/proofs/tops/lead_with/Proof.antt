@@ -1,8 +1,4 @@
-<<<<<<< HEAD
--- A value that has not ended takes the lead where its seat is no larger; `least` gives the nearer end.
-=======
 -- An unexpired value goes in with its seat where no smaller seat stands, and its end where it is nearer.
->>>>>>> 74e3d9c08ae7dc1efa5c1c6121d2d1545d2b2113
 use mathlib.Core.Path.{_∙_}
 use native.Mathlib.Omega.{arith}
 use borrow.Author.Needs.{needs}

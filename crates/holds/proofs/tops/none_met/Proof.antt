@@ -1,8 +1,4 @@
-<<<<<<< HEAD
--- MOST is the number of a claim that is not there, and END is the nearest of no ends.
-=======
 -- Every number is the largest word, which stands for no claim.
->>>>>>> 74e3d9c08ae7dc1efa5c1c6121d2d1545d2b2113
 use mathlib.Core.Path.{refl}
 use native.Mathlib.Omega.{arith}
 use Rattle.holds.specs.Pass.{numberOf, placeOf}

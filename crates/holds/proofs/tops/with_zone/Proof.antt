@@ -1,8 +1,4 @@
-<<<<<<< HEAD
--- A free slot adds nothing; of a joined zone each quantity is added by `limit_with` or `lead_with`, the ends in the same order.
-=======
 -- A free slot claims nothing; a joined zone's limits and setpoints are met one after the other.
->>>>>>> 74e3d9c08ae7dc1efa5c1c6121d2d1545d2b2113
 use mathlib.Core.Bool.{true, false}
 use mathlib.Core.Path.{_≡_}
 use borrow.Author.Needs.{needs}

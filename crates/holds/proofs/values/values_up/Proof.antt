@@ -1,11 +1,7 @@
-<<<<<<< HEAD
--- Where both directions are supported, `shown` alone is `shown_if`; `with_state` sets the control state in front.
-=======
 -- Each turn shows one quantity; the control state is stored last, from the limits shown.
 use Prim.Native.Nat.{_-_, _+_, _≤_}
 use mathlib.Core.Path.{_≡_, refl, sym, ap, _∙_}
 use native.Mathlib.Omega.{arith}
->>>>>>> 74e3d9c08ae7dc1efa5c1c6121d2d1545d2b2113
 use mir.Facts.{toZ-ofZ}
 use mir.Val.{SFits}
 use mir.Syntax.{w64}
