@@ -1,3 +1,4 @@
+-- What the proofs of several functions use, and the laws of the report.
 pub mod Bools
 pub mod Walks
 pub mod Tables

@@ -84,6 +84,7 @@ const TABLE: [Row; ROWS] = [
     Row(81, IF_PROCESS_STATE), // optionalProcess
 ];
 
+// The k-th row, so that the table is read in one place.
 pub fn row_at(k: usize) -> Row
     requires { ⌜ k < rowCount ⌝ }
     ensures { λ r. ⌜ r ≡ getD rows k noRow ⌝ }

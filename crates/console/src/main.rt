@@ -1,6 +1,6 @@
 // The kernel by hand: reads lines from standard input, and answers each with a line.
-use device::State;
-use device::WORDS;
+use kernel::State;
+use kernel::WORDS;
 use libc::STDIN_FILENO;
 use libc::STDOUT_FILENO;
 use lines::ANSWER;

@@ -16,8 +16,10 @@ use Rattle.messages.specs.declared.Aim.{Aim}
 use Rattle.messages.specs.declared.Limits.{Limits}
 use Rattle.messages.specs.declared.Command.{Command}
 use Rattle.frames.specs.Prefix.{framed, payloadIn}
-use Rattle.map_fields.specs.Fields.{mapIn, upTo, needed, optional, inRange, signed, valueIn, durationIn, aimIn}
-use Rattle.frames.specs.Requests.{Envelope, envelopeIn, servedAt, servedCommand, limitsIn, targetOf, setpointsOf, commandIn, withCommand, fromEnvelope, fromPayload, readRequest}
+use Rattle.map_fields.specs.Fields.{mapIn, upTo, needed, optional, inRange, signed, most32, valueIn, amountIn, aimIn}
+use Rattle.frames.specs.Settings.{settingIn, targetOf, limitsFrom, setpointsFrom}
+use Rattle.frames.specs.declared.settings.Setting.{Setting}
+use Rattle.frames.specs.Requests.{Envelope, envelopeIn, servedAt, servedCommand, commandIn, withCommand, fromEnvelope, fromPayload, readRequest}
 use Rattle.frames.specs.declared.requests.Reading.{Reading}
 use Rattle.store.specs.declared.Settings.{Settings}
 use Rattle.command.specs.declared.Action.{Action}
@@ -95,13 +97,16 @@ unfolding valueIn optional
 small-value null none = tt
 small-value null (some i) = every-map SmallField SmallField (signed null i) (λ f. f) (small-signed null i) (λ f h. h)
 
-small-limits : (null : Bool) (ps : Pairs) → Every SmallLimits (limitsIn null ps)
-unfolding limitsIn
-small-limits null ps =
-    every-bind SmallField SmallLimits (valueIn null (valueOf ps 1)) _ (small-value null (valueOf ps 1)) (λ c hc.
-    every-bind SmallField SmallLimits (valueIn null (valueOf ps 2)) _ (small-value null (valueOf ps 2)) (λ p hp.
-    any-bind SmallLimits (durationIn (valueOf ps 3)) _ (λ d.
-    any-bind SmallLimits (needed (upTo 255) (valueOf ps 4)) _ (λ k. (hc, hp)))))
+abbrev SmallSetting : Setting → Type 0
+SmallSetting s = SmallField (s .consumption) × SmallField (s .production)
+
+small-setting : (null : Bool) (ps : Pairs) → Every SmallSetting (settingIn null ps)
+unfolding settingIn
+small-setting null ps =
+    every-bind SmallField SmallSetting (valueIn null (valueOf ps 1)) _ (small-value null (valueOf ps 1)) (λ c hc.
+    every-bind SmallField SmallSetting (valueIn null (valueOf ps 2)) _ (small-value null (valueOf ps 2)) (λ p hp.
+    any-bind SmallSetting (amountIn most32 (valueOf ps 3)) _ (λ d.
+    any-bind SmallSetting (needed (upTo 255) (valueOf ps 4)) _ (λ k. (hc, hp)))))
 
 small-cond : (b : Bool) (f g : Field) → SmallField f → SmallField g → SmallField (cond b f g)
 small-cond true f g h k = h
@@ -118,23 +123,23 @@ small-aim Aim.Both d = tt
 small-aim (Aim.One e) d = small-cond (eqb e d) Field.Null Field.Absent tt tt
 
 small-command : (c : ℕ) (ps : Pairs) → Every SmallCommand (commandIn c ps)
-unfolding commandIn setpointsOf says
+unfolding commandIn limitsFrom setpointsFrom says
 small-command c ps = go (eqb c 1) (eqb c 2) (eqb c 3)
   where
     go : (x y z : Bool) → Every SmallCommand (
-        cond x (Option·map Command.SetLimit (limitsIn true ps))
+        cond x (Option·map (λ s. Command.SetLimit (limitsFrom s)) (settingIn true ps))
         (cond y (Option·map Command.ClearLimit (aimIn (valueOf ps 1)))
-        (cond z (Option·map (λ l. Command.SetSetpoint (setpointsOf l)) (limitsIn false ps))
+        (cond z (Option·map (λ s. Command.SetSetpoint (setpointsFrom s)) (settingIn false ps))
         (Option·map Command.ClearSetpoint (aimIn (valueOf ps 1))))))
     go true y z =
-        every-map SmallLimits SmallCommand (limitsIn true ps) Command.SetLimit (small-limits true ps)
-        (λ m h q. small-cond (isLimit q) (limitField m (directionOf q)) Field.Absent (small-cond (eqb (directionOf q) 0) (m .consumption) (m .production) (h .0) (h .1)) tt)
+        every-map SmallSetting SmallCommand (settingIn true ps) (λ s. Command.SetLimit (limitsFrom s)) (small-setting true ps)
+        (λ m h q. small-cond (isLimit q) (limitField (limitsFrom m) (directionOf q)) Field.Absent (small-cond (eqb (directionOf q) 0) (m .consumption) (m .production) (h .0) (h .1)) tt)
     go false true z =
         any-map SmallCommand (aimIn (valueOf ps 1)) Command.ClearLimit
         (λ a q. small-cond (isLimit q) (aimField a (directionOf q)) Field.Absent (small-aim a (directionOf q)) tt)
     go false false true =
-        every-map SmallLimits SmallCommand (limitsIn false ps) (λ l. Command.SetSetpoint (setpointsOf l)) (small-limits false ps)
-        (λ m h q. small-cond (isLimit q) Field.Absent (setpointField (setpointsOf m) (directionOf q)) tt
+        every-map SmallSetting SmallCommand (settingIn false ps) (λ s. Command.SetSetpoint (setpointsFrom s)) (small-setting false ps)
+        (λ m h q. small-cond (isLimit q) Field.Absent (setpointField (setpointsFrom m) (directionOf q)) tt
         (small-cond (eqb (directionOf q) 0) (targetField (targetOf (m .consumption))) (targetField (targetOf (m .production)))
         (small-target (m .consumption) (h .0)) (small-target (m .production) (h .1))))
     go false false false =

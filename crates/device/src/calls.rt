@@ -58,6 +58,7 @@ fn new_zone(zone: u64, rank: u64) -> Zone
     }
 }
 
+// A zone joins with a rank: a whole new record in the first free slot, its link up, nothing held.
 pub fn join(d: &mut State, zone: u64, rank: u64, t: u64) -> u64
     ensures { λ r. ⌜ r ≡ joinNumber (now (d .entry)) zone rank t ⌝ }
     ensures { λ _. ⌜ now (d .exit) ≡ joinAfter (now (d .entry)) zone rank t ⌝ }
@@ -86,6 +87,7 @@ pub fn join(d: &mut State, zone: u64, rank: u64, t: u64) -> u64
     0
 }
 
+// A zone leaves: its slot is free, and nothing of it stays for the next one there.
 pub fn leave(d: &mut State, zone: u64, t: u64) -> u64
     ensures { λ r. ⌜ r ≡ leaveNumber (now (d .entry)) zone t ⌝ }
     ensures { λ _. ⌜ now (d .exit) ≡ leaveAfter (now (d .entry)) zone t ⌝ }
@@ -163,6 +165,7 @@ fn link(d: &mut State, zone: u64, up: bool, t: u64) -> u64
     0
 }
 
+// A zone's link is lost; what it set stays.
 pub fn lost(d: &mut State, zone: u64, t: u64) -> u64
     ensures { λ r. ⌜ r ≡ linkNumber (now (d .entry)) zone false t ⌝ }
     ensures { λ _. ⌜ now (d .exit) ≡ linkAfter (now (d .entry)) zone false t ⌝ }
@@ -170,6 +173,7 @@ pub fn lost(d: &mut State, zone: u64, t: u64) -> u64
     link(d, zone, false, t)
 }
 
+// A zone's link is back.
 pub fn back(d: &mut State, zone: u64, t: u64) -> u64
     ensures { λ r. ⌜ r ≡ linkNumber (now (d .entry)) zone true t ⌝ }
     ensures { λ _. ⌜ now (d .exit) ≡ linkAfter (now (d .entry)) zone true t ⌝ }
@@ -184,6 +188,7 @@ fn override_word(reason: u64, direction: u64) -> u64
     1 + 2 * reason + direction
 }
 
+// Sets the override, for a reason and a direction; one that is set is replaced.
 pub fn set_override(d: &mut State, reason: u64, direction: u64, t: u64) -> u64
     ensures { λ r. ⌜ r ≡ overrideNumber (now (d .entry)) reason direction t ⌝ }
     ensures { λ _. ⌜ now (d .exit) ≡ overrideAfter (now (d .entry)) reason direction t ⌝ }
@@ -198,6 +203,7 @@ pub fn set_override(d: &mut State, reason: u64, direction: u64, t: u64) -> u64
     18
 }
 
+// Clears the override, where one is set.
 pub fn clear_override(d: &mut State, t: u64) -> u64
     ensures { λ r. ⌜ r ≡ clearNumber (now (d .entry)) t ⌝ }
     ensures { λ _. ⌜ now (d .exit) ≡ clearAfter (now (d .entry)) t ⌝ }
@@ -212,6 +218,7 @@ pub fn clear_override(d: &mut State, t: u64) -> u64
     0
 }
 
+// What holds at t, without a frame: the clock moves, and nothing else.
 pub fn ask(d: &mut State, t: u64) -> Asked
     ensures { λ r. ⌜ r ≡ askAnswer (now (d .entry)) t ⌝ }
     ensures { λ _. ⌜ now (d .exit) ≡ askAfter (now (d .entry)) t ⌝ }

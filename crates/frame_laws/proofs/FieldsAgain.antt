@@ -11,7 +11,7 @@ use Rattle.cbor.specs.Item.{Item, Pairs}
 use Rattle.messages.specs.declared.Field.{Field}
 use Rattle.messages.specs.declared.Aim.{Aim}
 use Rattle.messages.specs.declared.Amount.{Amount}
-use Rattle.map_fields.specs.Fields.{upTo, truth, signed, mapIn, needed, optional, most32, durationIn, valueIn, aimIn, amountIn, successIn, onlyTrue, truthItem, valueItem, durationItem, aimItem, amountItem}
+use Rattle.map_fields.specs.Fields.{upTo, truth, signed, mapIn, needed, optional, valueIn, aimIn, amountIn, successIn, onlyTrue, truthItem, valueItem, aimItem, amountItem}
 use Rattle.frames.specs.Requests.{aimWide}
 use Rattle.frames.specs.Responses.{amountUpTo}
 use Rattle.frame_laws.specs.RoundTrips.{Field64}
@@ -108,14 +108,6 @@ success-again o b e = go (p .0) (truth-again o (p .0) (p .1)) (p .2)
     go : (x : Bool) → o ≡ some (truthItem x) → onlyTrue x ≡ some b → o ≡ some (truthItem true)
     go true h f = h
     go false h f = absurd (no-value f)
-
-pub duration-again : (o : Option Item) (d : ℕ) → durationIn o ≡ some d → (d ≤ most32) × ((o ≡ some (Item.uint 0) → ⊥) → o ≡ durationItem d)
-unfolding durationIn optional durationItem
-duration-again none d e = (let z : 0 ≡ d = cc in omega arith, λ n. let z : 0 ≡ d = cc in rw (eq-eqb d 0 (sym z)))
-duration-again (some i) d e =
-    let p = map-part (λ (x : ℕ). x) (upTo most32 i) d e in
-    let u = up-to most32 i d (p .1 ∙ ap some (p .2)) in
-    (u .1, λ n. rw (ne-eqb d 0 (λ z. n (ap some (u .0 ∙ ap Item.uint z)))) (ap some (u .0)))
 
 pub aim-again : (o : Option Item) (a : Aim) → aimIn o ≡ some a → (o ≡ aimItem a) × (aimWide a ≡ false)
 unfolding aimIn optional aimItem

@@ -14,7 +14,7 @@ use Rattle.cbor.proofs.Widths.{head-length, head-short}
 use Rattle.messages.specs.declared.Field.{Field}
 use Rattle.messages.specs.declared.Aim.{Aim}
 use Rattle.messages.specs.declared.Amount.{Amount}
-use Rattle.map_fields.specs.Fields.{upTo, truth, signed, needed, optional, most32, durationIn, valueIn, aimIn, amountIn, successIn, truthItem, valueItem, durationItem, aimItem, amountItem}
+use Rattle.map_fields.specs.Fields.{upTo, truth, signed, needed, optional, valueIn, aimIn, amountIn, successIn, truthItem, valueItem, aimItem, amountItem}
 use Rattle.frames.specs.Requests.{aimWide}
 use Rattle.frames.specs.Responses.{amountUpTo}
 use Rattle.map_fields.specs.Puts.{fieldBytes}
@@ -33,14 +33,6 @@ truth-back false = refl
 pub success-back : successIn (some (truthItem true)) ≡ some true
 unfolding successIn needed truth bind
 success-back = refl
-
-pub duration-back : (d : ℕ) → d ≤ most32 → durationIn (durationItem d) ≡ some d
-unfolding durationIn durationItem optional upTo
-duration-back d h = go (eqb d 0) refl
-  where
-    go : (b : Bool) → eqb d 0 ≡ b → durationIn (cond b none (some (Item.uint d))) ≡ some d
-    go true e = rw (eqb-true d 0 e)
-    go false e = rw (le-leb d most32 h)
 
 pub aim-back : (a : Aim) → aimWide a ≡ false → aimIn (aimItem a) ≡ some a
 unfolding aimIn aimItem optional upTo
@@ -75,14 +67,6 @@ unfolding Ok
 ok-truth true d = (omega arith, omega arith)
 ok-truth false d = (omega arith, omega arith)
 
-pub ok-duration : (n d : ℕ) → n < 2 ^ 64 → OkField (durationItem n) d
-unfolding durationItem Ok
-ok-duration n d h = go (eqb n 0)
-  where
-    go : (b : Bool) → OkField (cond b none (some (Item.uint n))) d
-    go true = tt
-    go false = h
-
 pub ok-aim : (a : Aim) (d : ℕ) → aimWide a ≡ false → OkField (aimItem a) d
 unfolding aimItem Ok
 ok-aim Aim.Both d h = tt
@@ -112,14 +96,6 @@ pub short-truth : (k : ℕ) (b : Bool) → length (fieldBytes k (some (truthItem
 unfolding fieldBytes encode
 short-truth k true = rw length-append (pair-short k 7 21)
 short-truth k false = rw length-append (pair-short k 7 20)
-
-pub short-duration : (k n : ℕ) → length (fieldBytes k (durationItem n)) ≤ 18
-unfolding durationItem fieldBytes
-short-duration k n = go (eqb n 0)
-  where
-    go : (b : Bool) → length (fieldBytes k (cond b none (some (Item.uint n)))) ≤ 18
-    go true = omega arith
-    go false = short-uint k n
 
 pub short-aim : (k : ℕ) (a : Aim) → length (fieldBytes k (aimItem a)) ≤ 18
 unfolding aimItem fieldBytes

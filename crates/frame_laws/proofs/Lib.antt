@@ -7,3 +7,4 @@ pub mod RequestBack
 pub mod RequestAgain
 pub mod ResponseBack
 pub mod ResponseAgain
+pub mod Longest

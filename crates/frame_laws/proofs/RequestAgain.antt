@@ -6,27 +6,30 @@ use mathlib.Core.List.{List, [], _∷_}
 use mathlib.Core.Option.{Option, some, none, bind, Option·map}
 use native.Mathlib.Omega.{arith}
 use lib.Dec.{leb, ltb, eqb}
-use borrow.Author.Tests.{leb-true, eqb-true, eqb-false, le-ltb}
+use borrow.Author.Tests.{leb-true, eqb-true, eqb-false, ne-eqb, le-ltb}
 use Rattle.cbor.specs.Item.{Item, Pairs, payloadOf, Ok, OkPairs, levels}
 use Rattle.cbor.specs.Find.{valueOf}
 use Rattle.messages.specs.Numbers.{wireNumber}
 use Rattle.messages.specs.Refusals.{firstOf}
 use Rattle.messages.specs.declared.Field.{Field}
 use Rattle.messages.specs.declared.Aim.{Aim}
-use Rattle.messages.specs.declared.Limits.{Limits}
+use Rattle.messages.specs.declared.Amount.{Amount}
 use Rattle.messages.specs.declared.Command.{Command}
 use Rattle.messages.specs.declared.Request.{Request}
 use Rattle.frames.specs.Prefix.{framed, payloadIn}
-use Rattle.map_fields.specs.Fields.{present, upTo, mapIn, needed, most32, durationIn, valueIn, aimIn, aimItem}
-use Rattle.frames.specs.Requests.{Envelope, envelopeIn, limitsIn, targetOf, setpointsOf, commandIn, servedAt, servedCommand, withCommand, fromEnvelope, fromPayload, readRequest, fieldOf, limitsOf, limitsFields, commandFields, requestFields, requestItem, commandWide, isServed, requestWide, requestUnserved, requestNumber}
+use Rattle.map_fields.specs.Fields.{present, upTo, mapIn, needed, most32, valueIn, aimIn, amountIn, aimItem, amountItem}
+use Rattle.frames.specs.Settings.{settingIn, durationOf, durationAmount, targetOf, fieldOf, limitsFrom, setpointsFrom, settingOfLimits, settingOfSetpoints, settingFields}
+use Rattle.frames.specs.declared.settings.Setting.{Setting}
+use Rattle.frames.specs.Responses.{amountUpTo}
+use Rattle.frames.specs.Requests.{Envelope, envelopeIn, commandIn, servedAt, servedCommand, withCommand, fromEnvelope, fromPayload, readRequest, commandFields, requestFields, requestItem, commandWide, isServed, requestWide, requestUnserved, requestNumber}
 use Rattle.frames.specs.Writing.{itemFrame}
 use Rattle.frame_laws.specs.RoundTrips.{Field64, Target64, Command64, KeysTo, parameterKeys, PlainRequest, RequestWritable, RequestWritesAgain}
 use Rattle.frames.specs.declared.requests.Reading.{Reading}
 use Rattle.map_fields.proofs.Joined.{no-both, and-left, and-right}
 use Rattle.frame_laws.proofs.Maps.{OkFields, same-map, no-known}
 use Rattle.frame_laws.proofs.FieldsBack.{Allowed}
-use Rattle.frame_laws.proofs.FieldsAgain.{same-inside, bind-parts, map-part, uint-again, map-again, duration-again, aim-again, value-again}
-use Rattle.frame_laws.proofs.RequestBack.{limits-ascend, limits-ok, command-ok, request-ascend, request-ok}
+use Rattle.frame_laws.proofs.FieldsAgain.{same-inside, bind-parts, map-part, uint-again, map-again, aim-again, amount-again, value-again}
+use Rattle.frame_laws.proofs.RequestBack.{setting-ascend, setting-ok, command-ok, request-ascend, request-ok}
 use Rattle.map_fields.proofs.Joined.{four}
 use Rattle.frame_laws.proofs.Trips.{item-in, frame-again, value-ok, map-ok}
 
@@ -39,38 +42,56 @@ pub record Again (c : ℕ) (ps : Pairs) (x : Command) : Type 0 where
   pub bits : Command64 x
   pub same : (lo d : ℕ) → OkPairs ps lo d → KeysTo (parameterKeys c) ps → (valueOf ps 3 ≡ some (Item.uint 0) → ⊥) → present (commandFields x) ≡ ps
 
--- the same of the parameters of a Set command
-pub record AgainSet (null : Bool) (ps : Pairs) (l : Limits) : Type 0 where
-  pub range : (ltb most32 (l .duration) || ltb 255 (l .cause)) ≡ false
-  pub first : Field64 (l .consumption) × Allowed null (l .consumption)
-  pub second : Field64 (l .production) × Allowed null (l .production)
-  pub same : (lo d : ℕ) → OkPairs ps lo d → KeysTo 4 ps → (valueOf ps 3 ≡ some (Item.uint 0) → ⊥) → present (limitsFields l) ≡ ps
+-- the same of the parameters of a Set command, which keep their duration as it was written
+pub record AgainSet (null : Bool) (ps : Pairs) (s : Setting) : Type 0 where
+  pub range : (amountUpTo most32 (s .duration) ≡ true) × (s .cause ≤ 255)
+  pub first : Field64 (s .consumption) × Allowed null (s .consumption)
+  pub second : Field64 (s .production) × Allowed null (s .production)
+  pub third : valueOf ps 3 ≡ amountItem (s .duration)
+  pub same : (lo d : ℕ) → OkPairs ps lo d → KeysTo 4 ps → present (settingFields s) ≡ ps
 
 module _ (null : Bool) (ps : Pairs) where
-  made : (x y : Field) (n k : ℕ) → valueIn null (valueOf ps 1) ≡ some x → valueIn null (valueOf ps 2) ≡ some y → durationIn (valueOf ps 3) ≡ some n → needed (upTo 255) (valueOf ps 4) ≡ some k → AgainSet null ps (record { consumption = x; production = y; duration = n; cause = k })
-  unfolding limitsFields
+  made : (x y : Field) (a : Amount) (k : ℕ) → valueIn null (valueOf ps 1) ≡ some x → valueIn null (valueOf ps 2) ≡ some y → amountIn most32 (valueOf ps 3) ≡ some a
+      → needed (upTo 255) (valueOf ps 4) ≡ some k → AgainSet null ps (record { consumption = x; production = y; duration = a; cause = k })
+  unfolding settingFields
   made x y n k ex ey en ek =
       let a = value-again null (valueOf ps 1) x ex in
       let b = value-again null (valueOf ps 2) y ey in
-      let c = duration-again (valueOf ps 3) n en in
+      let c = amount-again most32 (valueOf ps 3) n en in
       let d = uint-again 255 (valueOf ps 4) k ek in
-      let l : Limits = record { consumption = x; production = y; duration = n; cause = k } in
+      let s : Setting = record { consumption = x; production = y; duration = n; cause = k } in
       record {
-        range = rw (le-ltb most32 n (c .0), le-ltb 255 k (d .1));
+        range = (c .1, d .1);
         first = (a .1, a .2);
         second = (b .1, b .2);
-        same = λ lo dd ok keys z. same-map ps (limitsFields l) lo dd ok (limits-ascend l) (limits-ok l dd (a .1) (b .1) (c .0) (d .1)) (a .0, (b .0, (c .1 z, (d .0, tt)))) (λ j h. keys j (no-known (limitsFields l) j (refl, (refl, (refl, (refl, tt)))) h));
+        third = c .0;
+        same = λ lo dd ok keys.
+            same-map ps (settingFields s) lo dd ok (setting-ascend s) (setting-ok s dd (a .1) (b .1) (c .1) (d .1)) (a .0, (b .0, (c .0, (d .0, tt))))
+            (λ j h. keys j (no-known (settingFields s) j (refl, (refl, (refl, (refl, tt)))) h));
       }
 
-  pub set-again : (l : Limits) → limitsIn null ps ≡ some l → AgainSet null ps l
-  unfolding limitsIn
-  set-again l e =
-      let a = bind-parts (valueIn null (valueOf ps 1)) _ l e in
-      let b = bind-parts (valueIn null (valueOf ps 2)) _ l (a .2) in
-      let c = bind-parts (durationIn (valueOf ps 3)) _ l (b .2) in
-      let d = bind-parts (needed (upTo 255) (valueOf ps 4)) _ l (c .2) in
-      let q : record { consumption = a .0; production = b .0; duration = c .0; cause = d .0 } ≡ l = same-inside (d .2) in
-      subst (λ (x : Limits). AgainSet null ps x) q (made (a .0) (b .0) (c .0) (d .0) (a .1) (b .1) (c .1) (d .1))
+  pub set-again : (s : Setting) → settingIn null ps ≡ some s → AgainSet null ps s
+  unfolding settingIn
+  set-again s e =
+      let a = bind-parts (valueIn null (valueOf ps 1)) _ s e in
+      let b = bind-parts (valueIn null (valueOf ps 2)) _ s (a .2) in
+      let c = bind-parts (amountIn most32 (valueOf ps 3)) _ s (b .2) in
+      let d = bind-parts (needed (upTo 255) (valueOf ps 4)) _ s (c .2) in
+      let q : record { consumption = a .0; production = b .0; duration = c .0; cause = d .0 } ≡ s = same-inside (d .2) in
+      subst (λ (x : Setting). AgainSet null ps x) q (made (a .0) (b .0) (c .0) (d .0) (a .1) (b .1) (c .1) (d .1))
+
+-- a duration that is not a written zero is the one written again
+duration-again : (a : Amount) → (amountItem a ≡ some (Item.uint 0) → ⊥) → durationAmount (durationOf a) ≡ a
+unfolding amountItem
+duration-again Amount.Absent n = refl
+duration-again (Amount.Is d) n = rw (ne-eqb d 0 (λ z. n (ap (λ (k : ℕ). some (Item.uint k)) z)))
+
+duration-small : (a : Amount) → amountUpTo most32 a ≡ true → durationOf a ≤ most32
+duration-small Amount.Absent h = omega arith
+duration-small (Amount.Is d) h = leb-true d most32 h
+
+not-wide : (a : Amount) (k : ℕ) → amountUpTo most32 a ≡ true → k ≤ 255 → (ltb most32 (durationOf a) || ltb 255 k) ≡ false
+not-wide a k h g = rw (le-ltb most32 (durationOf a) (duration-small a h), le-ltb 255 k g)
 
 target-64 : (f : Field) → Field64 f → Target64 (targetOf f)
 target-64 Field.Absent h = tt
@@ -83,34 +104,49 @@ same-field Field.Absent h = refl
 same-field Field.Null h = absurd (no-both (sym h))
 same-field (Field.Value z) h = refl
 
-same-limits : (l : Limits) → Allowed false (l .consumption) → Allowed false (l .production) → limitsOf (setpointsOf l) ≡ l
-unfolding limitsOf setpointsOf
-same-limits l a b = rw (same-field (l .consumption) a, same-field (l .production) b)
+-- the parameters that are written again are those that were read
+same-limits : (s : Setting) → durationAmount (durationOf (s .duration)) ≡ s .duration → settingOfLimits (limitsFrom s) ≡ s
+unfolding settingOfLimits limitsFrom
+same-limits s e = rw e
+
+same-setpoints : (s : Setting) → durationAmount (durationOf (s .duration)) ≡ s .duration → Allowed false (s .consumption) → Allowed false (s .production) → settingOfSetpoints (setpointsFrom s) ≡ s
+unfolding settingOfSetpoints setpointsFrom
+same-setpoints s e a b = rw (same-field (s .consumption) a, same-field (s .production) b, e)
 
 -- the parameters of a clear
 clear-same : (ps : Pairs) (a : Aim) → valueOf ps 1 ≡ aimItem a → (lo d : ℕ) → OkPairs ps lo d → KeysTo 1 ps → OkFields ((1, aimItem a) ∷ []) d → present ((1, aimItem a) ∷ []) ≡ ps
 clear-same ps a e lo d ok keys f = same-map ps ((1, aimItem a) ∷ []) lo d ok (omega arith, tt) f (e, tt) (λ j h. keys j (no-known ((1, aimItem a) ∷ []) j (refl, tt) h))
 
 module _ (ps : Pairs) where
-  again-limit : (x : Command) → Option·map Command.SetLimit (limitsIn true ps) ≡ some x → Again 1 ps x
-  unfolding commandFields commandWide
+  again-limit : (x : Command) → Option·map (λ s. Command.SetLimit (limitsFrom s)) (settingIn true ps) ≡ some x → Again 1 ps x
+  unfolding commandFields commandWide limitsFrom
   again-limit x e =
-      let p = map-part Command.SetLimit (limitsIn true ps) x e in
+      let p = map-part (λ (s : Setting). Command.SetLimit (limitsFrom s)) (settingIn true ps) x e in
       let s = set-again true ps (p .0) (p .1) in
-      subst (λ (y : Command). Again 1 ps y) (p .2) (record { number = refl; served = refl; range = s .range; bits = (s .first .0, s .second .0); same = s .same })
+      subst (λ (y : Command). Again 1 ps y) (p .2)
+      (record {
+        number = refl;
+        served = refl;
+        range = not-wide (p .0 .duration) (p .0 .cause) (s .range .0) (s .range .1);
+        bits = (s .first .0, s .second .0);
+        same = λ lo d ok keys z.
+            ap (λ (l : Setting). present (settingFields l)) (same-limits (p .0) (duration-again (p .0 .duration) (λ q. z (s .third ∙ q)))) ∙ s .same lo d ok keys;
+      })
 
-  again-setpoint : (x : Command) → Option·map (λ l. Command.SetSetpoint (setpointsOf l)) (limitsIn false ps) ≡ some x → Again 3 ps x
-  unfolding commandFields commandWide setpointsOf
+  again-setpoint : (x : Command) → Option·map (λ s. Command.SetSetpoint (setpointsFrom s)) (settingIn false ps) ≡ some x → Again 3 ps x
+  unfolding commandFields commandWide setpointsFrom
   again-setpoint x e =
-      let p = map-part (λ (l : Limits). Command.SetSetpoint (setpointsOf l)) (limitsIn false ps) x e in
+      let p = map-part (λ (s : Setting). Command.SetSetpoint (setpointsFrom s)) (settingIn false ps) x e in
       let s = set-again false ps (p .0) (p .1) in
       subst (λ (y : Command). Again 3 ps y) (p .2)
       (record {
         number = refl;
         served = refl;
-        range = s .range;
+        range = not-wide (p .0 .duration) (p .0 .cause) (s .range .0) (s .range .1);
         bits = (target-64 (p .0 .consumption) (s .first .0), target-64 (p .0 .production) (s .second .0));
-        same = λ lo d ok keys z. ap (λ (l : Limits). present (limitsFields l)) (same-limits (p .0) (s .first .1) (s .second .1)) ∙ s .same lo d ok keys z;
+        same = λ lo d ok keys z.
+            ap (λ (l : Setting). present (settingFields l)) (same-setpoints (p .0) (duration-again (p .0 .duration) (λ q. z (s .third ∙ q))) (s .first .1) (s .second .1))
+            ∙ s .same lo d ok keys;
       })
 
   again-clear-limit : (x : Command) → Option·map Command.ClearLimit (aimIn (valueOf ps 1)) ≡ some x → Again 2 ps x
@@ -132,7 +168,7 @@ module _ (ps : Pairs) where
   command-again c x s e = go (eqb c 1) (eqb c 2) (eqb c 3) refl refl refl e
     where
       go : (p q r : Bool) → eqb c 1 ≡ p → eqb c 2 ≡ q → eqb c 3 ≡ r
-          → cond p (Option·map Command.SetLimit (limitsIn true ps)) (cond q (Option·map Command.ClearLimit (aimIn (valueOf ps 1))) (cond r (Option·map (λ l. Command.SetSetpoint (setpointsOf l)) (limitsIn false ps)) (Option·map Command.ClearSetpoint (aimIn (valueOf ps 1))))) ≡ some x
+          → cond p (Option·map (λ s. Command.SetLimit (limitsFrom s)) (settingIn true ps)) (cond q (Option·map Command.ClearLimit (aimIn (valueOf ps 1))) (cond r (Option·map (λ s. Command.SetSetpoint (setpointsFrom s)) (settingIn false ps)) (Option·map Command.ClearSetpoint (aimIn (valueOf ps 1))))) ≡ some x
           → Again c ps x
       go true q r a b d h = subst (λ (n : ℕ). Again n ps x) (sym (eqb-true c 1 a)) (again-limit x h)
       go false true r a b d h = subst (λ (n : ℕ). Again n ps x) (sym (eqb-true c 2 b)) (again-clear-limit x h)

@@ -1,55 +1,80 @@
 -- A request that is written reads back equal. Assumes nothing.
 use Prim.Native.Nat.{ℕ, _^_, _≤_, _<_}
 use mathlib.Core.Path.{_≡_, refl, sym, ap, _∙_}
-use mathlib.Core.Bool.{Bool, true, false, _&&_, _||_}
+use mathlib.Core.Bool.{Bool, true, false, cond, _&&_, _||_}
 use mathlib.Core.List.{[], _∷_}
 use mathlib.Core.Option.{some, bind}
 use native.Mathlib.Omega.{arith}
 use lib.ListN.{length, length-append}
-use lib.Dec.{ltb}
-use borrow.Author.Tests.{ltb-false}
+use lib.Dec.{ltb, eqb}
+use borrow.Author.Tests.{ltb-false, eqb-true, le-leb}
 use Rattle.cbor.specs.Item.{Item, Ok, encode, levels}
 use Rattle.cbor.proofs.Widths.{head-length, head-short}
 use Rattle.messages.specs.Numbers.{wireNumber}
 use Rattle.messages.specs.Refusals.{firstOf}
 use Rattle.messages.specs.declared.Field.{Field}
 use Rattle.messages.specs.declared.Target.{Target}
+use Rattle.messages.specs.declared.Amount.{Amount}
 use Rattle.messages.specs.declared.Limits.{Limits}
 use Rattle.messages.specs.declared.Setpoints.{Setpoints}
 use Rattle.messages.specs.declared.Command.{Command}
 use Rattle.messages.specs.declared.Request.{Request}
 use Rattle.map_fields.specs.Fields.{present, mapIn, needed, most32, aimItem}
-use Rattle.frames.specs.Requests.{envelopeIn, limitsIn, targetOf, setpointsOf, commandIn, servedAt, servedCommand, fromEnvelope, readRequest, fieldOf, limitsOf, limitsFields, commandFields, requestFields, requestItem, commandWide, isServed, requestWide, requestUnserved, requestNumber}
+use Rattle.frames.specs.Settings.{settingIn, durationOf, durationAmount, targetOf, fieldOf, limitsFrom, setpointsFrom, settingOfLimits, settingOfSetpoints, settingFields}
+use Rattle.frames.specs.declared.settings.Setting.{Setting}
+use Rattle.frames.specs.Responses.{amountUpTo}
+use Rattle.frames.specs.Requests.{envelopeIn, commandIn, servedAt, servedCommand, fromEnvelope, readRequest, commandFields, requestFields, requestItem, commandWide, isServed, requestWide, requestUnserved, requestNumber}
 use Rattle.map_fields.specs.Puts.{fieldBytes}
 use Rattle.frames.specs.Writing.{itemFrame}
 use Rattle.frame_laws.specs.RoundTrips.{Field64, Target64, Command64, RequestReadsBack, OneRequest}
 use Rattle.frames.specs.declared.requests.Reading.{Reading}
 use Rattle.map_fields.proofs.Joined.{no-both, and-left, and-right, or-left, or-right, not-is-false}
 use Rattle.frame_laws.proofs.Maps.{Ascending, values, OkFields, ShortFields, ok-map, map-short}
-use Rattle.frame_laws.proofs.FieldsBack.{Allowed, uint-back, duration-back, aim-back, value-back, ok-uint, ok-duration, ok-aim, ok-value, short-uint, short-duration, short-aim, short-value}
+use Rattle.frame_laws.proofs.FieldsBack.{Allowed, uint-back, aim-back, amount-back, value-back, ok-uint, ok-aim, ok-amount, ok-value, short-uint, short-aim, short-amount, short-value}
 use Rattle.frames.proofs.Requested.{read-map-of}
 use Rattle.frame_laws.proofs.Trips.{frame-payload, frame-framed}
 
 -- THE PARAMETERS OF A SET COMMAND
-module _ (l : Limits) where
-  pub limits-ascend : Ascending (limitsFields l) 0
-  unfolding limitsFields
-  limits-ascend = (omega arith, (omega arith, (omega arith, (omega arith, tt))))
+module _ (s : Setting) where
+  pub setting-ascend : Ascending (settingFields s) 0
+  unfolding settingFields
+  setting-ascend = (omega arith, (omega arith, (omega arith, (omega arith, tt))))
 
-  pub limits-ok : (d : ℕ) → Field64 (l .consumption) → Field64 (l .production) → l .duration ≤ most32 → l .cause ≤ 255 → OkFields (limitsFields l) d
-  unfolding limitsFields
-  limits-ok d a b x y = (omega arith, ok-value (l .consumption) d a, (omega arith, ok-value (l .production) d b, (omega arith, ok-duration (l .duration) d (omega arith), (omega arith, ok-uint (l .cause) d (omega arith), tt))))
+  pub setting-ok : (d : ℕ) → Field64 (s .consumption) → Field64 (s .production) → amountUpTo most32 (s .duration) ≡ true → s .cause ≤ 255 → OkFields (settingFields s) d
+  unfolding settingFields
+  setting-ok d a b x y =
+      (omega arith, ok-value (s .consumption) d a, (omega arith, ok-value (s .production) d b,
+      (omega arith, ok-amount most32 (s .duration) d (omega arith) x, (omega arith, ok-uint (s .cause) d (omega arith), tt))))
 
-  limits-short : ShortFields (limitsFields l) 18
-  unfolding limitsFields
-  limits-short = (short-value 1 (l .consumption), (short-value 2 (l .production), (short-duration 3 (l .duration), (short-uint 4 (l .cause), tt))))
+  setting-short : ShortFields (settingFields s) 18
+  unfolding settingFields
+  setting-short = (short-value 1 (s .consumption), (short-value 2 (s .production), (short-amount 3 (s .duration), (short-uint 4 (s .cause), tt))))
 
-  limits-back : (null : Bool) → Allowed null (l .consumption) → Allowed null (l .production) → Field64 (l .consumption) → Field64 (l .production) → l .duration ≤ most32 → l .cause ≤ 255
-      → limitsIn null (present (limitsFields l)) ≡ some l
-  unfolding limitsIn bind limitsFields
-  limits-back null p q a b x y =
-      let v : (k : ℕ) → _ = λ (k : ℕ). values (limitsFields l) 0 k limits-ascend in
-      rw (v 1, v 2, v 3, v 4, value-back null (l .consumption) p a, value-back null (l .production) q b, duration-back (l .duration) x, uint-back 255 (l .cause) y)
+  setting-back : (null : Bool) → Allowed null (s .consumption) → Allowed null (s .production) → Field64 (s .consumption) → Field64 (s .production)
+      → amountUpTo most32 (s .duration) ≡ true → s .cause ≤ 255 → settingIn null (present (settingFields s)) ≡ some s
+  unfolding settingIn bind settingFields
+  setting-back null p q a b x y =
+      let v : (k : ℕ) → _ = λ (k : ℕ). values (settingFields s) 0 k setting-ascend in
+      rw (v 1, v 2, v 3, v 4, value-back null (s .consumption) p a, value-back null (s .production) q b, amount-back most32 (s .duration) x, uint-back 255 (s .cause) y)
+
+-- a duration, written and read
+duration-range : (d : ℕ) → d ≤ most32 → amountUpTo most32 (durationAmount d) ≡ true
+duration-range d h = go (eqb d 0)
+  where
+    go : (b : Bool) → amountUpTo most32 (cond b Amount.Absent (Amount.Is d)) ≡ true
+    go true = refl
+    go false = le-leb d most32 h
+
+same-duration : (d : ℕ) → durationOf (durationAmount d) ≡ d
+same-duration d = go (eqb d 0) refl
+  where
+    go : (b : Bool) → eqb d 0 ≡ b → durationOf (cond b Amount.Absent (Amount.Is d)) ≡ d
+    go true e = sym (eqb-true d 0 e)
+    go false e = refl
+
+same-limits : (l : Limits) → limitsFrom (settingOfLimits l) ≡ l
+unfolding limitsFrom settingOfLimits
+same-limits l = rw (same-duration (l .duration))
 
 allowed-target : (t : Target) → Allowed false (fieldOf t)
 allowed-target Target.Absent = tt
@@ -63,9 +88,9 @@ same-target : (t : Target) → targetOf (fieldOf t) ≡ t
 same-target Target.Absent = refl
 same-target (Target.Value z) = refl
 
-same-setpoints : (l : Setpoints) → setpointsOf (limitsOf l) ≡ l
-unfolding setpointsOf limitsOf
-same-setpoints l = rw (same-target (l .consumption), same-target (l .production))
+same-setpoints : (l : Setpoints) → setpointsFrom (settingOfSetpoints l) ≡ l
+unfolding setpointsFrom settingOfSetpoints
+same-setpoints l = rw (same-target (l .consumption), same-target (l .production), same-duration (l .duration))
 
 allowed-all : (f : Field) → Allowed true f
 allowed-all Field.Absent = tt
@@ -75,35 +100,37 @@ allowed-all (Field.Value z) = tt
 -- THE PARAMETERS OF EACH COMMAND
 pub command-ascend : (c : Command) → Ascending (commandFields c) 0
 unfolding commandFields
-command-ascend (Command.SetLimit l) = limits-ascend l
+command-ascend (Command.SetLimit l) = setting-ascend (settingOfLimits l)
 command-ascend (Command.ClearLimit a) = (omega arith, tt)
-command-ascend (Command.SetSetpoint l) = limits-ascend (limitsOf l)
+command-ascend (Command.SetSetpoint l) = setting-ascend (settingOfSetpoints l)
 command-ascend (Command.ClearSetpoint a) = (omega arith, tt)
 command-ascend (Command.Unserved n) = tt
 
-wide-parts : (d k : ℕ) → (ltb most32 d || ltb 255 k) ≡ false → (d ≤ most32) × (k ≤ 255)
+pub wide-parts : (d k : ℕ) → (ltb most32 d || ltb 255 k) ≡ false → (d ≤ most32) × (k ≤ 255)
 wide-parts d k h = (ltb-false most32 d (or-left _ _ h), ltb-false 255 k (or-right (ltb most32 d) _ h))
 
 pub command-ok : (c : Command) (d : ℕ) → commandWide c ≡ false → Command64 c → OkFields (commandFields c) d
-unfolding commandFields commandWide limitsOf
-command-ok (Command.SetLimit l) d w h = let x = wide-parts (l .duration) (l .cause) w in limits-ok l d (h .0) (h .1) (x .0) (x .1)
+unfolding commandFields commandWide settingOfLimits settingOfSetpoints
+command-ok (Command.SetLimit l) d w h =
+    let x = wide-parts (l .duration) (l .cause) w in
+    setting-ok (settingOfLimits l) d (h .0) (h .1) (duration-range (l .duration) (x .0)) (x .1)
 command-ok (Command.ClearLimit a) d w h = (omega arith, ok-aim a d w, tt)
 command-ok (Command.SetSetpoint l) d w h =
     let x = wide-parts (l .duration) (l .cause) w in
-    limits-ok (limitsOf l) d (field-64 (l .consumption) (h .0)) (field-64 (l .production) (h .1)) (x .0) (x .1)
+    setting-ok (settingOfSetpoints l) d (field-64 (l .consumption) (h .0)) (field-64 (l .production) (h .1)) (duration-range (l .duration) (x .0)) (x .1)
 command-ok (Command.ClearSetpoint a) d w h = (omega arith, ok-aim a d w, tt)
 command-ok (Command.Unserved n) d w h = tt
 
 command-short : (c : Command) → ShortFields (commandFields c) 18
 unfolding commandFields
-command-short (Command.SetLimit l) = limits-short l
+command-short (Command.SetLimit l) = setting-short (settingOfLimits l)
 command-short (Command.ClearLimit a) = (short-aim 1 a, tt)
-command-short (Command.SetSetpoint l) = limits-short (limitsOf l)
+command-short (Command.SetSetpoint l) = setting-short (settingOfSetpoints l)
 command-short (Command.ClearSetpoint a) = (short-aim 1 a, tt)
 command-short (Command.Unserved n) = tt
 
-command-few : (c : Command) → length (commandFields c) ≤ 4
-unfolding commandFields limitsFields
+pub command-few : (c : Command) → length (commandFields c) ≤ 4
+unfolding commandFields settingFields
 command-few (Command.SetLimit l) = omega arith
 command-few (Command.ClearLimit a) = omega arith
 command-few (Command.SetSetpoint l) = omega arith
@@ -111,18 +138,21 @@ command-few (Command.ClearSetpoint a) = omega arith
 command-few (Command.Unserved n) = omega arith
 
 command-back : (c : Command) → isServed c ≡ true → commandWide c ≡ false → Command64 c → commandIn (wireNumber c) (present (commandFields c)) ≡ some c
-unfolding commandIn commandFields commandWide limitsOf
+unfolding commandIn commandFields commandWide settingOfLimits settingOfSetpoints
 command-back (Command.SetLimit l) s w h =
     let x = wide-parts (l .duration) (l .cause) w in
-    rw (limits-back l true (allowed-all (l .consumption)) (allowed-all (l .production)) (h .0) (h .1) (x .0) (x .1))
+    rw (setting-back (settingOfLimits l) true (allowed-all (l .consumption)) (allowed-all (l .production)) (h .0) (h .1) (duration-range (l .duration) (x .0)) (x .1), same-limits l)
 command-back (Command.ClearLimit a) s w h = rw (values ((1, aimItem a) ∷ []) 0 1 (omega arith, tt), aim-back a w)
 command-back (Command.SetSetpoint l) s w h =
     let x = wide-parts (l .duration) (l .cause) w in
-    rw (limits-back (limitsOf l) false (allowed-target (l .consumption)) (allowed-target (l .production)) (field-64 (l .consumption) (h .0)) (field-64 (l .production) (h .1)) (x .0) (x .1), same-setpoints l)
+    rw (
+      setting-back (settingOfSetpoints l) false (allowed-target (l .consumption)) (allowed-target (l .production)) (field-64 (l .consumption) (h .0)) (field-64 (l .production) (h .1)) (duration-range (l .duration) (x .0)) (x .1),
+      same-setpoints l,
+    )
 command-back (Command.ClearSetpoint a) s w h = rw (values ((1, aimItem a) ∷ []) 0 1 (omega arith, tt), aim-back a w)
 command-back (Command.Unserved n) s w h = absurd (no-both (sym s))
 
-wire-served : (c : Command) → isServed c ≡ true → (wireNumber c ≤ 4) × (servedCommand (wireNumber c) ≡ true)
+pub wire-served : (c : Command) → isServed c ≡ true → (wireNumber c ≤ 4) × (servedCommand (wireNumber c) ≡ true)
 unfolding servedCommand
 wire-served (Command.SetLimit l) s = (omega arith, refl)
 wire-served (Command.ClearLimit a) s = (omega arith, refl)
@@ -163,38 +193,39 @@ module _ (r : Request) where
       let h : ShortFields (requestFields r) 90 = (omega (arith, short-uint 1 (r .id)), (omega (arith, short-uint 2 (r .endpoint)), (omega (arith, short-uint 3 (r .feature)), (omega (arith, short-uint 4 (wireNumber (r .command))), (inner-short, tt))))) in
       map-short (requestFields r) 90 h
 
-  module _ (h : Command64 (r .command)) (e : requestNumber r ≡ 0) where
+  module _ (e : requestNumber r ≡ 0) where
     parts : (requestWide r ≡ false) × (requestUnserved r ≡ false)
     unfolding requestNumber
     parts = no-test (requestWide r) (requestUnserved r) e
 
-    ranges : (r .id ≤ most32) × (r .endpoint ≤ 255) × (r .feature ≤ 65535) × (commandWide (r .command) ≡ false)
+    pub request-ranges : (r .id ≤ most32) × (r .endpoint ≤ 255) × (r .feature ≤ 65535) × (commandWide (r .command) ≡ false)
     unfolding requestWide
-    ranges =
+    request-ranges =
         let w = parts .0 in
         (ltb-false most32 (r .id) (or-left _ _ (or-left _ _ (or-left _ _ w))), ltb-false 255 (r .endpoint) (or-right (ltb most32 (r .id)) _ (or-left _ _ (or-left _ _ w))), ltb-false 65535 (r .feature) (or-right (ltb most32 (r .id) || ltb 255 (r .endpoint)) _ (or-left _ _ w)), or-right (ltb most32 (r .id) || ltb 255 (r .endpoint) || ltb 65535 (r .feature)) _ w)
 
-    served : (servedAt (r .endpoint) (r .feature) && isServed (r .command)) ≡ true
+    pub request-served : (servedAt (r .endpoint) (r .feature) && isServed (r .command)) ≡ true
     unfolding requestUnserved
-    served = not-is-false _ (parts .1)
+    request-served = not-is-false _ (parts .1)
 
-    is-served : isServed (r .command) ≡ true
-    is-served = and-right (servedAt (r .endpoint) (r .feature)) _ served
+    pub is-served : isServed (r .command) ≡ true
+    is-served = and-right (servedAt (r .endpoint) (r .feature)) _ request-served
 
+  module _ (h : Command64 (r .command)) (e : requestNumber r ≡ 0) where
     item-ok : Ok (requestItem r) levels
     unfolding requestItem
     item-ok =
-        ok-map (requestFields r) 7 request-few request-ascend (request-ok (ranges .0) (ranges .1) (ranges .2) (omega (arith, wire-served (r .command) is-served .0)) (ranges .3) h)
+        ok-map (requestFields r) 7 request-few request-ascend (request-ok (request-ranges e .0) (request-ranges e .1) (request-ranges e .2) (omega (arith, wire-served (r .command) (is-served e) .0)) (request-ranges e .3) h)
 
     envelope-back : envelopeIn (present (requestFields r)) ≡ some (record { id = r .id; endpoint = r .endpoint; feature = r .feature; command = wireNumber (r .command); parameters = present (commandFields (r .command)) })
     unfolding envelopeIn bind requestFields needed mapIn
     envelope-back =
         let v : (k : ℕ) → _ = λ (k : ℕ). values (requestFields r) 0 k request-ascend in
-        rw (v 1, v 2, v 3, v 4, v 5, uint-back most32 (r .id) (ranges .0), uint-back 255 (r .endpoint) (ranges .1), uint-back 65535 (r .feature) (ranges .2), uint-back 65535 (wireNumber (r .command)) (omega (arith, wire-served (r .command) is-served .0)))
+        rw (v 1, v 2, v 3, v 4, v 5, uint-back most32 (r .id) (request-ranges e .0), uint-back 255 (r .endpoint) (request-ranges e .1), uint-back 65535 (r .feature) (request-ranges e .2), uint-back 65535 (wireNumber (r .command)) (omega (arith, wire-served (r .command) (is-served e) .0)))
 
     message-back : fromEnvelope (envelopeIn (present (requestFields r))) ≡ Reading.Is r
     unfolding fromEnvelope
-    message-back = rw (envelope-back, and-left (servedAt (r .endpoint) (r .feature)) (isServed (r .command)) served, wire-served (r .command) is-served .1, command-back (r .command) is-served (ranges .3) h)
+    message-back = rw (envelope-back, and-left (servedAt (r .endpoint) (r .feature)) (isServed (r .command)) (request-served e), wire-served (r .command) (is-served e) .1, command-back (r .command) (is-served e) (request-ranges e .3) h)
 
 pub request-reads-back : RequestReadsBack
 unfolding mapIn requestItem

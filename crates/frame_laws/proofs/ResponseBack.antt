@@ -90,15 +90,15 @@ unfolding clearFields
 clear-ok d = (omega arith, ok-truth true d, tt)
 
 -- THE RESULT OF A COMMAND
-limit-few : (l : LimitResult) → length (limitFields l) ≤ 5
+pub limit-few : (l : LimitResult) → length (limitFields l) ≤ 5
 unfolding limitFields
 limit-few l = omega arith
 
-setpoint-few : (l : SetpointResult) → length (setpointFields l) ≤ 5
+pub setpoint-few : (l : SetpointResult) → length (setpointFields l) ≤ 5
 unfolding setpointFields
 setpoint-few l = omega arith
 
-clear-few : length clearFields ≤ 5
+pub clear-few : length clearFields ≤ 5
 unfolding clearFields
 clear-few = omega arith
 
@@ -180,7 +180,7 @@ module _ (c n : ℕ) (o : Outcome) (h : fits c n o ≡ true) where
       go false y = none-ok o (suc d) y
 
 -- THE RESPONSE
-status-small : (n : ℕ) → isStatus n ≡ true → n ≤ 14
+pub status-small : (n : ℕ) → isStatus n ≡ true → n ≤ 14
 unfolding isStatus
 status-small n h = go (eqb n 0) (eqb n 4) (eqb n 5) refl refl refl h
   where
@@ -214,21 +214,21 @@ module _ (r : Response) where
       map-short (responseFields r) 108 h
 
   module _ (c : ℕ) (h : responseFits c r ≡ true) where
-    ranges : (r .id ≤ most32) × (isStatus (r .status) ≡ true) × (fits c (r .status) (r .outcome) ≡ true)
+    pub response-ranges : (r .id ≤ most32) × (isStatus (r .status) ≡ true) × (fits c (r .status) (r .outcome) ≡ true)
     unfolding responseFits
-    ranges =
+    response-ranges =
         let b = and-right (leb (r .id) most32) _ h in
         (leb-true (r .id) most32 (and-left _ _ h), and-left _ _ b, and-right (isStatus (r .status)) _ b)
 
     item-ok : Ok (responseItem r) levels
     unfolding responseItem
-    item-ok = ok-map (responseFields r) 7 response-few response-ascend (response-ok (ranges .0) (ranges .1) (result-ok c (r .status) (r .outcome) (ranges .2) 6))
+    item-ok = ok-map (responseFields r) 7 response-few response-ascend (response-ok (response-ranges .0) (response-ranges .1) (result-ok c (r .status) (r .outcome) (response-ranges .2) 6))
 
     body-back : responseIn c (present (responseFields r)) ≡ some r
     unfolding responseFields
     body-back =
         let v : (k : ℕ) → _ = λ (k : ℕ). values (responseFields r) 0 k response-ascend in
-        all-parts c (present (responseFields r)) (r .id) (rw (v 1) (uint-back most32 (r .id) (ranges .0))) (r .status) (rw (v 2) (status-back (r .status) (ranges .1))) (r .outcome) (rw (v 3) (result-back c (r .status) (r .outcome) (ranges .2)))
+        all-parts c (present (responseFields r)) (r .id) (rw (v 1) (uint-back most32 (r .id) (response-ranges .0))) (r .status) (rw (v 2) (status-back (r .status) (response-ranges .1))) (r .outcome) (rw (v 3) (result-back c (r .status) (r .outcome) (response-ranges .2)))
 
     pub answer-back : servedCommand c ≡ true → readResponse c (itemFrame (responseItem r)) ≡ Answer.Is r
     unfolding readResponse mapIn responseItem
@@ -248,7 +248,7 @@ pub response-reads-back : ResponseReadsBack
 unfolding responseNumber
 response-reads-back c r e = let x = no-test (servedCommand c) (responseFits c r) e in answer-back r c (x .1) (x .0)
 
-one-test : (a : Bool) → firstOf ((not a, 3) ∷ []) ≡ 0 → a ≡ true
+pub one-test : (a : Bool) → firstOf ((not a, 3) ∷ []) ≡ 0 → a ≡ true
 unfolding firstOf
 one-test true e = refl
 one-test false e = absurd (let z : _≡_ {A = ℕ} 3 0 = e in omega arith)

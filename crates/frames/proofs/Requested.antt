@@ -13,19 +13,21 @@ use Rattle.cbor.specs.Scan.{pairsIn, followed, mapAt, sightsOf, wordsOf, sightA
 use Rattle.cbor.specs.declared.sights.Sight.{Sight}
 use Rattle.messages.specs.declared.Aim.{Aim}
 use Rattle.messages.specs.declared.Amount.{Amount}
+use Rattle.messages.specs.declared.Limits.{Limits}
 use Rattle.messages.specs.declared.Setpoints.{Setpoints}
 use Rattle.messages.specs.declared.Command.{Command}
 use Rattle.frames.specs.Prefix.{framed, payloadIn}
 use Rattle.map_fields.specs.Fields.{mapIn, needed, most32, valueIn, aimIn}
-use Rattle.frames.specs.Requests.{envelopeIn, limitsIn, setpointsOf, commandIn, servedAt, servedCommand, fromEnvelope, fromPayload, readRequest}
-use Rattle.map_fields.specs.Sights.{Reads, UintReads, MapReads, amountOf, durationOf, aimOf, Shown, Inside}
+use Rattle.frames.specs.Settings.{settingIn, limitsFrom, setpointsFrom}
+use Rattle.frames.specs.Requests.{envelopeIn, commandIn, servedAt, servedCommand, fromEnvelope, fromPayload, readRequest}
+use Rattle.map_fields.specs.Sights.{Reads, UintReads, MapReads, amountOf, aimOf, Shown, Inside}
 use Rattle.frames.specs.Sights.{EnvelopeReads, CommandReads, ClearReads, MessageReads, parametersFrom}
 use Rattle.map_fields.specs.declared.readers.Value.{Value}
 use Rattle.frames.specs.declared.requests.Reading.{Reading}
-use Rattle.frames.specs.declared.requests.Values.{Values}
+use Rattle.frames.specs.declared.requests.Set.{Set}
 use Rattle.frames.specs.declared.requests.Parameters.{Parameters}
 use Rattle.map_fields.proofs.Joined.{via}
-use Rattle.map_fields.proofs.Parts.{shown, top, then, last, mapped, duration-amount, aim-amount}
+use Rattle.map_fields.proofs.Parts.{shown, top, then, last, mapped, aim-amount}
 
 module _ (ws : List ℕ) where
   -- THE ENVELOPE
@@ -46,29 +48,29 @@ module _ (ws : List ℕ) where
   module _ (null : Bool) (k l m n : Sight) (ke : k ≡ sightAt ws 1 1) (le : l ≡ sightAt ws 1 2) (me : m ≡ sightAt ws 1 3) (ne : n ≡ sightAt ws 1 4)
       (c p : Value) (d e : Bool) (cr : Reads k (valueIn null) (c .ok) (c .field)) (pr : Reads l (valueIn null) (p .ok) (p .field))
       (dr : UintReads m false most32 d) (er : UintReads n true 255 e) where
-    pub values-read : (ok : Bool) → ok ≡ (c .ok && (p .ok && (d && e))) → (a : Amount) → a ≡ amountOf m → (x : ℕ) → x ≡ durationOf a
-        → Inside ws 1 (limitsIn null) ok (record { consumption = c .field; production = p .field; duration = x; cause = n .arg })
-    unfolding Inside limitsIn UintReads Reads
-    values-read ok y a ae x xe path ps h =
-        rw (y, xe, ae)
+    pub setting-read : (ok : Bool) → ok ≡ (c .ok && (p .ok && (d && e))) → (a : Amount) → a ≡ amountOf m
+        → Inside ws 1 (settingIn null) ok (record { consumption = c .field; production = p .field; duration = a; cause = n .arg })
+    unfolding Inside settingIn UintReads Reads
+    setting-read ok y a ae path ps h =
+        rw (y, ae)
         (then (c .field) _ _ (c .ok) _ (cr _ (ke ∙ shown ws path ps h 1 1 (omega arith) (omega arith)))
         (then (p .field) _ _ (p .ok) _ (pr _ (le ∙ shown ws path ps h 1 2 (omega arith) (omega arith)))
-        (then (durationOf (amountOf m)) _ _ d _ (duration-amount (valueOf (mapAt 1 path ps) 3) ∙ mapped (amountOf m) durationOf d (dr _ (me ∙ shown ws path ps h 1 3 (omega arith) (omega arith))))
+        (then (amountOf m) _ _ d _ (dr _ (me ∙ shown ws path ps h 1 3 (omega arith) (omega arith)))
         (last (n .arg) _ e (er _ (ne ∙ shown ws path ps h 1 4 (omega arith) (omega arith)))))))
 
   -- COMMANDS
   module _ (c : ℕ) where
-    module _ (v : Values) (r : Inside ws 1 (limitsIn true) (v .ok) (v .values)) (e : c ≡ 1) where
-      pub limit-is : v .ok ≡ true → CommandReads ws c (Parameters.Are (Command.SetLimit (v .values)))
+    module _ (v : Set) (r : Inside ws 1 (settingIn true) (v .ok) (v .setting)) (e : c ≡ 1) where
+      pub limit-is : v .ok ≡ true → (l : Limits) → l ≡ limitsFrom (v .setting) → CommandReads ws c (Parameters.Are (Command.SetLimit l))
       unfolding CommandReads Inside commandIn
-      limit-is y path ps h = rw (eq-eqb c 1 e, r path ps h, y) refl
+      limit-is y l le path ps h = rw (eq-eqb c 1 e, r path ps h, y, le) refl
 
       pub limit-wrong : v .ok ≡ false → CommandReads ws c Parameters.Wrong
       unfolding CommandReads Inside commandIn
       limit-wrong y path ps h = rw (eq-eqb c 1 e, r path ps h, y) refl
 
-    module _ (v : Values) (r : Inside ws 1 (limitsIn false) (v .ok) (v .values)) (e : c ≡ 3) where
-      pub setpoint-is : v .ok ≡ true → (l : Setpoints) → l ≡ setpointsOf (v .values) → CommandReads ws c (Parameters.Are (Command.SetSetpoint l))
+    module _ (v : Set) (r : Inside ws 1 (settingIn false) (v .ok) (v .setting)) (e : c ≡ 3) where
+      pub setpoint-is : v .ok ≡ true → (l : Setpoints) → l ≡ setpointsFrom (v .setting) → CommandReads ws c (Parameters.Are (Command.SetSetpoint l))
       unfolding CommandReads Inside commandIn
       setpoint-is y l le path ps h = rw (ne-eqb c 1 (λ z. omega arith), ne-eqb c 2 (λ z. omega arith), eq-eqb c 3 e, r path ps h, y, le) refl
 

@@ -8,13 +8,14 @@ use native.Mathlib.Omega.{arith}
 use Rattle.cbor.specs.Head.{headBytes}
 use Rattle.cbor.specs.Item.{Item, encode, encodePairs, countPairs}
 use Rattle.messages.specs.Numbers.{wireNumber}
-use Rattle.messages.specs.declared.Limits.{Limits}
 use Rattle.messages.specs.declared.Request.{Request}
 use Rattle.messages.specs.declared.Response.{Response}
 use Rattle.messages.specs.declared.LimitResult.{LimitResult}
 use Rattle.messages.specs.declared.SetpointResult.{SetpointResult}
-use Rattle.map_fields.specs.Fields.{Fields, present, valueItem, durationItem, amountItem, truthItem}
-use Rattle.frames.specs.Requests.{limitsFields, commandFields, requestFields, requestItem}
+use Rattle.map_fields.specs.Fields.{Fields, present, valueItem, amountItem, truthItem}
+use Rattle.frames.specs.Settings.{settingFields}
+use Rattle.frames.specs.declared.settings.Setting.{Setting}
+use Rattle.frames.specs.Requests.{commandFields, requestFields, requestItem}
 use Rattle.frames.specs.Responses.{mapItem, limitFields, setpointFields, clearFields, outcomeItem, responseFields, responseItem}
 use Rattle.map_fields.specs.Puts.{pairBytes, fieldBytes, pairsOf}
 use Rattle.map_fields.proofs.Added.{map-bytes, fields-more, fields-one, count-more, count-none}
@@ -28,14 +29,14 @@ under-key : (k n : ℕ) (fs : Fields) → n ≡ countPairs (present fs) → pair
 unfolding pairBytes fieldBytes
 under-key k n fs e = rw (e, map-bytes fs) (append-assoc (headBytes 0 k) (headBytes 5 (countPairs (present fs))) (encodePairs (present fs)))
 
-module _ (l : Limits) (o : Option Item) (e : o ≡ durationItem (l .duration)) where
-  pub limits-count : (x y z : ℕ) → x ≡ pairsOf (valueItem (l .consumption)) → y ≡ pairsOf (valueItem (l .production)) → z ≡ pairsOf o → x + y + z + 1 ≡ countPairs (present (limitsFields l))
-  unfolding limitsFields
-  limits-count x y z a b c = rw (count-more, count-more, count-more, count-more, count-none) (omega (arith, ap pairsOf e))
+module _ (s : Setting) where
+  pub setting-count : (x y z : ℕ) → x ≡ pairsOf (valueItem (s .consumption)) → y ≡ pairsOf (valueItem (s .production)) → z ≡ pairsOf (amountItem (s .duration)) → x + y + z + 1 ≡ countPairs (present (settingFields s))
+  unfolding settingFields
+  setting-count x y z a b c = rw (count-more, count-more, count-more, count-more, count-none) (omega arith)
 
-  pub limits-bytes : ((fieldBytes 1 (valueItem (l .consumption)) ++ fieldBytes 2 (valueItem (l .production))) ++ fieldBytes 3 o) ++ fieldBytes 4 (some (Item.uint (l .cause))) ≡ encodePairs (present (limitsFields l))
-  unfolding limitsFields
-  limits-bytes = rw (e, fields-more, fields-more, fields-more, fields-one) (simp append-assoc)
+  pub setting-bytes : ((fieldBytes 1 (valueItem (s .consumption)) ++ fieldBytes 2 (valueItem (s .production))) ++ fieldBytes 3 (amountItem (s .duration))) ++ fieldBytes 4 (some (Item.uint (s .cause))) ≡ encodePairs (present (settingFields s))
+  unfolding settingFields
+  setting-bytes = rw (fields-more, fields-more, fields-more, fields-one) (simp append-assoc)
 
 pub one-count : (k n : ℕ) (o : Option Item) → n ≡ pairsOf o → n ≡ countPairs (present ((k, o) ∷ []))
 one-count k n o e = rw (count-more, count-none) (omega arith)

@@ -1,4 +1,5 @@
 pub mod Prefix
+pub mod Settings
 pub mod Requests
 pub mod Responses
 pub mod Writing

@@ -8,15 +8,12 @@ use Rattle.cbor.specs.Item.{Item, Pairs, payloadOf}
 use Rattle.cbor.specs.Find.{valueOf}
 use Rattle.messages.specs.Numbers.{wireNumber, ENDPOINT, FEATURE}
 use Rattle.messages.specs.Refusals.{firstOf}
-use Rattle.messages.specs.declared.Field.{Field}
-use Rattle.messages.specs.declared.Target.{Target}
 use Rattle.messages.specs.declared.Aim.{Aim}
-use Rattle.messages.specs.declared.Limits.{Limits}
-use Rattle.messages.specs.declared.Setpoints.{Setpoints}
 use Rattle.messages.specs.declared.Command.{Command}
 use Rattle.messages.specs.declared.Request.{Request}
 use Rattle.frames.specs.Prefix.{framed, payloadIn}
-use Rattle.map_fields.specs.Fields.{upTo, mapIn, needed, most32, durationIn, valueIn, aimIn, valueItem, durationItem, aimItem, Fields, present}
+use Rattle.map_fields.specs.Fields.{upTo, mapIn, needed, most32, aimIn, aimItem, Fields, present}
+use Rattle.frames.specs.Settings.{settingIn, limitsFrom, setpointsFrom, settingOfLimits, settingOfSetpoints, settingFields}
 use Rattle.frames.specs.declared.requests.Reading.{Reading}
 
 -- READING
@@ -46,31 +43,12 @@ servedCommand c = leb 1 c && leb c 4
 unfoldable pub servedAt : ℕ → ℕ → Bool
 servedAt endpoint feature = eqb endpoint ENDPOINT && eqb feature FEATURE
 
--- "SetLimit: 1 consumption, 2 production, 3 duration (32 bits), 4 cause (0 to 255, required, not kept)"; null where it is allowed
-unfoldable pub limitsIn : Bool → Pairs → Option Limits
-limitsIn null ps =
-    bind (valueIn null (valueOf ps 1)) (λ c.
-    bind (valueIn null (valueOf ps 2)) (λ p.
-    bind (durationIn (valueOf ps 3)) (λ d.
-    bind (needed (upTo 255) (valueOf ps 4)) (λ k.
-    some (record { consumption = c; production = p; duration = d; cause = k })))))
-
-abbrev pub targetOf : Field → Target
-targetOf Field.Absent = Target.Absent
-targetOf Field.Null = Target.Absent
-targetOf (Field.Value z) = Target.Value z
-
--- "SetSetpoint has the same keys, without null"
-unfoldable pub setpointsOf : Limits → Setpoints
-setpointsOf l =
-    record { consumption = targetOf (l .consumption); production = targetOf (l .production); duration = l .duration; cause = l .cause }
-
 -- a served command's parameters
 unfoldable pub commandIn : ℕ → Pairs → Option Command
 commandIn c ps =
-    cond (eqb c 1) (Option·map Command.SetLimit (limitsIn true ps))
+    cond (eqb c 1) (Option·map (λ s. Command.SetLimit (limitsFrom s)) (settingIn true ps))
     (cond (eqb c 2) (Option·map Command.ClearLimit (aimIn (valueOf ps 1)))
-    (cond (eqb c 3) (Option·map (λ l. Command.SetSetpoint (setpointsOf l)) (limitsIn false ps))
+    (cond (eqb c 3) (Option·map (λ s. Command.SetSetpoint (setpointsFrom s)) (settingIn false ps))
     (Option·map Command.ClearSetpoint (aimIn (valueOf ps 1)))))
 
 abbrev pub withCommand : Envelope → Option Command → Reading
@@ -101,22 +79,10 @@ readingNumber (Reading.Unserved i) = 4
 readingNumber (Reading.Refused n) = n
 
 -- WRITING
-unfoldable pub limitsFields : Limits → Fields
-limitsFields l =
-    (1, valueItem (l .consumption)) ∷ (2, valueItem (l .production)) ∷ (3, durationItem (l .duration)) ∷ (4, some (Item.uint (l .cause))) ∷ []
-
-abbrev pub fieldOf : Target → Field
-fieldOf Target.Absent = Field.Absent
-fieldOf (Target.Value z) = Field.Value z
-
--- the same keys
-unfoldable pub limitsOf : Setpoints → Limits
-limitsOf l = record { consumption = fieldOf (l .consumption); production = fieldOf (l .production); duration = l .duration; cause = l .cause }
-
 unfoldable pub commandFields : Command → Fields
-commandFields (Command.SetLimit l) = limitsFields l
+commandFields (Command.SetLimit l) = settingFields (settingOfLimits l)
 commandFields (Command.ClearLimit a) = (1, aimItem a) ∷ []
-commandFields (Command.SetSetpoint l) = limitsFields (limitsOf l)
+commandFields (Command.SetSetpoint l) = settingFields (settingOfSetpoints l)
 commandFields (Command.ClearSetpoint a) = (1, aimItem a) ∷ []
 commandFields (Command.Unserved n) = []
 

@@ -1,12 +1,23 @@
--- How long what is written can be. Assumes nothing: these are definitions.
-use Prim.Native.Nat.{ℕ}
+-- How many bytes what is written can have. Assumes nothing: these are definitions.
+use Prim.Native.Nat.{ℕ, _*_}
+use Rattle.map_fields.specs.Puts.{pairRoom}
 
--- four fields; five and the key with the map's head; and more than any payload written has
+-- the longest frames that are written: frame_laws has the proof
+abbrev pub longestRequest : ℕ
+longestRequest = 48
+
+abbrev pub longestResponse : ℕ
+longestResponse = 41
+
+-- ROOM FOR THE WRITERS, each field taken at its widest
+-- the four fields of a Set command
 abbrev pub paramsRoom : ℕ
-paramsRoom = 72
+paramsRoom = 4 * pairRoom
 
+-- five fields, and the key with the head of their map
 abbrev pub outcomeRoom : ℕ
-outcomeRoom = 108
+outcomeRoom = 6 * pairRoom
 
+-- more than any payload that is written has
 abbrev pub payloadRoom : ℕ
 payloadRoom = 192

@@ -2,6 +2,8 @@
 mod prefix; // prefix.rt: the length prefix, tested and written
 mod requests; // requests.rt: requests, read
 mod responses; // responses.rt: responses, read
+mod settings; // settings.rt: the parameters of a Set command
+mod sizes; // sizes.rt: how many bytes frames have
 mod write_requests; // write_requests.rt: requests, written
 mod write_responses; // write_responses.rt: responses, written
 
@@ -12,6 +14,10 @@ pub use requests::read_payload;
 pub use requests::read_request;
 pub use responses::Answer;
 pub use responses::read_response;
+pub use sizes::FRAME;
+pub use sizes::PREFIX;
+pub use sizes::REQUEST;
+pub use sizes::RESPONSE;
 pub use write_requests::write_request;
 pub use write_responses::frame_response;
 pub use write_responses::write_response;

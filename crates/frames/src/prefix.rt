@@ -1,12 +1,12 @@
 // The length prefix: tested, and written with the payload.
+use crate::sizes::PAYLOAD;
+use crate::sizes::PREFIX;
+use crate::sizes::SHORTEST;
 ghost use mathlib.Core.Path.{_≡_};
 ghost use Prim.Native.Nat.{_≤_, _<_, _^_};
 ghost use lib.ListN.{length, take};
 ghost use Rattle.frames.specs.Prefix.{framed, frameOf};
 ghost use Rattle.frames.specs.Writing.{refusedWith, writtenOf, leftBy};
-
-// How many bytes a payload has at most.
-pub const MOST: usize = 2048;
 
 // What a writer answers: the refusal number or 0, and the length of the frame written.
 #[repr(C)]
@@ -19,11 +19,11 @@ pub struct Written {
 pub fn is_framed(frame: &[u8]) -> bool
     ensures { λ r. ⌜ r ≡ framed (now (frame .entry)) ⌝ }
 {
-    if frame.len() < 5 {
+    if frame.len() < SHORTEST {
         return false;
     }
-    let n = frame.len() - 4;
-    if MOST < n {
+    let n = frame.len() - PREFIX;
+    if PAYLOAD < n {
         return false;
     }
     bytes::get_u32(frame, 0) == n as u64
@@ -45,12 +45,12 @@ pub fn send(out: &mut [u8], payload: &[u8], n: usize) -> Written
     ensures { λ r. ⌜ r ≡ writtenOf 0 (frameOf (take n (now (payload .entry)))) (length (now (out .entry))) ⌝ }
     ensures { λ _. ⌜ now (out .exit) ≡ leftBy 0 (frameOf (take n (now (payload .entry)))) (now (out .entry)) ⌝ }
 {
-    let all = n + 4;
+    let all = n + PREFIX;
     if out.len() < all {
         return refused(15);
     }
     bytes::put_u32(out, 0, n as u64);
-    bytes::put_bytes(out, 4, payload, n);
+    bytes::put_bytes(out, PREFIX, payload, n);
     Written {
         number: 0,
         length: all,

@@ -4,6 +4,10 @@ use map_fields::is_map;
 use map_fields::is_uint;
 use map_fields::read_value;
 use crate::prefix::is_framed;
+use crate::settings::Setting;
+use crate::settings::limits_from;
+use crate::settings::setpoints_from;
+use crate::sizes::PREFIX;
 use map_fields::all4;
 use map_fields::all5;
 use map_fields::both;
@@ -12,15 +16,12 @@ use cbor::sight_of;
 use messages::Aim;
 use messages::Amount;
 use messages::Command;
-use messages::Field;
-use messages::Limits;
 use messages::Request;
-use messages::Setpoints;
-use messages::Target;
 ghost use mathlib.Core.Path.{_≡_};
 ghost use Rattle.cbor.specs.Item.{payloadOf};
-ghost use Rattle.frames.specs.Requests.{fromPayload, readRequest, servedCommand, servedAt, limitsIn, targetOf, setpointsOf};
-ghost use Rattle.map_fields.specs.Sights.{durationOf, aimOf, Inside};
+ghost use Rattle.frames.specs.Requests.{fromPayload, readRequest, servedCommand, servedAt};
+ghost use Rattle.map_fields.specs.Sights.{aimOf, Inside};
+ghost use Rattle.frames.specs.Settings.{settingIn};
 ghost use Rattle.frames.specs.Sights.{EnvelopeReads, CommandReads, ClearReads, MessageReads};
 
 // A request; the message id of one that is not served; a refusal number.
@@ -31,9 +32,9 @@ pub enum Reading {
 }
 
 // The parameters of a Set command; not `ok` is refusal 3.
-pub struct Values {
+pub struct Set {
     pub ok: bool,
-    pub values: Limits,
+    pub setting: Setting,
 }
 
 // A command's parameters, or refusal 3.
@@ -77,9 +78,9 @@ fn is_envelope(sights: &Sights) -> bool
     )
 }
 
-// The parameters of SetLimit, and without null those of SetSetpoint.
-fn read_values(sights: &Sights, null: bool) -> Values
-    ensures { λ r. ⌜ Inside (now (sights .entry)) 1 (limitsIn null) (r .ok) (r .values) ⌝ }
+// The parameters of a Set command, with null or without.
+fn read_setting(sights: &Sights, null: bool) -> Set
+    ensures { λ r. ⌜ Inside (now (sights .entry)) 1 (settingIn null) (r .ok) (r .setting) ⌝ }
 {
     let consumption = read_value(sight_of(sights, PARAMETERS, 1), null);
     let production = read_value(sight_of(sights, PARAMETERS, 2), null);
@@ -93,46 +94,13 @@ fn read_values(sights: &Sights, null: bool) -> Values
     );
     let c = consumption.field;
     let p = production.field;
-    let values = Limits {
+    let setting = Setting {
         consumption: c,
         production: p,
-        duration: duration_of(amount_of(duration)),
+        duration: amount_of(duration),
         cause: cause.arg,
     };
-    Values { ok, values }
-}
-
-fn target_of(f: Field) -> Target
-    ensures { λ r. ⌜ r ≡ targetOf f ⌝ }
-{
-    match f {
-        Field::Absent => Target::Absent,
-        Field::Null => Target::Absent,
-        Field::Value(v) => Target::Value(v),
-    }
-}
-
-fn setpoints_of(l: Limits) -> Setpoints
-    ensures { λ r. ⌜ r ≡ setpointsOf l ⌝ }
-{
-    let c = l.consumption;
-    let p = l.production;
-    Setpoints {
-        consumption: target_of(c),
-        production: target_of(p),
-        duration: l.duration,
-        cause: l.cause,
-    }
-}
-
-// An omitted duration is 0.
-fn duration_of(a: Amount) -> u64
-    ensures { λ r. ⌜ r ≡ durationOf a ⌝ }
-{
-    match a {
-        Amount::Absent => 0,
-        Amount::Is(d) => d,
-    }
+    Set { ok, setting }
 }
 
 fn aim_of(a: Amount) -> Aim
@@ -149,18 +117,18 @@ fn read_command(sights: &Sights, command: u64) -> Parameters
     ensures { λ r. ⌜ CommandReads (now (sights .entry)) command r ⌝ }
 {
     if command == 1 {
-        let v = read_values(sights, true);
+        let v = read_setting(sights, true);
         if v.ok {
-            let l = v.values;
-            return Parameters::Are(Command::SetLimit(l));
+            let s = v.setting;
+            return Parameters::Are(Command::SetLimit(limits_from(s)));
         }
         return Parameters::Wrong;
     }
     if command == 3 {
-        let v = read_values(sights, false);
+        let v = read_setting(sights, false);
         if v.ok {
-            let l = v.values;
-            return Parameters::Are(Command::SetSetpoint(setpoints_of(l)));
+            let s = v.setting;
+            return Parameters::Are(Command::SetSetpoint(setpoints_from(s)));
         }
         return Parameters::Wrong;
     }
@@ -223,7 +191,7 @@ pub fn read_request(frame: &[u8]) -> Reading
     ensures { λ r. ⌜ r ≡ readRequest (now (frame .entry)) ⌝ }
 {
     if is_framed(frame) {
-        return read_payload(&frame[4..]);
+        return read_payload(&frame[PREFIX..]);
     }
     Reading::Refused(1)
 }

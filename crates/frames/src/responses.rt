@@ -7,6 +7,7 @@ use map_fields::is_uint;
 use crate::prefix::is_framed;
 use crate::requests::MOST32;
 use crate::requests::is_command;
+use crate::sizes::PREFIX;
 use map_fields::all3;
 use map_fields::all5;
 use map_fields::both;
@@ -203,7 +204,7 @@ fn read_answer(command: u64, frame: &[u8]) -> Answer
     ensures { λ r. ⌜ r ≡ answerFrom command (now (frame .entry)) ⌝ }
 {
     if is_framed(frame) {
-        let payload = &frame[4..];
+        let payload = &frame[PREFIX..];
         let mut sights = [0u64; cbor::WORDS];
         if cbor::scan(payload, PATH, &mut sights) {
             return read_body(&sights, command);

@@ -10,28 +10,26 @@ use map_fields::put_uint;
 use map_fields::put_value;
 use crate::requests::MOST32;
 use crate::requests::is_served;
+use crate::settings::Setting;
+use crate::settings::setting_of_limits;
+use crate::settings::setting_of_setpoints;
+use crate::sizes::ROOM;
 use map_fields::both;
 use map_fields::either;
 use messages::Aim;
 use messages::Amount;
 use messages::Command;
-use messages::Field;
-use messages::Limits;
 use messages::Request;
-use messages::Setpoints;
-use messages::Target;
 ghost use mathlib.Core.Path.{_≡_};
 ghost use Prim.Native.Nat.{_+_, _≤_};
 ghost use lib.ListN.{length, take};
 ghost use Rattle.cbor.specs.Item.{encode, encodePairs, countPairs};
-ghost use Rattle.map_fields.specs.Fields.{present, aimItem, durationItem, amountItem};
-ghost use Rattle.frames.specs.Requests.{fieldOf, limitsOf, limitsFields, commandFields, requestItem, aimWide, commandWide, isServed, requestWide, requestNumber};
+ghost use Rattle.map_fields.specs.Fields.{present, aimItem, amountItem};
+ghost use Rattle.frames.specs.Requests.{commandFields, requestItem, aimWide, commandWide, isServed, requestWide, requestNumber};
 ghost use Rattle.map_fields.specs.Puts.{Puts};
+ghost use Rattle.frames.specs.Settings.{settingFields};
 ghost use Rattle.frames.specs.Sizes.{paramsRoom, payloadRoom};
 ghost use Rattle.frames.specs.Writing.{itemFrame, writtenOf, leftBy};
-
-// More bytes than any payload written here has.
-pub const ROOM: usize = 192;
 
 // A direction as an amount.
 fn aim_amount(a: Aim) -> Amount
@@ -43,45 +41,12 @@ fn aim_amount(a: Aim) -> Amount
     }
 }
 
-// A duration as an amount: 0 is omitted.
-fn duration_amount(d: u64) -> Amount
-    ensures { λ r. ⌜ amountItem r ≡ durationItem d ⌝ }
+fn count_setting(s: Setting) -> u64
+    ensures { λ r. ⌜ r ≡ countPairs (present (settingFields s)) ⌝ }
 {
-    if d == 0 {
-        Amount::Absent
-    } else {
-        Amount::Is(d)
-    }
-}
-
-fn field_of(t: Target) -> Field
-    ensures { λ r. ⌜ r ≡ fieldOf t ⌝ }
-{
-    match t {
-        Target::Absent => Field::Absent,
-        Target::Value(v) => Field::Value(v),
-    }
-}
-
-fn limits_of(l: Setpoints) -> Limits
-    ensures { λ r. ⌜ r ≡ limitsOf l ⌝ }
-{
-    let c = l.consumption;
-    let p = l.production;
-    Limits {
-        consumption: field_of(c),
-        production: field_of(p),
-        duration: l.duration,
-        cause: l.cause,
-    }
-}
-
-fn count_limits(l: Limits) -> u64
-    ensures { λ r. ⌜ r ≡ countPairs (present (limitsFields l)) ⌝ }
-{
-    let c = l.consumption;
-    let p = l.production;
-    let d = duration_amount(l.duration);
+    let c = s.consumption;
+    let p = s.production;
+    let d = s.duration;
     count_value(c) + count_value(p) + count_amount(d) + 1
 }
 
@@ -90,24 +55,24 @@ fn count_command(c: Command) -> u64
     ensures { λ r. ⌜ r ≡ countPairs (present (commandFields c)) ⌝ }
 {
     match c {
-        Command::SetLimit(l) => count_limits(l),
+        Command::SetLimit(l) => count_setting(setting_of_limits(l)),
         Command::ClearLimit(a) => count_amount(aim_amount(a)),
-        Command::SetSetpoint(l) => count_limits(limits_of(l)),
+        Command::SetSetpoint(l) => count_setting(setting_of_setpoints(l)),
         Command::ClearSetpoint(a) => count_amount(aim_amount(a)),
         Command::Unserved(_) => 0,
     }
 }
 
-fn put_limits(out: &mut [u8], at: usize, l: Limits) -> usize
-    ensures { λ r. ⌜ Puts (now (out .entry)) at (encodePairs (present (limitsFields l))) paramsRoom (now (out .exit)) r ⌝ }
+fn put_setting(out: &mut [u8], at: usize, s: Setting) -> usize
+    ensures { λ r. ⌜ Puts (now (out .entry)) at (encodePairs (present (settingFields s))) paramsRoom (now (out .exit)) r ⌝ }
 {
-    let c = l.consumption;
-    let p = l.production;
-    let d = duration_amount(l.duration);
+    let c = s.consumption;
+    let p = s.production;
+    let d = s.duration;
     let after_c = put_value(out, at, 1, c);
     let after_p = put_value(out, after_c, 2, p);
     let after_d = put_amount(out, after_p, 3, d);
-    put_uint(out, after_d, 4, l.cause)
+    put_uint(out, after_d, 4, s.cause)
 }
 
 // The parameters' pairs.
@@ -115,9 +80,9 @@ fn put_command(out: &mut [u8], at: usize, c: Command) -> usize
     ensures { λ r. ⌜ Puts (now (out .entry)) at (encodePairs (present (commandFields c))) paramsRoom (now (out .exit)) r ⌝ }
 {
     match c {
-        Command::SetLimit(l) => put_limits(out, at, l),
+        Command::SetLimit(l) => put_setting(out, at, setting_of_limits(l)),
         Command::ClearLimit(a) => put_amount(out, at, 1, aim_amount(a)),
-        Command::SetSetpoint(l) => put_limits(out, at, limits_of(l)),
+        Command::SetSetpoint(l) => put_setting(out, at, setting_of_setpoints(l)),
         Command::ClearSetpoint(a) => put_amount(out, at, 1, aim_amount(a)),
         Command::Unserved(_) => at,
     }

@@ -16,7 +16,7 @@ use map_fields::all3;
 use map_fields::all4;
 use map_fields::both;
 use map_fields::either;
-use crate::write_requests::ROOM;
+use crate::sizes::ROOM;
 use messages::Amount;
 use messages::LimitResult;
 use messages::Outcome;

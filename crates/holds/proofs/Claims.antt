@@ -1,19 +1,21 @@
 -- One zone more: the numbers of a pass stand for the better claims.
-use Prim.Native.Nat.{ℕ, _+_, _<_, _≤_}
+use Prim.Native.Nat.{ℕ, zero, suc, _+_, _<_, _≤_}
 use mathlib.Core.Bool.{Bool, true, false, cond, not, _&&_, _||_}
 use mathlib.Core.Path.{_≡_, refl, sym, ap, _∙_}
 use mathlib.Core.List.{List, [], _∷_, _++_, foldl, foldl-append, append-assoc, append-nil}
 use native.Mathlib.Numerals.{add-one}
+use native.Mathlib.Decide.{ℕ-discrete}
 use native.Mathlib.Omega.{arith}
 use borrow.Author.Tests.{lt-ltb, le-ltb, le-leb, lt-leb, ltb-true, ltb-false, eqb-true, eqb-false}
 use lib.Dec.{ltb, leb, eqb}
-use lib.ListN.{length, getD, take}
-use lib.Seq.{take-suc, take-all}
+use lib.ListN.{length, getD, set, take, replicate, length-set}
+use lib.Seq.{take-suc, take-all, getD-set-same, getD-set-other}
 use Rattle.store.specs.Sizes.{most, end}
 use Rattle.store.specs.Zones.{upTo, seatOf, idOf, rankOf, freeZone, isJoined, heldOf}
-use Rattle.holds.specs.Holds.{Claim, isLimit, noClaim, claimOf, goesBefore, better, winner}
+use Rattle.holds.specs.Holds.{lows, leads, Claim, isLimit, noClaim, claimOf, goesBefore, better, winner}
 use Rattle.holds.specs.Dues.{zoneDues, heldDues, nearer, nearest}
-use Rattle.holds.specs.Pass.{lesser, takes, numberOf, placeOf, Leads, Meets, Adds}
+use Rattle.holds.specs.Pass.{lesser, takes, numberOf, placeOf, lowAt, leadAt, turns, lowStep, leadStep, lowsWith, leadsWith, Bounded, Leads, Meets, Adds}
+use Rattle.store.specs.declared.Held.{Held}
 use Rattle.store.specs.declared.Zone.{Zone}
 use Rattle.holds.specs.declared.tops.Met.{Met}
 
@@ -101,59 +103,184 @@ module _ (t q : ℕ) (a : Claim) (x : Zone) (joined : isJoined x ≡ true) where
       go true = rw order (more (a .there) refl (s .place) (ltb (seatOf (a .id) (a .rank)) (x .seat)) refl)
       go false = s
 
+-- A RUN OF STEPS: each changes one place at most
+module _ (b : Bool) (l : List ℕ) (j v : ℕ) where
+  kept-size : length (cond b (set l j v) l) ≡ length l
+  kept-size = go b
+    where
+      go : (b : Bool) → length (cond b (set l j v) l) ≡ length l
+      go true = length-set l j v
+      go false = refl
+
+  kept-here : j < length l → getD (cond b (set l j v) l) j 0 ≡ cond b v (getD l j 0)
+  kept-here h = go b
+    where
+      go : (b : Bool) → getD (cond b (set l j v) l) j 0 ≡ cond b v (getD l j 0)
+      go true = getD-set-same l j v 0 h
+      go false = refl
+
+  kept-other : (k : ℕ) → (k ≡ j → ⊥) → getD (cond b (set l j v) l) k 0 ≡ getD l k 0
+  kept-other k a = go b
+    where
+      go : (b : Bool) → getD (cond b (set l j v) l) k 0 ≡ getD l k 0
+      go true = getD-set-other l j k v 0 a
+      go false = refl
+
 module _ (t : ℕ) (x : Zone) (g : Met) where
   pub free-adds : isJoined x ≡ false → Adds t x g g
   free-adds e f m =
       record {
-        limit0 = rw (free-keeps t 0 (f 0) x e) (m .limit0);
-        limit1 = rw (free-keeps t 1 (f 1) x e) (m .limit1);
-        lead0 = rw (free-keeps t 2 (f 2) x e) (m .lead0);
-        lead1 = rw (free-keeps t 3 (f 3) x e) (m .lead1);
+        lowSize = m .lowSize;
+        seatSize = m .seatSize;
+        leadSize = m .leadSize;
+        low = λ k h. rw (free-keeps t (lowAt k) (f (lowAt k)) x e) (m .low k h);
+        lead = λ k h. rw (free-keeps t (leadAt k) (f (leadAt k)) x e) (m .lead k h);
       }
 
   pub free-ends : isJoined x ≡ false → g .next ≡ foldl (nearer t) (g .next) (zoneDues x)
   unfolding zoneDues
   free-ends e = rw e
 
-  -- the numbers with a joined zone's
+  -- the limits of a joined zone: those below n are met, the others are as they were
+  low-size : (n : ℕ) → length (lowsWith t x n g .low) ≡ length (g .low)
+  unfolding turns lowStep
+  low-size zero = refl
+  low-size (suc n) = kept-size (ltb t (heldOf x (lowAt n) .until)) (lowsWith t x n g .low) n (lesser (heldOf x (lowAt n) .value) (getD (lowsWith t x n g .low) n 0)) ∙ low-size n
+
+  low-above : (n k : ℕ) → n ≤ k → getD (lowsWith t x n g .low) k 0 ≡ getD (g .low) k 0
+  unfolding turns lowStep
+  low-above zero k h = refl
+  low-above (suc n) k h =
+      kept-other (ltb t (heldOf x (lowAt n) .until)) (lowsWith t x n g .low) n (lesser (heldOf x (lowAt n) .value) (getD (lowsWith t x n g .low) n 0)) k (λ e. omega arith)
+      ∙ low-above n k (omega arith)
+
   abbrev limitWith : ℕ → ℕ → ℕ
   limitWith q n = cond (ltb t (heldOf x q .until)) (lesser (heldOf x q .value) n) n
 
-  abbrev seatWith : ℕ → ℕ → ℕ
-  seatWith q k = cond (takes t (heldOf x q .until) (x .seat) k) (x .seat) k
+  low-below : (n k : ℕ) → k < n → n ≤ length (g .low) → getD (lowsWith t x n g .low) k 0 ≡ limitWith (lowAt k) (getD (g .low) k 0)
+  unfolding turns lowStep
+  low-below zero k h s = absurd (omega arith)
+  low-below (suc n) k h s =
+      elim (ℕ-discrete k n) [
+        | yes e ↦ rw e (kept-here (ltb t (heldOf x (lowAt n) .until)) (lowsWith t x n g .low) n (lesser (heldOf x (lowAt n) .value) (getD (lowsWith t x n g .low) n 0)) (omega (arith, low-size n)) ∙ rw (low-above n n (omega arith)))
+        | no e ↦ kept-other (ltb t (heldOf x (lowAt n) .until)) (lowsWith t x n g .low) n (lesser (heldOf x (lowAt n) .value) (getD (lowsWith t x n g .low) n 0)) k e ∙ low-below n k (omega arith) (omega arith)
+      ]
 
-  abbrev setWith : ℕ → ℕ → ℕ → ℕ
-  setWith q k n = cond (takes t (heldOf x q .until) (x .seat) k) (heldOf x q .value) n
+  -- its setpoints likewise: seat and value are taken together
+  abbrev taken : ℕ → ℕ → Bool
+  taken q k = takes t (heldOf x q .until) (x .seat) k
 
-  abbrev pub metWith : Met
-  metWith =
-      record {
-        limit0 = limitWith 0 (g .limit0);
-        limit1 = limitWith 1 (g .limit1);
-        seat0 = seatWith 2 (g .seat0);
-        set0 = setWith 2 (g .seat0) (g .set0);
-        seat1 = seatWith 3 (g .seat1);
-        set1 = setWith 3 (g .seat1) (g .set1);
-        next = nearer t (nearer t (nearer t (nearer t (g .next) (heldOf x 0 .until)) (heldOf x 1 .until)) (heldOf x 2 .until)) (heldOf x 3 .until);
-      }
+  seat-size : (n : ℕ) → length (leadsWith t x n g .seat) ≡ length (g .seat)
+  unfolding turns leadStep
+  seat-size zero = refl
+  seat-size (suc n) = kept-size (taken (leadAt n) (getD (leadsWith t x n g .seat) n 0)) (leadsWith t x n g .seat) n (x .seat) ∙ seat-size n
 
-  pub zone-adds : isJoined x ≡ true → heldOf x 0 .value ≤ most → heldOf x 1 .value ≤ most → x .seat ≤ most → Adds t x g metWith
-  zone-adds e a b h f m =
-      record {
-        limit0 = limit-more t 0 (f 0) x e refl (g .limit0) (m .limit0) a;
-        limit1 = limit-more t 1 (f 1) x e refl (g .limit1) (m .limit1) b;
-        lead0 = lead-more t 2 (f 2) x e refl (g .seat0) (g .set0) (m .lead0) h;
-        lead1 = lead-more t 3 (f 3) x e refl (g .seat1) (g .set1) (m .lead1) h;
-      }
+  lead-size : (n : ℕ) → length (leadsWith t x n g .lead) ≡ length (g .lead)
+  unfolding turns leadStep
+  lead-size zero = refl
+  lead-size (suc n) = kept-size (taken (leadAt n) (getD (leadsWith t x n g .seat) n 0)) (leadsWith t x n g .lead) n (heldOf x (leadAt n) .value) ∙ lead-size n
 
-  pub zone-ends : isJoined x ≡ true → metWith .next ≡ foldl (nearer t) (g .next) (zoneDues x)
-  unfolding zoneDues upTo
-  zone-ends e = rw e
+  seat-above : (n k : ℕ) → n ≤ k → getD (leadsWith t x n g .seat) k 0 ≡ getD (g .seat) k 0
+  unfolding turns leadStep
+  seat-above zero k h = refl
+  seat-above (suc n) k h = kept-other (taken (leadAt n) (getD (leadsWith t x n g .seat) n 0)) (leadsWith t x n g .seat) n (x .seat) k (λ e. omega arith) ∙ seat-above n k (omega arith)
+
+  lead-above : (n k : ℕ) → n ≤ k → getD (leadsWith t x n g .lead) k 0 ≡ getD (g .lead) k 0
+  unfolding turns leadStep
+  lead-above zero k h = refl
+  lead-above (suc n) k h = kept-other (taken (leadAt n) (getD (leadsWith t x n g .seat) n 0)) (leadsWith t x n g .lead) n (heldOf x (leadAt n) .value) k (λ e. omega arith) ∙ lead-above n k (omega arith)
+
+  seat-below : (n k : ℕ) → k < n → n ≤ length (g .seat) → getD (leadsWith t x n g .seat) k 0 ≡ cond (taken (leadAt k) (getD (g .seat) k 0)) (x .seat) (getD (g .seat) k 0)
+  unfolding turns leadStep
+  seat-below zero k h s = absurd (omega arith)
+  seat-below (suc n) k h s =
+      elim (ℕ-discrete k n) [
+        | yes e ↦ rw e (kept-here (taken (leadAt n) (getD (leadsWith t x n g .seat) n 0)) (leadsWith t x n g .seat) n (x .seat) (omega (arith, seat-size n)) ∙ rw (seat-above n n (omega arith)))
+        | no e ↦ kept-other (taken (leadAt n) (getD (leadsWith t x n g .seat) n 0)) (leadsWith t x n g .seat) n (x .seat) k e ∙ seat-below n k (omega arith) (omega arith)
+      ]
+
+  lead-below : (n k : ℕ) → k < n → n ≤ length (g .lead) → getD (leadsWith t x n g .lead) k 0 ≡ cond (taken (leadAt k) (getD (g .seat) k 0)) (heldOf x (leadAt k) .value) (getD (g .lead) k 0)
+  unfolding turns leadStep
+  lead-below zero k h s = absurd (omega arith)
+  lead-below (suc n) k h s =
+      elim (ℕ-discrete k n) [
+        | yes e ↦ rw e (kept-here (taken (leadAt n) (getD (leadsWith t x n g .seat) n 0)) (leadsWith t x n g .lead) n (heldOf x (leadAt n) .value) (omega (arith, lead-size n)) ∙ rw (seat-above n n (omega arith), lead-above n n (omega arith)))
+        | no e ↦ kept-other (taken (leadAt n) (getD (leadsWith t x n g .seat) n 0)) (leadsWith t x n g .lead) n (heldOf x (leadAt n) .value) k e ∙ lead-below n k (omega arith) (omega arith)
+      ]
+
+module _ (t : ℕ) (x : Zone) (g : Met) (e : isJoined x ≡ true) where
+  -- the numbers with a joined zone's
+  pub lows-add : Bounded x lows → (f : ℕ → Claim) → Meets g f → (k : ℕ) → k < lows
+      → getD (lowsWith t x lows g .low) k 0 ≡ numberOf (better (lowAt k) (f (lowAt k)) (claimOf t (lowAt k) x))
+  lows-add a f m k h =
+      low-below t x g lows k h (omega (arith, m .lowSize))
+      ∙ limit-more t (lowAt k) (f (lowAt k)) x e (lt-ltb k lows h) (getD (g .low) k 0) (m .low k h) (a k h)
+
+  pub leads-add : x .seat ≤ most → (f : ℕ → Claim) → Meets g f → (k : ℕ) → k < leads
+      → Leads (better (leadAt k) (f (leadAt k)) (claimOf t (leadAt k) x)) (getD (leadsWith t x leads g .seat) k 0) (getD (leadsWith t x leads g .lead) k 0)
+  leads-add s f m k h =
+      rw (seat-below t x g leads k h (omega (arith, m .seatSize)), lead-below t x g leads k h (omega (arith, m .leadSize)))
+      (lead-more t (leadAt k) (f (leadAt k)) x e (le-ltb (leadAt k) lows (omega arith)) (getD (g .seat) k 0) (getD (g .lead) k 0) (m .lead k h) s)
+
+-- limits first, then setpoints: neither touches what the other has met
+pub zone-adds : (t : ℕ) (x : Zone) (g : Met) → isJoined x ≡ true → Bounded x lows → x .seat ≤ most → Adds t x g (leadsWith t x leads (lowsWith t x lows g))
+unfolding turns lowStep leadStep
+zone-adds t x g e a s f m =
+    let low : Met = lowsWith t x lows g in
+    let same : Meets (record { low = g .low; seat = g .seat; lead = g .lead; next = low .next }) f = record { lowSize = m .lowSize; seatSize = m .seatSize; leadSize = m .leadSize; low = m .low; lead = m .lead } in
+    record {
+      lowSize = low-size t x g lows ∙ m .lowSize;
+      seatSize = seat-size t x low leads ∙ m .seatSize;
+      leadSize = lead-size t x low leads ∙ m .leadSize;
+      low = lows-add t x g e a f m;
+      lead = leads-add t x (record { low = g .low; seat = g .seat; lead = g .lead; next = low .next }) e s f same;
+    }
+
+pub zone-ends : (t : ℕ) (x : Zone) (g : Met) → isJoined x ≡ true → leadsWith t x leads (lowsWith t x lows g) .next ≡ foldl (nearer t) (g .next) (zoneDues x)
+unfolding zoneDues upTo turns lowStep leadStep
+zone-ends t x g e = rw e
+
+-- the loops over the limits and the setpoints of one zone
+pub lows-turn : (t : ℕ) (x : Zone) (k : ℕ) (g₀ g r : Met) (h : Held) → g ≡ lowsWith t x k g₀ → h ≡ heldOf x (lowAt k) → r ≡ lowStep t h k g → r ≡ lowsWith t x (k + 1) g₀
+unfolding turns
+lows-turn t x k g₀ g r h e p q = q ∙ rw (p, e, add-one k)
+
+pub leads-turn : (t : ℕ) (x : Zone) (k : ℕ) (g₀ g r : Met) (h : Held) → g ≡ leadsWith t x k g₀ → h ≡ heldOf x (leadAt k) → r ≡ leadStep t h (x .seat) k g → r ≡ leadsWith t x (k + 1) g₀
+unfolding turns
+leads-turn t x k g₀ g r h e p q = q ∙ rw (p, e, add-one k)
+
+-- what holds of all below k and of k holds of all below k + 1
+pub below-turn : (P : ℕ → Type 0) (k : ℕ) → ((j : ℕ) → j < k → P j) → P k → (j : ℕ) → j < k + 1 → P j
+below-turn P k f p j h =
+    elim (ℕ-discrete j k) [
+      | yes e ↦ rw e p
+      | no e ↦ f j (omega arith)
+    ]
+
+-- nothing met: all places hold the largest word
+all-most : (n k : ℕ) → k < n → getD (replicate n most) k 0 ≡ most
+all-most zero k h = absurd (omega arith)
+all-most (suc n) zero h = refl
+all-most (suc n) (suc k) h = all-most n k (omega arith)
+
+pub none-low : (k : ℕ) → k < lows → getD (replicate lows most) k 0 ≡ numberOf noClaim
+unfolding numberOf
+none-low k h = all-most lows k h
+
+pub none-lead : (k : ℕ) → k < leads → Leads noClaim (getD (replicate leads most) k 0) (getD (replicate leads most) k 0)
+unfolding numberOf placeOf
+none-lead k h = record { place = all-most leads k h; number = all-most leads k h; small = omega arith }
 
 -- ALL ZONES
 meets-along : (g : Met) (f h : ℕ → Claim) → ((q : ℕ) → h q ≡ f q) → Meets g f → Meets g h
 meets-along g f h e m =
-    record { limit0 = rw (e 0) (m .limit0); limit1 = rw (e 1) (m .limit1); lead0 = rw (e 2) (m .lead0); lead1 = rw (e 3) (m .lead1) }
+    record {
+      lowSize = m .lowSize;
+      seatSize = m .seatSize;
+      leadSize = m .leadSize;
+      low = λ k l. rw (e (lowAt k)) (m .low k l);
+      lead = λ k l. rw (e (leadAt k)) (m .lead k l);
+    }
 
 -- the claims that win among the first i zones, and the next end of their values
 abbrev pub Passed : ℕ → List Zone → ℕ → Met → Type 0

@@ -1,25 +1,50 @@
 -- The table of links, row by row: what is shown of the numbers that stand for the winning claims, or of the failsafe limits.
-use Prim.Native.Nat.{ℕ, _+_}
+use Prim.Native.Nat.{ℕ, suc, _+_, _-_, _<_, _≤_}
 use mathlib.Core.Bool.{Bool, true, false, cond, not, _&&_, _||_}
-use mathlib.Core.Path.{_≡_, refl, _∙_}
-use mathlib.Core.List.{[], _∷_, foldl}
+use mathlib.Core.Path.{_≡_, refl, sym, ap, _∙_}
+use mathlib.Core.List.{List, [], _∷_, foldl}
 use native.Mathlib.Omega.{arith}
-use borrow.Author.Tests.{le-leb}
+use native.Mathlib.Decide.{ℕ-discrete}
+use native.Mathlib.Numerals.{add-one}
+use borrow.Author.Tests.{le-leb, ltb-true, ltb-false}
+use Rattle.store.proofs.Runs.{upTo-list, upTo-cong}
 use lib.Dec.{ltb, eqb}
 use lib.IntN.{ℤ, pos, negsuc}
-use lib.ListN.{getD}
+use lib.ListN.{length, getD, set}
+use lib.Seq.{getD-set-same, getD-set-other}
 use lib.Signed.{leZ, nonNeg}
 use Rattle.messages.specs.Numbers.{AUTONOMOUS, CONTROLLED, LIMITED, OVERRIDE}
 use Rattle.messages.specs.declared.Amount.{Amount}
 use Rattle.messages.specs.declared.Amount.the-variants.{Absent, Is}
-use Rattle.store.specs.Sizes.{most, end, valueEnd}
+use Rattle.store.specs.Sizes.{helds, most, end, valueEnd}
 use Rattle.store.specs.Zones.{upTo, anyJoined, anyUp}
 use Rattle.holds.specs.Links.{linkRow}
-use Rattle.holds.specs.Holds.{Claim, isLimit, directionOf, supports, winner, amountOf, Situation, inFailsafe, failsafeValue, valueAt, present, stateAt, shown, valuesAt}
+use Rattle.holds.specs.Holds.{lows, Claim, isLimit, directionOf, supports, winner, amountOf, Situation, inFailsafe, failsafeValue, valueAt, present, stateAt, shown, valuesAt}
 use Rattle.holds.specs.Dues.{heldDues, dues, nearer, nearest}
-use Rattle.holds.specs.Pass.{numberOf, Meets, shownIf, stateUp, stateDown, valuesUp, valuesDown}
+use Rattle.holds.specs.Pass.{numberOf, Meets, shownIf, stateUp, stateDown, numberIn, shownIn, valuesUp, valuesDown}
 use Rattle.holds.specs.declared.tops.Met.{Met}
 use Rattle.store.proofs.Tests.{never}
+
+-- an array filled behind its first place, which is stored last
+abbrev pub Filled : (ℕ → ℤ) → List ℤ → ℕ → Type 0
+Filled f v n = (k : ℕ) → k < n → getD v (k + 1) (pos 0) ≡ f k
+
+pub fill-more : (f : ℕ → ℤ) (v : List ℤ) (q : ℕ) (a : ℤ) → q + 1 < length v → Filled f v q → a ≡ f q → Filled f (set v (q + 1) a) (q + 1)
+fill-more f v q a h inv e k l =
+    elim (ℕ-discrete k q) [
+      | yes p ↦ rw p (getD-set-same v (q + 1) a (pos 0) h ∙ e)
+      | no p ↦ getD-set-other v (q + 1) (k + 1) a (pos 0) (λ x. p (omega arith)) ∙ inv k (omega arith)
+    ]
+
+pub filled : (n : ℕ) (f : ℕ → ℤ) (v : List ℤ) (a : ℤ) → length v ≡ 1 + n → Filled f v n → set v 0 a ≡ a ∷ upTo f n
+filled n f [] a e each = absurd (omega arith)
+filled n f (b ∷ v) a e each =
+    ap (λ (l : List ℤ). a ∷ l) (sym (upTo-list f n v (pos 0) (omega arith) (λ k h. sym (each k h) ∙ rw (add-one k))))
+
+-- the values of the first row, once all are shown and the control state is stored
+pub up-filled : (has o : ℕ) (g : Met) (v : List ℤ) (st a b : ℤ) → length v ≡ 1 + helds → Filled (shownIn has g) v helds → st ≡ stateUp o a b → a ≡ getD v 1 (pos 0) → b ≡ getD v 2 (pos 0) → set v 0 st ≡ valuesUp has o g
+unfolding valuesUp
+up-filled has o g v st a b e fl p q r = filled helds (shownIn has g) v st e fl ∙ rw (p, q, r, fl 0 (omega arith), fl 1 (omega arith))
 
 -- the largest word shows as absent
 number-shown : (a : Claim) → shown (Is (numberOf a)) ≡ shown (amountOf a)
@@ -68,16 +93,25 @@ module _ (s : Situation) (t : ℕ) where
         go false true = refl
         go false false = refl
 
-    pub values-up : (g : Met) → Meets g (λ q. winner t q (s .zones)) → valuesUp has (s .override) g ≡ valuesAt s t
-    unfolding valuesUp valuesAt upTo
-    values-up g m =
-        rw (
-          value-up 0 (g .limit0) (m .limit0),
-          value-up 1 (g .limit1) (m .limit1),
-          value-up 2 (g .set0) (m .lead0 .number),
-          value-up 3 (g .set1) (m .lead1 .number),
-          state-up,
-        )
+    module _ (g : Met) (m : Meets g (λ q. winner t q (s .zones))) where
+      number-up : (q : ℕ) → q < helds → numberIn g q ≡ numberOf (winner t q (s .zones))
+      unfolding numberIn
+      number-up q h = go (isLimit q) refl
+        where
+          go : (b : Bool) → isLimit q ≡ b → cond b (getD (g .low) q 0) (getD (g .lead) (q - lows) 0) ≡ numberOf (winner t q (s .zones))
+          go true e = m .low q (ltb-true q lows e)
+          go false e =
+              let past : lows ≤ q = ltb-false q lows e in
+              let back : lows + (q - lows) ≡ q = omega arith in
+              rw back at (m .lead (q - lows) (omega arith) .number)
+
+      shown-up : (q : ℕ) → q < helds → shownIn has g q ≡ shown (valueAt s t q)
+      unfolding shownIn
+      shown-up q h = value-up q (numberIn g q) (number-up q h)
+
+      pub values-up : valuesUp has (s .override) g ≡ valuesAt s t
+      unfolding valuesUp valuesAt
+      values-up = rw (upTo-cong (shownIn has g) (λ q. shown (valueAt s t q)) helds shown-up, shown-up 0 (omega arith), shown-up 1 (omega arith), state-up)
 
   -- NO ZONE UP
   module _ (down : anyUp (s .zones) ≡ false) where

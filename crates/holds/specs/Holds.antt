@@ -1,5 +1,5 @@
 -- What holds at a second t: document 01's table of links, and the control state.
-use Prim.Native.Nat.{ℕ, _+_, _%_}
+use Prim.Native.Nat.{ℕ, _+_, _-_, _%_}
 use mathlib.Core.Bool.{Bool, true, false, cond, not, _&&_, _||_}
 use mathlib.Core.List.{List, _∷_, foldl}
 use lib.Dec.{ltb, eqb}
@@ -14,9 +14,15 @@ use Rattle.store.specs.Words.{settingsOf, zonesOf, sinceOf, overrideOf}
 use Rattle.store.specs.declared.Zone.{Zone}
 use Rattle.store.specs.declared.Settings.{Settings}
 
--- A quantity is an index: 0 and 1 are the limits of consumption and production, 2 and 3 the setpoints.
+-- A quantity is an index: the limits of consumption and production, then the setpoints. How many go by the smallest, and how many by the seat:
+abbrev pub lows : ℕ
+lows = 2
+
+abbrev pub leads : ℕ
+leads = helds - lows
+
 abbrev pub isLimit : ℕ → Bool
-isLimit q = ltb q 2
+isLimit q = ltb q lows
 
 abbrev pub directionOf : ℕ → ℕ
 directionOf q = q % 2

@@ -1,17 +1,19 @@
 -- What the numbers of one pass over the zones stand for. The public contracts cite none of this: it parts the work of `tops` and `holds`.
-use Prim.Native.Nat.{ℕ, _<_}
+use Prim.Native.Nat.{ℕ, zero, suc, _+_, _-_, _<_, _≤_}
 use mathlib.Core.Bool.{Bool, cond, not, _&&_, _||_}
 use mathlib.Core.Path.{_≡_}
 use mathlib.Core.List.{List, [], _∷_}
 use lib.Dec.{ltb, leb, eqb}
 use lib.IntN.{ℤ, pos, negsuc}
-use lib.ListN.{getD}
+use lib.ListN.{length, getD, set}
 use lib.Signed.{nonNeg}
 use Rattle.messages.specs.Numbers.{AUTONOMOUS, CONTROLLED, LIMITED, FAILSAFE, OVERRIDE}
 use Rattle.messages.specs.declared.Amount.the-variants.{Is}
-use Rattle.store.specs.Sizes.{most}
-use Rattle.store.specs.Zones.{seatOf}
-use Rattle.holds.specs.Holds.{Claim, claimOf, better, supports, shown}
+use Rattle.store.specs.Sizes.{helds, most}
+use Rattle.store.specs.Zones.{upTo, seatOf, heldOf}
+use Rattle.holds.specs.Holds.{lows, leads, isLimit, directionOf, Claim, claimOf, better, supports, shown}
+use Rattle.holds.specs.Dues.{nearer}
+use Rattle.store.specs.declared.Held.{Held}
 use Rattle.store.specs.declared.Zone.{Zone}
 use Rattle.store.specs.declared.Settings.{Settings}
 use Rattle.holds.specs.declared.tops.Met.{Met}
@@ -31,6 +33,48 @@ numberOf a = cond (a .there) (a .value) most
 unfoldable pub placeOf : Claim → ℕ
 placeOf a = cond (a .there) (seatOf (a .id) (a .rank)) most
 
+-- the quantity of limit k, and of setpoint k
+abbrev pub lowAt : ℕ → ℕ
+lowAt k = k
+
+abbrev pub leadAt : ℕ → ℕ
+leadAt k = lows + k
+
+-- f 0, then f 1, .. f (n - 1)
+unfoldable pub turns : {A : Type 0} → (ℕ → A → A) → ℕ → A → A
+turns f zero a = a
+turns f (suc n) a = f n (turns f n a)
+
+-- limit k met with one value more; setpoint k likewise
+unfoldable pub lowStep : ℕ → Held → ℕ → Met → Met
+lowStep t h k g =
+    record {
+      low = cond (ltb t (h .until)) (set (g .low) k (lesser (h .value) (getD (g .low) k 0))) (g .low);
+      seat = g .seat;
+      lead = g .lead;
+      next = nearer t (g .next) (h .until);
+    }
+
+unfoldable pub leadStep : ℕ → Held → ℕ → ℕ → Met → Met
+leadStep t h seat k g =
+    record {
+      low = g .low;
+      seat = cond (takes t (h .until) seat (getD (g .seat) k 0)) (set (g .seat) k seat) (g .seat);
+      lead = cond (takes t (h .until) seat (getD (g .seat) k 0)) (set (g .lead) k (h .value)) (g .lead);
+      next = nearer t (g .next) (h .until);
+    }
+
+-- all limits, all setpoints of a zone
+abbrev pub lowsWith : ℕ → Zone → ℕ → Met → Met
+lowsWith t x n g = turns (λ k. lowStep t (heldOf x (lowAt k)) k) n g
+
+abbrev pub leadsWith : ℕ → Zone → ℕ → Met → Met
+leadsWith t x n g = turns (λ k. leadStep t (heldOf x (leadAt k)) (x .seat) k) n g
+
+-- the first n limits of a zone are words
+abbrev pub Bounded : Zone → ℕ → Type 0
+Bounded x n = (k : ℕ) → k < n → heldOf x (lowAt k) .value ≤ most
+
 -- the seat and the value that stand for a setpoint's claim
 pub record Leads (a : Claim) (seat value : ℕ) : Type 0 where
   pub place : seat ≡ placeOf a
@@ -39,10 +83,11 @@ pub record Leads (a : Claim) (seat value : ℕ) : Type 0 where
 
 -- the numbers met so far stand for the claim f q of each quantity q
 pub record Meets (g : Met) (f : ℕ → Claim) : Type 0 where
-  pub limit0 : g .limit0 ≡ numberOf (f 0)
-  pub limit1 : g .limit1 ≡ numberOf (f 1)
-  pub lead0 : Leads (f 2) (g .seat0) (g .set0)
-  pub lead1 : Leads (f 3) (g .seat1) (g .set1)
+  pub lowSize : length (g .low) ≡ lows
+  pub seatSize : length (g .seat) ≡ leads
+  pub leadSize : length (g .lead) ≡ leads
+  pub low : (k : ℕ) → k < lows → getD (g .low) k 0 ≡ numberOf (f (lowAt k))
+  pub lead : (k : ℕ) → k < leads → Leads (f (leadAt k)) (getD (g .seat) k 0) (getD (g .lead) k 0)
 
 -- one zone more: the numbers r stand for the better of what g stood for and what the zone claims
 abbrev pub Adds : ℕ → Zone → Met → Met → Type 0
@@ -59,11 +104,16 @@ stateUp o a b = cond (not (eqb o 0)) (pos OVERRIDE) (cond (nonNeg a || nonNeg b)
 unfoldable pub stateDown : ℕ → ℤ
 stateDown o = cond (not (eqb o 0)) (pos OVERRIDE) (pos AUTONOMOUS)
 
--- the five values of the first row; of the second row and of the others
+-- the number met for quantity q
+unfoldable pub numberIn : Met → ℕ → ℕ
+numberIn g q = cond (isLimit q) (getD (g .low) q 0) (getD (g .lead) (q - lows) 0)
+
+-- the values of the first row; of the second row and of the others
+unfoldable pub shownIn : ℕ → Met → ℕ → ℤ
+shownIn has g q = shownIf has (directionOf q) (numberIn g q)
+
 unfoldable pub valuesUp : ℕ → ℕ → Met → List ℤ
-valuesUp has o g =
-    stateUp o (shownIf has 0 (g .limit0)) (shownIf has 1 (g .limit1))
-    ∷ shownIf has 0 (g .limit0) ∷ shownIf has 1 (g .limit1) ∷ shownIf has 0 (g .set0) ∷ shownIf has 1 (g .set1) ∷ []
+valuesUp has o g = stateUp o (shownIn has g 0) (shownIn has g 1) ∷ upTo (shownIn has g) helds
 
 unfoldable pub valuesDown : Settings → ℕ → Bool → List ℤ
 valuesDown s o safe =

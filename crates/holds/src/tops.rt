@@ -1,5 +1,7 @@
 // One pass over the zones: the smallest limits, the setpoints of the first seats, and the next second at which one of them ends.
 use store::END;
+use store::HELDS;
+use store::Held;
 use store::MOST;
 use store::SLOTS;
 use store::State;
@@ -7,38 +9,25 @@ use store::Zone;
 use store::zone_at;
 ghost use mathlib.Core.Path.{_≡_};
 ghost use Prim.Native.Nat.{_<_, _≤_};
-ghost use mathlib.Core.Bool.{cond};
 ghost use mathlib.Core.List.{foldl};
-ghost use lib.Dec.{ltb};
 ghost use lib.ListN.{getD, set};
 ghost use Rattle.store.specs.Sizes.{slots, most, end};
 ghost use Rattle.store.specs.Zones.{freeZone};
 ghost use Rattle.store.specs.Words.{zonesOf};
-ghost use Rattle.holds.specs.Holds.{noClaim, winner};
+ghost use Rattle.holds.specs.Holds.{lows, leads, noClaim, winner};
 ghost use Rattle.holds.specs.Dues.{zoneDues, heldDues, nearer, nearest};
-ghost use Rattle.holds.specs.Pass.{lesser, takes, Meets, Adds};
+ghost use Rattle.holds.specs.Pass.{lesser, lowStep, leadStep, lowsWith, leadsWith, Bounded, Meets, Adds};
 
-// What a pass has met so far. MOST is no limit, and no setpoint.
+// How many quantities go by the smallest value (the limits), and how many by the seat (the setpoints).
+pub const LOWS: usize = 2;
+
+pub const LEADS: usize = HELDS - LOWS;
+
+// What a pass has met so far: each limit's smallest value; each setpoint's first seat and its value. MOST is none.
 pub struct Met {
-    pub limit0: u64,
-    pub limit1: u64,
-    pub seat0: u64,
-    pub set0: u64,
-    pub seat1: u64,
-    pub set1: u64,
-    pub next: u64,
-}
-
-// The smallest limit so far, and the next end.
-struct Lowest {
-    pub value: u64,
-    pub next: u64,
-}
-
-// The first seat that has a setpoint so far, its setpoint, and the next end.
-struct Lead {
-    pub seat: u64,
-    pub value: u64,
+    pub low: [u64; LOWS],
+    pub seat: [u64; LEADS],
+    pub lead: [u64; LEADS],
     pub next: u64,
 }
 
@@ -48,46 +37,85 @@ fn least(a: u64, b: u64) -> u64
     if a < b { a } else { b }
 }
 
-fn limit_with(t: u64, until: u64, value: u64, best: u64, next: u64) -> Lowest
-    ensures { λ r. ⌜ r ≡ record { value = cond (ltb t until) (lesser value best) best; next = nearer t next until } ⌝ }
-    ensures { λ _. ⌜ value ≤ most ⌝ }
+// One value of limit k more.
+fn low_with(t: u64, h: Held, k: usize, g: Met) -> Met
+    requires { ⌜ k < lows ⌝ }
+    ensures { λ r. ⌜ r ≡ lowStep t h k g ⌝ }
+    ensures { λ _. ⌜ h .value ≤ most ⌝ }
 {
-    if t < until {
-        return Lowest {
-            value: least(value, best),
-            next: least(next, until),
+    let seat = g.seat;
+    let lead = g.lead;
+    if t < h.until {
+        let mut low = g.low;
+        low[k] = least(h.value, low[k]);
+        return Met {
+            low: low,
+            seat: seat,
+            lead: lead,
+            next: least(g.next, h.until),
         };
     }
-    Lowest {
-        value: best,
-        next: next,
-    }
+    g
 }
 
-// A later seat takes the place of an equal one, so that the first of all needs no test of its own.
-fn lead_with(t: u64, until: u64, value: u64, seat: u64, best: u64, set: u64, next: u64) -> Lead
-    ensures { λ r. ⌜ r ≡ record { seat = cond (takes t until seat best) seat best; value = cond (takes t until seat best) value set; next = nearer t next until } ⌝ }
+// One value of setpoint k more. A later seat takes the place of an equal one, so that the first of all needs no test of its own.
+fn lead_with(t: u64, h: Held, seat: u64, k: usize, g: Met) -> Met
+    requires { ⌜ k < leads ⌝ }
+    ensures { λ r. ⌜ r ≡ leadStep t h seat k g ⌝ }
     ensures { λ _. ⌜ seat ≤ most ⌝ }
 {
-    if t < until {
-        if seat <= best {
-            return Lead {
-                seat: seat,
-                value: value,
-                next: least(next, until),
+    let low = g.low;
+    let mut seats = g.seat;
+    let mut lead = g.lead;
+    if t < h.until {
+        if seat <= seats[k] {
+            seats[k] = seat;
+            lead[k] = h.value;
+            return Met {
+                low: low,
+                seat: seats,
+                lead: lead,
+                next: least(g.next, h.until),
             };
         }
-        return Lead {
-            seat: best,
-            value: set,
-            next: least(next, until),
+        return Met {
+            low: low,
+            seat: seats,
+            lead: lead,
+            next: least(g.next, h.until),
         };
     }
-    Lead {
-        seat: best,
-        value: set,
-        next: next,
+    g
+}
+
+fn with_lows(t: u64, zone: Zone, start: Met) -> Met
+    ensures { λ r. ⌜ r ≡ lowsWith t zone lows start ⌝ }
+    ensures { λ _. ⌜ Bounded zone lows ⌝ }
+{
+    let held = zone.held;
+    let mut g = start;
+    let mut k = 0;
+    while k < LOWS {
+        let h = held[k];
+        g = low_with(t, h, k, g);
+        k += 1;
     }
+    g
+}
+
+fn with_leads(t: u64, zone: Zone, start: Met) -> Met
+    ensures { λ r. ⌜ r ≡ leadsWith t zone leads start ⌝ }
+    ensures { λ _. ⌜ zone .seat ≤ most ⌝ }
+{
+    let held = zone.held;
+    let mut g = start;
+    let mut k = 0;
+    while k < LEADS {
+        let h = held[LOWS + k];
+        g = lead_with(t, h, zone.seat, k, g);
+        k += 1;
+    }
+    g
 }
 
 // One zone more. A free slot claims nothing.
@@ -98,36 +126,7 @@ fn with_zone(t: u64, zone: Zone, g: Met) -> Met
     if zone.seat % 256 == 0 {
         return g;
     }
-    let h = zone.held;
-    let a = limit_with(t, h[0].until, h[0].value, g.limit0, g.next);
-    let b = limit_with(t, h[1].until, h[1].value, g.limit1, a.next);
-    let c = lead_with(
-        t,
-        h[2].until,
-        h[2].value,
-        zone.seat,
-        g.seat0,
-        g.set0,
-        b.next,
-    );
-    let e = lead_with(
-        t,
-        h[3].until,
-        h[3].value,
-        zone.seat,
-        g.seat1,
-        g.set1,
-        c.next,
-    );
-    Met {
-        limit0: a.value,
-        limit1: b.value,
-        seat0: c.seat,
-        set0: c.value,
-        seat1: e.seat,
-        set1: e.value,
-        next: e.next,
-    }
+    with_leads(t, zone, with_lows(t, zone, g))
 }
 
 fn none_met() -> Met
@@ -135,16 +134,14 @@ fn none_met() -> Met
     ensures { λ r. ⌜ r .next ≡ end ⌝ }
 {
     Met {
-        limit0: MOST,
-        limit1: MOST,
-        seat0: MOST,
-        set0: MOST,
-        seat1: MOST,
-        set1: MOST,
+        low: [MOST; LOWS],
+        seat: [MOST; LEADS],
+        lead: [MOST; LEADS],
         next: END,
     }
 }
 
+// The pass over the zones as they stand.
 pub fn tops(d: &State, t: u64) -> Met
     ensures { λ r. ⌜ Meets r (λ q. winner t q (zonesOf (now (d .entry)))) ⌝ }
     ensures { λ r. ⌜ r .next ≡ nearest t (heldDues (zonesOf (now (d .entry)))) ⌝ }

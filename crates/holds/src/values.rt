@@ -2,11 +2,13 @@
 use crate::View;
 use crate::links::link_row;
 use crate::links::link_row_with;
+use crate::tops::LOWS;
 use crate::tops::Met;
 use crate::tops::tops;
 use crate::tops::tops_with;
 use messages::Amount;
 use store::END;
+use store::HELDS;
 use store::Settings;
 use store::State;
 use store::VALUE_END;
@@ -17,14 +19,13 @@ use store::settings_at;
 use store::since;
 ghost use mathlib.Core.Path.{_≡_};
 ghost use mathlib.Core.Bool.{cond, _&&_};
-ghost use mathlib.Core.List.{[], _∷_};
-ghost use Prim.Native.Nat.{_+_};
+ghost use Prim.Native.Nat.{_+_, _<_};
 ghost use lib.Dec.{ltb};
-ghost use Rattle.store.specs.Sizes.{end};
+ghost use Rattle.store.specs.Sizes.{helds, end};
 ghost use Rattle.store.specs.Words.{sinceOf, overrideOf, settingsOf};
 ghost use Rattle.holds.specs.Holds.{supports, shown, situationOf, withZone, valuesAt};
 ghost use Rattle.holds.specs.Dues.{nearer, viewAt};
-ghost use Rattle.holds.specs.Pass.{shownIf, stateUp, stateDown, valuesUp, valuesDown};
+ghost use Rattle.holds.specs.Pass.{shownIf, stateUp, stateDown, numberIn, shownIn, valuesUp, valuesDown};
 
 // Of the supported directions, 2 is both.
 pub fn supports(has: u64, d: u64) -> bool
@@ -73,34 +74,39 @@ fn state_up(overridden: u64, a: i64, b: i64) -> i64
     1
 }
 
-// The control state beside four values, some zone up.
-fn with_state(overridden: u64, a: i64, b: i64, c: i64, e: i64) -> [i64; VALUES]
-    ensures { λ r. ⌜ r ≡ stateUp overridden a b ∷ a ∷ b ∷ c ∷ e ∷ [] ⌝ }
+// What a pass has met for quantity q.
+fn number_of(g: Met, q: usize) -> u64
+    requires { ⌜ q < helds ⌝ }
+    ensures { λ r. ⌜ r ≡ numberIn g q ⌝ }
 {
-    [state_up(overridden, a, b), a, b, c, e]
+    let low = g.low;
+    let lead = g.lead;
+    if q < LOWS {
+        return low[q];
+    }
+    lead[q - LOWS]
 }
 
-// The first row: some zone up. Where both directions are supported, no value is tested for its own.
+fn shown_in(has: u64, g: Met, q: usize) -> i64
+    requires { ⌜ q < helds ⌝ }
+    ensures { λ r. ⌜ r ≡ shownIn has g q ⌝ }
+{
+    shown_if(has, (q % 2) as u64, number_of(g, q))
+}
+
+// The first row: some zone up.
 fn values_up(d: &State, g: Met) -> [i64; VALUES]
     ensures { λ r. ⌜ r ≡ valuesUp (settingsOf (now (d .entry)) .directions) (overrideOf (now (d .entry))) g ⌝ }
 {
     let has = settings_at(d).directions;
-    if has == 2 {
-        return with_state(
-            overridden(d),
-            shown(Amount::Is(g.limit0)),
-            shown(Amount::Is(g.limit1)),
-            shown(Amount::Is(g.set0)),
-            shown(Amount::Is(g.set1)),
-        );
+    let mut v = [-1; VALUES];
+    let mut q = 0;
+    while q < HELDS {
+        v[q + 1] = shown_in(has, g, q);
+        q += 1;
     }
-    with_state(
-        overridden(d),
-        shown_if(has, 0, g.limit0),
-        shown_if(has, 1, g.limit1),
-        shown_if(has, 0, g.set0),
-        shown_if(has, 1, g.set1),
-    )
+    v[0] = state_up(overridden(d), v[1], v[2]);
+    v
 }
 
 // The end is tested by a difference: a sum could pass the largest word.

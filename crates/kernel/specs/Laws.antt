@@ -1,13 +1,15 @@
--- What is proved of the frame call's responses. The proof of ResponsesRead is responses-read, in proofs/, and so for the other.
+-- What is proved of the frame call's responses. The proof of ResponsesRead is responses-read, in proofs/, and so for the others.
 -- Assumes nothing: these are statements.
-use Prim.Native.Nat.{ℕ}
+use Prim.Native.Nat.{ℕ, _≤_}
 use mathlib.Core.Path.{_≡_}
 use mathlib.Core.Bool.{true}
 use mathlib.Core.List.{List}
+use lib.ListN.{length}
 use Rattle.messages.specs.Numbers.{wireNumber}
 use Rattle.messages.specs.declared.Request.{Request}
 use Rattle.frames.specs.Requests.{servedCommand, readRequest}
 use Rattle.frames.specs.Responses.{statusAlone, readResponse}
+use Rattle.frames.specs.Sizes.{longestResponse}
 use Rattle.frames.specs.declared.requests.Reading.{Reading}
 use Rattle.frames.specs.declared.responses.Answer.{Answer}
 use Rattle.kernel.specs.Frame.{responseTo, responseFrame}
@@ -23,3 +25,7 @@ abbrev pub UnservedReads : Type 0
 UnservedReads =
     (ws : List ℕ) (z t : ℕ) (bytes : List ℕ) (i c : ℕ) → readRequest bytes ≡ Reading.Unserved i → servedCommand c ≡ true
     → readResponse c (responseFrame ws z t (Reading.Unserved i)) ≡ Answer.Is (statusAlone i 4)
+
+-- no response of the frame call is longer than the longest, for every content of the words: so much room is always enough
+abbrev pub ResponsesShort : Type 0
+ResponsesShort = (ws : List ℕ) (z t : ℕ) (bytes : List ℕ) → length (responseFrame ws z t (readRequest bytes)) ≤ longestResponse

@@ -92,7 +92,7 @@ pub fn frame(d: &mut State, zone: u64, t: u64, bytes: &[u8], out: &mut [u8]) -> 
     ensures { λ _. ⌜ now (out .exit) ≡ frameOut (now (d .entry)) zone t (now (bytes .entry)) (now (out .entry)) ⌝ }
 {
     if frames::is_framed(bytes) {
-        return payload_call(d, zone, t, &bytes[4..], out);
+        return payload_call(d, zone, t, &bytes[frames::PREFIX..], out);
     }
     Framed {
         number: 1,

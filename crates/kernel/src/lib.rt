@@ -27,6 +27,7 @@ pub use device::Asked;
 pub use device::MOST;
 pub use device::Settings;
 pub use device::State;
+pub use device::VALUE_END;
 pub use device::VALUES;
 pub use device::WORDS;
 pub use device::calls::ask;
@@ -43,11 +44,18 @@ pub use holds::shown;
 pub use frame_call::Framed;
 pub use frame_call::frame;
 pub use frames::Answer;
+pub use frames::FRAME;
+pub use frames::RESPONSE;
 pub use frames::Reading;
 pub use frames::Written;
 pub use frames::read_request;
 pub use frames::read_response;
 pub use frames::write_request;
 pub use frames::write_response;
+pub use planner::PLAN;
 pub use planner::Planned;
+pub use planner::ROW;
 pub use planner::plan;
+
+// Numbers of the longest report, two a pair.
+pub const REPORT: usize = 2 * 48;

@@ -5,9 +5,6 @@ use crate::commands::command_of;
 use crate::commands::read_numbers;
 use crate::commands::words_of;
 use crate::fields::FIELDS;
-use crate::hex::Read;
-use crate::hex::read_hex;
-use crate::lists::read_list;
 use crate::print::put_bad;
 use crate::print::put_bytes;
 use crate::print::put_end;
@@ -16,26 +13,25 @@ use crate::print::put_number;
 use crate::print::put_pairs;
 use crate::scraps::is_scrap;
 use crate::scraps::scrap;
-use crate::words::span;
-use crate::words::split;
-use device::Settings;
-use device::State;
-use device::calls;
+use kernel::FRAME;
+use kernel::PLAN;
+use kernel::REPORT;
+use kernel::Settings;
+use kernel::State;
 use receiver::RECORD;
+use words::Read;
+use words::read_hex;
+use words::read_list;
+use words::span;
+use words::split;
 ghost use Prim.Native.Nat.{_≤_};
 ghost use lib.ListN.{length};
 
 // The most words of a line.
-const WORDS: usize = 11;
+const WORDS: usize = 1 + FIELDS;
 
-// The longest frame that a request or a response is, the numbers of the longest plan and of the longest report.
-const FRAME: usize = 2052;
-
-const ROWS: usize = 192;
-
-const ROW: u64 = 6;
-
-const PAIRS: usize = 176;
+// The numbers of a plan's row.
+const ROW: u64 = kernel::ROW as u64;
 
 // More than a line has room for.
 const ATTRIBUTES: usize = 8192;
@@ -73,21 +69,21 @@ fn settings_of(f: [u64; FIELDS]) -> Settings {
 // The calls that answer a number only.
 fn call(d: &mut State, c: Command, f: [u64; FIELDS]) -> u64 {
     match c {
-        Command::Start => calls::start(d, settings_of(f)),
-        Command::Join => calls::join(d, f[0], f[1], f[2]),
-        Command::Leave => calls::leave(d, f[0], f[1]),
-        Command::Lost => calls::lost(d, f[0], f[1]),
-        Command::Back => calls::back(d, f[0], f[1]),
-        Command::Override => calls::set_override(d, f[0], f[1], f[2]),
-        _ => calls::clear_override(d, f[0]),
+        Command::Start => kernel::start(d, settings_of(f)),
+        Command::Join => kernel::join(d, f[0], f[1], f[2]),
+        Command::Leave => kernel::leave(d, f[0], f[1]),
+        Command::Lost => kernel::lost(d, f[0], f[1]),
+        Command::Back => kernel::back(d, f[0], f[1]),
+        Command::Override => kernel::set_override(d, f[0], f[1], f[2]),
+        _ => kernel::clear_override(d, f[0]),
     }
 }
 
 fn ask(d: &mut State, t: u64, out: &mut [u8], at: usize) -> usize {
-    let a = calls::ask(d, t);
+    let a = kernel::ask(d, t);
     let values = a.values;
     let p = text::put_decimal(out, at, a.number);
-    let q = put_list(out, p, &values, device::VALUES as u64);
+    let q = put_list(out, p, &values, kernel::VALUES as u64);
     put_end(out, q)
 }
 
@@ -101,15 +97,15 @@ fn plan_into(
 ) -> usize
     requires { ⌜ room ≤ length (now rows) ⌝ }
 {
-    let r = planner::plan(d, t, &mut rows[..room]);
+    let r = kernel::plan(d, t, &mut rows[..room]);
     let p = text::put_decimal(out, at, r.number);
     let q = put_list(out, p, rows, numbers_of(r.count));
     put_end(out, q)
 }
 
 fn plan(d: &mut State, t: u64, room: u64, out: &mut [u8], at: usize) -> usize {
-    let mut rows = [0i64; ROWS];
-    plan_into(d, t, smaller(room, ROWS), &mut rows, out, at)
+    let mut rows = [0i64; PLAN];
+    plan_into(d, t, smaller(room, PLAN), &mut rows, out, at)
 }
 
 fn frame_into(
@@ -135,29 +131,29 @@ fn frame(d: &mut State, f: [u64; FIELDS], bytes: &[u8], out: &mut [u8], at: usiz
 
 fn request(bytes: &[u8], out: &mut [u8], at: usize) -> usize {
     let mut again = [0u8; FRAME];
-    match frames::read_request(bytes) {
-        frames::Reading::Is(r) => {
-            let w = frames::write_request(&mut again, r);
+    match kernel::read_request(bytes) {
+        kernel::Reading::Is(r) => {
+            let w = kernel::write_request(&mut again, r);
             put_bytes(out, at, w.number, &again, w.length)
         }
-        frames::Reading::Unserved(_) => put_bytes(out, at, 4, &again, 0),
-        frames::Reading::Refused(n) => put_bytes(out, at, n, &again, 0),
+        kernel::Reading::Unserved(_) => put_bytes(out, at, 4, &again, 0),
+        kernel::Reading::Refused(n) => put_bytes(out, at, n, &again, 0),
     }
 }
 
 fn response(command: u64, bytes: &[u8], out: &mut [u8], at: usize) -> usize {
     let mut again = [0u8; FRAME];
-    match frames::read_response(command, bytes) {
-        frames::Answer::Is(r) => {
-            let w = frames::write_response(&mut again, command, r);
+    match kernel::read_response(command, bytes) {
+        kernel::Answer::Is(r) => {
+            let w = kernel::write_response(&mut again, command, r);
             put_bytes(out, at, w.number, &again, w.length)
         }
-        frames::Answer::Refused(n) => put_bytes(out, at, n, &again, 0),
+        kernel::Answer::Refused(n) => put_bytes(out, at, n, &again, 0),
     }
 }
 
-fn inputs_of(f: [u64; FIELDS]) -> conformance::Inputs {
-    conformance::Inputs {
+fn inputs_of(f: [u64; FIELDS]) -> kernel::Inputs {
+    kernel::Inputs {
         endpoint: f[0],
         features: f[1],
         phases: f[2],
@@ -170,7 +166,7 @@ fn inputs_of(f: [u64; FIELDS]) -> conformance::Inputs {
 }
 
 fn report(
-    inputs: conformance::Inputs,
+    inputs: kernel::Inputs,
     attributes: &[u16],
     room: usize,
     pairs: &mut [u64],
@@ -179,19 +175,19 @@ fn report(
 ) -> usize
     requires { ⌜ room ≤ length (now pairs) ⌝ }
 {
-    let r = conformance::report(inputs, attributes, &mut pairs[..room]);
+    let r = kernel::report(inputs, attributes, &mut pairs[..room]);
     let p = text::put_decimal(out, at, r.number);
     let q = put_pairs(out, p, pairs, r.count);
     put_end(out, q)
 }
 
 fn conf_of(f: [u64; FIELDS], attributes: &[u16], n: usize, out: &mut [u8], at: usize) -> usize {
-    let mut pairs = [0u64; PAIRS];
+    let mut pairs = [0u64; REPORT];
     if n <= attributes.len() {
         return report(
             inputs_of(f),
             &attributes[..n],
-            smaller(f[8], PAIRS),
+            smaller(f[8], REPORT),
             &mut pairs,
             out,
             at,
@@ -345,5 +341,5 @@ pub fn answer(
 
 // The device before the first start: the one that a refused start hands back.
 pub fn before_start(d: &mut State) {
-    calls::start(d, settings_of([3, 0, 0, 0, 0, 0, 0, 0, 0, 0]));
+    kernel::start(d, settings_of([3, 0, 0, 0, 0, 0, 0, 0, 0, 0]));
 }

@@ -1,7 +1,7 @@
 // A command's name, how many words its line has, and what its numbers are.
 use crate::fields::read;
-use crate::words::same;
-use crate::words::span;
+use words::same;
+use words::span;
 
 pub enum Command {
     Unknown,

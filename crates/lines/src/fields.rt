@@ -1,10 +1,12 @@
 // The numbers of a line: the words behind the command's name, each of a kind.
-use crate::hex::is_none;
-use crate::numbers::Number;
-use crate::numbers::no_number;
-use crate::numbers::read_number;
-use crate::words::span;
+use kernel::VALUE_END;
+use words::Number;
+use words::is_none;
+use words::no_number;
+use words::number_in;
+use words::span;
 
+// No command has more numbers.
 pub const FIELDS: usize = 10;
 
 // A maximum may be none. The largest word stands for that, and no number that a line says.
@@ -23,31 +25,22 @@ fn is_none_in(line: &[u8], from: usize, to: usize) -> bool {
     false
 }
 
-pub fn number_in(line: &[u8], from: usize, to: usize) -> Number {
-    if to <= line.len() {
-        if from <= to {
-            return read_number(&line[from..to]);
-        }
-    }
-    no_number()
-}
-
 fn maximum(line: &[u8], from: usize, to: usize) -> Number {
     if is_none_in(line, from, to) {
         return Number {
             good: true,
             negative: false,
-            value: device::MOST,
+            value: kernel::MOST,
         };
     }
     let n = number_in(line, from, to);
-    if n.value < device::VALUE_END {
+    if n.value < VALUE_END {
         return n;
     }
     Number {
         good: n.good,
         negative: n.negative,
-        value: device::VALUE_END,
+        value: VALUE_END,
     }
 }
 

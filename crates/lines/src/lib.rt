@@ -11,25 +11,18 @@
 // Words are parted by one space, numbers are decimal, bytes are lowercase hex, `-` is none. Any other line is answered
 // `bad line` and changes nothing; an empty line has no answer.
 mod answers; // answers.rt: the commands whose answer is more than a number
-mod hex; // hex.rt: bytes in hex
 mod commands; // commands.rt: a command's name, how many words it has, and what its numbers are
 mod fields; // fields.rt: the numbers of a line
-mod lists; // lists.rt: attributes parted by commas
-mod numbers; // numbers.rt: a decimal number
 mod print; // print.rt: the parts of an answer
 mod scraps; // scraps.rt: frames that come in scraps
-mod words; // words.rt: where the words of a line are
 
 pub use answers::answer;
 pub use answers::before_start;
-pub use hex::Read;
-pub use hex::read_hex;
-pub use numbers::Number;
-pub use numbers::read_number;
 pub use scraps::ROOM;
 
 // The longest line; a longer one is a bad line.
 pub const LONGEST: usize = 16384;
 
-// No answer is longer: a plan of 192 numbers, each of up to twenty characters and a space, behind its number.
+// No answer is longer: the numbers of the longest plan, each of up to twenty characters and a space, or two digits for each byte
+// of the longest frame.
 pub const ANSWER: usize = 8192;

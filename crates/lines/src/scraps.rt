@@ -1,12 +1,12 @@
 // Frames that come in scraps: `scrap new ROOM BYTES` and `scrap same ROOM BYTES`. `new` makes a fresh record and a room of
 // zeros; ROOM is how many bytes of the room are lent.
-use crate::fields::number_in;
-use crate::hex::read_hex;
+use words::number_in;
+use words::read_hex;
 use crate::print::put_bad;
 use crate::print::put_end;
 use crate::print::put_hex_or_none;
-use crate::words::same;
-use crate::words::span;
+use words::same;
+use words::span;
 use receiver::COUNTS;
 use receiver::RECORD;
 ghost use Prim.Native.Nat.{_≤_};

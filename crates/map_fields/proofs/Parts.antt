@@ -11,8 +11,8 @@ use Rattle.cbor.specs.Scan.{KEYS, LEVELS, sightOf, mapAt, sightAt}
 use Rattle.cbor.proofs.Passes.{sight-exact}
 use Rattle.messages.specs.declared.Amount.{Amount}
 use Rattle.messages.specs.declared.Aim.{Aim}
-use Rattle.map_fields.specs.Fields.{upTo, optional, most32, durationIn, aimIn, amountIn}
-use Rattle.map_fields.specs.Sights.{found, durationOf, aimOf, Shown}
+use Rattle.map_fields.specs.Fields.{upTo, optional, aimIn, amountIn}
+use Rattle.map_fields.specs.Sights.{found, aimOf, Shown}
 use Rattle.map_fields.proofs.BySight.{map-found}
 
 -- PLACES
@@ -48,11 +48,6 @@ module _ {X Y : Type 0} {o : Option X} (x : X) where
 map-map : {X Y Z : Type 0} (f : Y → Z) (g : X → Y) (h : X → Z) → ((x : X) → f (g x) ≡ h x) → (o : Option X) → Option·map h o ≡ Option·map f (Option·map g o)
 map-map f g h e (some x) = ap some (sym (e x))
 map-map f g h e none = refl
-
-pub duration-amount : (o : Option Item) → durationIn o ≡ Option·map durationOf (amountIn most32 o)
-unfolding durationIn amountIn optional
-duration-amount none = refl
-duration-amount (some i) = map-map durationOf Amount.Is (λ d. d) (λ x. refl) (upTo most32 i)
 
 pub aim-amount : (o : Option Item) → aimIn o ≡ Option·map aimOf (amountIn 1 o)
 unfolding aimIn amountIn optional

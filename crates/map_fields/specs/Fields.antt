@@ -75,10 +75,6 @@ most32 = 2 ^ 32 - 1
 abbrev pub mostValue : ℕ
 mostValue = 2 ^ 63 - 1
 
--- "duration (32 bits)"; omitted and 0 are alike
-unfoldable pub durationIn : Option Item → Option ℕ
-durationIn o = optional 0 (λ d. d) (upTo most32) o
-
 -- "Each limit field is absent, null or a number"; setpoints are "without null"
 unfoldable pub valueIn : Bool → Option Item → Option Field
 valueIn null o = optional Field.Absent (λ f. f) (signed null) o
@@ -111,10 +107,6 @@ unfoldable pub valueItem : Field → Option Item
 valueItem Field.Absent = none
 valueItem Field.Null = some (Item.simple 22)
 valueItem (Field.Value z) = some (intItem z)
-
--- "A zero duration is omitted"
-unfoldable pub durationItem : ℕ → Option Item
-durationItem d = cond (eqb d 0) none (some (Item.uint d))
 
 unfoldable pub aimItem : Aim → Option Item
 aimItem Aim.Both = none

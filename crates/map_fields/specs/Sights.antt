@@ -34,11 +34,6 @@ UintReads k false most ok = Reads k (amountIn most) ok (amountOf k)
 unfoldable pub MapReads : Sight → Bool → Type 0
 MapReads k ok = (o : Option Item) → k ≡ sightOf o → needed mapIn o ≡ found ok (pairsIn o)
 
--- "duration"; omitted and 0 are alike
-abbrev pub durationOf : Amount → ℕ
-durationOf Amount.Absent = 0
-durationOf (Amount.Is d) = d
-
 abbrev pub aimOf : Amount → Aim
 aimOf Amount.Absent = Aim.Both
 aimOf (Amount.Is d) = Aim.One d

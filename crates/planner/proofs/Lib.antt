@@ -1,3 +1,4 @@
+-- What the proofs of several functions use, and the laws of the plan that callers cite.
 pub mod IsPlan
 pub mod Alike
 pub mod Due

@@ -2,8 +2,8 @@
 mod counts;
 mod rows;
 
-use rows::PLAN;
-use rows::ROW;
+pub use rows::PLAN;
+pub use rows::ROW;
 use store::State;
 use store::apply_head;
 use store::clock;

@@ -6,6 +6,7 @@ use store::MOST;
 use store::Settings;
 use store::VALUE_END;
 
+// 6: an id outside 1 to 255, or a rank outside 1 to 4.
 pub fn is_bad_join(zone: u64, rank: u64) -> bool
     ensures { λ r. ⌜ r ≡ badJoin zone rank ⌝ }
 {
@@ -18,6 +19,7 @@ pub fn is_bad_join(zone: u64, rank: u64) -> bool
     rank < 1 || 4 < rank
 }
 
+// Whether an override's reason goes with its direction; else 18. Reasons 3 and 4 are for an energy manager alone.
 pub fn go_together(manager: bool, reason: u64, direction: u64) -> bool
     ensures { λ r. ⌜ r ≡ goTogether manager reason direction ⌝ }
 {
@@ -42,6 +44,7 @@ fn is_bad_maximum(m: u64) -> bool
     VALUE_END <= m && m != MOST
 }
 
+// 16: a setting out of range, or a contractual consumption maximum below the minimum.
 pub fn is_bad_settings(s: Settings) -> bool
     ensures { λ r. ⌜ r ≡ badSettings s ⌝ }
 {

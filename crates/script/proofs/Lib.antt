@@ -2,5 +2,6 @@
 pub mod Steps
 pub mod Printing
 pub mod Rooms
+pub mod Texts
 pub mod Fronts
 pub mod Plays

@@ -2,14 +2,13 @@
 use Prim.Native.Nat.{ℕ, zero, suc, _+_, _-_, _<_, _≤_}
 use mathlib.Core.Path.{_≡_, refl, sym, ap, _∙_}
 use mathlib.Core.Bool.{Bool, true, false, cond}
-use mathlib.Core.List.{List, [], _∷_, _++_}
+use mathlib.Core.List.{List, [], _∷_, _++_, append-assoc}
 use native.Mathlib.Omega.{arith}
 use lib.Dec.{eqb}
 use lib.IntN.{ℤ}
-use lib.ListN.{length, getD, drop, length-append, length-drop}
+use lib.ListN.{length, getD, take, drop, length-append, length-drop}
 use Rattle.text.specs.Text.{decimal}
-use Rattle.text.specs.Pieces.{putAll, pastAll}
-use Rattle.text.proofs.Pieces.{pieces-more}
+use Rattle.text.specs.Pieces.{putAll, pastAll, joined}
 use Rattle.device.specs.Calls.{joinNumber, joinAfter, leaveNumber, leaveAfter, linkNumber, linkAfter, overrideNumber, overrideAfter, clearNumber, clearAfter, askNumber, askAnswer, askAfter}
 use Rattle.holds.specs.Holds.{situationOf}
 use Rattle.planner.specs.Plan.{planOf, numbersOf, planNumber, planAnswer, planAfter, front, planSlice}
@@ -21,10 +20,11 @@ use Rattle.records.specs.declared.fields.Scan.{Scan}
 use Rattle.records.proofs.Scans.{record-within}
 use Rattle.script.specs.Runs.{Left, alone, callOf, callLeaves, bodyOf, recordLeaves, scanLeaves, stepLeaves, stepFrom, stepAnswer}
 use Rattle.script.specs.Answers.{tablePieces, answerPieces}
-use Rattle.script.specs.Bench.{Answered, numbered, planRoom, answered, recordAnswered, planPieces, answeredPieces, Played, ended, stopped, behind, playedFrom, played, script, frameRoom, rowsRoom, remaining, Comes}
+use Rattle.script.specs.Bench.{Answered, numbered, planRoom, answered, recordAnswered, planPieces, answeredPieces, Played, stopped, behind, playedFrom, played, script, frameRoom, rowsRoom, Comes}
 use Rattle.script.specs.Laws.{PlayedBound}
 use Rattle.script.specs.declared.calls.Call.{Call}
 use Rattle.script.proofs.Rooms.{frame-number, frame-after, plan-number, plan-prints}
+use Rattle.script.proofs.Texts.{joined-more, pieces-front, pieces-on-page}
 use Rattle.script.proofs.Fronts.{moved, movedScan, front-scan, front-body, front-first, front-second, front-next}
 
 -- A CALL, with the answer printed from what it leaves in its room
@@ -171,15 +171,21 @@ module _ (ws s : List ℕ) (p : ℕ) (more : List ℕ) (here : p < length s) (to
 
 -- PAGES
 pub comes-same : (s : List ℕ) (p : ℕ) (x : Played) → Comes s p x s p x
-comes-same s p x = record { page = refl; past = refl; device = refl }
+comes-same s p x = record { text = refl; within = λ h. h; device = refl }
 
 pub comes-more : (s t u : List ℕ) (p q k : ℕ) (x y z : Played) → Comes s p x t q y → Comes t q y u k z → Comes s p x u k z
-comes-more s t u p q k x y z a b =
-    record { page = b .page ∙ a .page; past = b .past ∙ a .past; device = b .device ∙ a .device }
+comes-more s t u p q k x y z a b = record { text = b .text ∙ a .text; within = λ h. b .within (a .within h); device = b .device ∙ a .device }
 
 -- pieces more are on the page
-pub comes-written : (s t : List ℕ) (p q : ℕ) (xs : List (List ℕ)) (x y : Played) → x ≡ behind xs y → (q ≡ pastAll s p xs) × (t ≡ putAll s p xs) → Comes s p x t q y
+pub comes-written : (s t : List ℕ) (p q : ℕ) (xs : List (List ℕ)) (x y : Played) → p + length (joined xs) ≤ length s
+    → x ≡ behind xs y → (q ≡ pastAll s p xs) × (t ≡ putAll s p xs) → Comes s p x t q y
 unfolding behind
-comes-written s t p q xs x y e h =
-    let m = pieces-more s p xs (y .pieces) in
-    rw (e, h .0, h .1) (record { page = sym (m .0); past = sym (m .1); device = refl })
+comes-written s t p q xs x y room e w =
+    rw e (record {
+      text =
+          ap (λ (l : List ℕ). l ++ joined (y .pieces)) (pieces-front s t p q xs room w)
+          ∙ append-assoc (take p s) (joined xs) (joined (y .pieces))
+          ∙ ap (λ (l : List ℕ). take p s ++ l) (sym (joined-more xs (y .pieces)));
+      within = λ h. pieces-on-page s t p q xs w h;
+      device = refl;
+    })

@@ -47,7 +47,8 @@ all-done s t p q xs ys w e = (rw e at (w .past), rw e at (w .list))
 
 -- two pieces more are written
 module _ (s : List ℕ) (p : ℕ) (xs : List (List ℕ)) (t : List ℕ) (q : ℕ) where
-  pub two-done : (a b : List ℕ) (ys : List (List ℕ)) (t′ t″ : List ℕ) (q′ q″ : ℕ) → ToDo s p xs t q (a ∷ b ∷ ys) → (q′ ≡ pastWhole t q a) × (t′ ≡ putWhole t q a) → (q″ ≡ pastWhole t′ q′ b) × (t″ ≡ putWhole t′ q′ b) → ToDo s p xs t″ q″ ys
+  pub two-done : (a b : List ℕ) (ys : List (List ℕ)) (t′ t″ : List ℕ) (q′ q″ : ℕ) → ToDo s p xs t q (a ∷ b ∷ ys)
+      → (q′ ≡ pastWhole t q a) × (t′ ≡ putWhole t q a) → (q″ ≡ pastWhole t′ q′ b) × (t″ ≡ putWhole t′ q′ b) → ToDo s p xs t″ q″ ys
   unfolding putAll pastAll
   two-done a b ys t′ t″ q′ q″ w h k =
       rw (k .0, k .1, h .0, h .1) (record {

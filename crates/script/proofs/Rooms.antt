@@ -1,14 +1,13 @@
 -- Where there is room for all that a call writes, it answers and leaves what it would in any larger room. Assumes nothing.
-use Prim.Native.Nat.{ℕ, zero, suc, _+_, _*_, _-_, _≤_}
-use mathlib.Core.Path.{_≡_, refl, sym, ap, _∙_}
-use mathlib.Core.Bool.{Bool, true, false, cond}
+use Prim.Native.Nat.{ℕ, zero, suc, _+_, _-_, _≤_}
+use mathlib.Core.Path.{_≡_, refl, ap, _∙_}
+use mathlib.Core.Bool.{Bool, true, false}
 use mathlib.Core.Logic.{ite}
-use mathlib.Core.List.{List, [], _∷_, _++_, append-assoc, List-discrete}
+use mathlib.Core.List.{List, _∷_, _++_, append-assoc, List-discrete}
 use mathlib.Core.Option.{Option, some, none}
 use native.Mathlib.Omega.{arith}
-use lib.Dec.{leb, eqb}
 use lib.IntN.{ℤ, pos, ℤ-discrete}
-use lib.ListN.{length, take, drop, length-append}
+use lib.ListN.{length, drop, length-append}
 use lib.Seq.{take-at, drop-at}
 use borrow.Author.Tests.{le-ltb, le-leb}
 use Rattle.bytes.specs.Bytes.{bytesOf}
@@ -143,20 +142,20 @@ row-prints a v ns old n h =
     ∙ ap (λ (x : List ℤ). rowPieces row ++ tablePieces n x) (drop-at row (ns ++ old) rowSize l)
 
 -- the numbers of the rows, with anything behind them, print as the rows
-rows-print : (f : ℕ → List ℤ) → ((t : ℕ) → length (f t) ≡ 1 + helds) → (n now : ℕ) (old : List ℤ)
-    → tablePieces (length (rowsOf f now n)) (numbersOf (rowsOf f now n) ++ old) ≡ planPieces (rowsOf f now n)
+abbrev Prints : List ℤ → List (ℕ × List ℤ) → Type 0
+Prints old rs = tablePieces (length rs) (numbersOf rs ++ old) ≡ planPieces rs
+
+rows-print : (f : ℕ → List ℤ) → ((t : ℕ) → length (f t) ≡ 1 + helds) → (n now : ℕ) (old : List ℤ) → Prints old (rowsOf f now n)
 unfolding rowsOf numbersOf tablePieces planPieces
 rows-print f each zero now old = refl
 rows-print f each (suc n) now old = go (List-discrete ℤ-discrete (f (suc now)) (f now)) (rows-print f each n (suc now) old)
   where
-    go : (d : Dec (f (suc now) ≡ f now)) → tablePieces (length (rowsOf f (suc now) n)) (numbersOf (rowsOf f (suc now) n) ++ old) ≡ planPieces (rowsOf f (suc now) n)
-        → tablePieces (length (ite d (rowsOf f (suc now) n) ((suc now, f (suc now)) ∷ rowsOf f (suc now) n))) (numbersOf (ite d (rowsOf f (suc now) n) ((suc now, f (suc now)) ∷ rowsOf f (suc now) n)) ++ old)
-        ≡ planPieces (ite d (rowsOf f (suc now) n) ((suc now, f (suc now)) ∷ rowsOf f (suc now) n))
+    go : (d : Dec (f (suc now) ≡ f now)) → Prints old (rowsOf f (suc now) n) → Prints old (ite d (rowsOf f (suc now) n) ((suc now, f (suc now)) ∷ rowsOf f (suc now) n))
     go (yes e) h = h
     go (no e) h =
         row-prints (pos (suc now)) (f (suc now)) (numbersOf (rowsOf f (suc now) n)) old (length (rowsOf f (suc now) n)) (each (suc now))
         ∙ ap (λ (l : List (List ℕ)). rowPieces (pos (suc now) ∷ f (suc now)) ++ l) h
 
-pub plan-prints : (ws : List ℕ) (t : ℕ) (old : List ℤ) → tablePieces (length (planOf (situationOf ws) t)) (numbersOf (planOf (situationOf ws) t) ++ old) ≡ planPieces (planOf (situationOf ws) t)
+pub plan-prints : (ws : List ℕ) (t : ℕ) (old : List ℤ) → Prints old (planOf (situationOf ws) t)
 unfolding planOf plan
 plan-prints ws t old = rows-print (valuesAt (situationOf ws)) (values-length (situationOf ws)) (last - t) t old

@@ -25,7 +25,9 @@ module _ (ws s : List ℕ) (p : ℕ) (out : List ℕ) (rows : List ℤ) where
       × ((out′ ≡ stepLeaves ws s p out rows .out)
       × (rows′ ≡ stepLeaves ws s p out rows .rows)))
 
-  pub step-good : (r : Record) → recordAt s p ≡ Scan.Is r → (x : Ran) (ws′ out′ : List ℕ) (rows′ : List ℤ) → _≡_ {A = Left} (record { ran = x; words = ws′; out = out′; rows = rows′ }) (recordLeaves ws s out rows r) → Says (record { good = true; number = x .number; count = x .count; next = r .body + r .length }) ws′ out′ rows′
+  pub step-good : (r : Record) → recordAt s p ≡ Scan.Is r → (x : Ran) (ws′ out′ : List ℕ) (rows′ : List ℤ)
+      → _≡_ {A = Left} (record { ran = x; words = ws′; out = out′; rows = rows′ }) (recordLeaves ws s out rows r)
+      → Says (record { good = true; number = x .number; count = x .count; next = r .body + r .length }) ws′ out′ rows′
   unfolding stepAnswer stepLeaves scanLeaves stepFrom
   step-good r e x ws′ out′ rows′ h = rw (e, ← h) (refl, (refl, (refl, refl)))
 

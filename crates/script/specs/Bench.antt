@@ -1,14 +1,14 @@
 -- The bench program: the text that a whole script prints, whatever room its calls are lent and in whatever pieces it is read.
 -- Assumes nothing: these are definitions.
-use Prim.Native.Nat.{ℕ, zero, suc, _+_, _*_}
+use Prim.Native.Nat.{ℕ, zero, suc, _+_, _*_, _≤_}
 use mathlib.Core.Path.{_≡_}
 use mathlib.Core.Bool.{Bool, true, false, cond}
 use mathlib.Core.List.{List, [], _∷_, _++_}
 use lib.Dec.{eqb}
 use lib.IntN.{ℤ, pos}
-use lib.ListN.{length, getD, drop}
+use lib.ListN.{length, getD, take, drop}
 use Rattle.text.specs.Text.{decimal}
-use Rattle.text.specs.Pieces.{putAll, pastAll, joined}
+use Rattle.text.specs.Pieces.{joined}
 use Rattle.store.specs.Sizes.{slots, helds, most}
 use Rattle.holds.specs.Holds.{situationOf}
 use Rattle.device.specs.Calls.{joinNumber, joinAfter, leaveNumber, leaveAfter, linkNumber, linkAfter, overrideNumber, overrideAfter, clearNumber, clearAfter, askNumber, askAfter}
@@ -128,12 +128,17 @@ frameRoom = 4 + payloadRoom
 abbrev pub rowsRoom : ℕ
 rowsRoom = slots * helds * rowSize
 
+-- room for every answer: a number's line, and a row's numbers of 20 digits at most with a byte behind each
+abbrev pub answerRoom : ℕ
+answerRoom = 4096
+
 -- what is left to play: nothing behind a bad record but its line
 unfoldable pub remaining : Bool → List ℕ → List ℕ → Played
 remaining good ws s = cond good (script ws s) (stopped ws)
 
--- to play `rest` on page t from q on comes to what `whole` on page s from p on comes to
+-- what stands on page t up to q, then what `rest` prints, is what stands on page s up to p, then what `whole` prints; a position
+-- on the page stays on it
 pub record Comes (s : List ℕ) (p : ℕ) (whole : Played) (t : List ℕ) (q : ℕ) (rest : Played) : Type 0 where
-  pub page : putAll t q (rest .pieces) ≡ putAll s p (whole .pieces)
-  pub past : pastAll t q (rest .pieces) ≡ pastAll s p (whole .pieces)
+  pub text : take q t ++ joined (rest .pieces) ≡ take p s ++ joined (whole .pieces)
+  pub within : p ≤ length s → q ≤ length t
   pub device : rest .words ≡ whole .words

@@ -12,7 +12,9 @@ use Rattle.script.specs.Bench.{played}
 
 -- behind a good record the next starts at least its fields further on, within the script
 abbrev pub StepMoves : Type 0
-StepMoves = (ws s : List ℕ) (p : ℕ) (out : List ℕ) (rows : List ℤ) → stepAnswer ws s p out rows .good ≡ true → (p + head ≤ stepAnswer ws s p out rows .next) × (stepAnswer ws s p out rows .next ≤ length s)
+StepMoves =
+    (ws s : List ℕ) (p : ℕ) (out : List ℕ) (rows : List ℤ) → stepAnswer ws s p out rows .good ≡ true
+    → (p + head ≤ stepAnswer ws s p out rows .next) × (stepAnswer ws s p out rows .next ≤ length s)
 
 -- a script has no more records than bytes: a larger bound changes nothing
 abbrev pub PlayedBound : Type 0

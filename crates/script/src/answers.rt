@@ -1,4 +1,5 @@
 // An answer as text: its number, and a plan's rows.
+use kernel::ROW;
 ghost use mathlib.Core.Path.{_≡_};
 ghost use mathlib.Core.Bool.{cond, _&&_};
 ghost use Prim.Native.Nat.{_-_, _≤_};
@@ -8,9 +9,6 @@ ghost use Rattle.bytes.specs.Bytes.{putWhole, pastWhole};
 ghost use Rattle.text.specs.Pieces.{putAll, pastAll};
 ghost use Rattle.kernel.specs.Door.{rowSize};
 ghost use Rattle.script.specs.Answers.{cell, rowPieces, tablePieces, answerPieces};
-
-// How many numbers a row has: the second, and what holds from then on.
-const ROW: usize = 1 + kernel::VALUES;
 
 fn put_cell(out: &mut [u8], at: usize, n: i64) -> usize
     ensures { λ r. ⌜ r ≡ pastWhole (now (out .entry)) at (cell n) ⌝ }
@@ -49,7 +47,9 @@ fn put_row(out: &mut [u8], at: usize, row: &[i64]) -> usize
 // Where the row ends that starts at `from`: the last may be cut.
 fn row_end(rows: &[i64], from: usize) -> usize
     requires { ⌜ from ≤ length (now rows) ⌝ }
-    ensures { λ r. ⌜ (from ≤ r) × (r ≤ length (now (rows .entry))) × (take (r - from) (drop from (now (rows .entry))) ≡ take rowSize (drop from (now (rows .entry)))) × (drop r (now (rows .entry)) ≡ drop rowSize (drop from (now (rows .entry)))) ⌝ }
+    ensures { λ r. ⌜ (from ≤ r) × (r ≤ length (now (rows .entry)))
+        × (take (r - from) (drop from (now (rows .entry))) ≡ take rowSize (drop from (now (rows .entry))))
+        × (drop r (now (rows .entry)) ≡ drop rowSize (drop from (now (rows .entry)))) ⌝ }
 {
     if rows.len() - from < ROW {
         return rows.len();

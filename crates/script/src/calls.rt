@@ -62,7 +62,8 @@ fn alone(number: u64) -> Ran
 }
 
 fn run(d: &mut State, t: u64, c: Call, bytes: &[u8], out: &mut [u8], rows: &mut [i64]) -> Ran
-    ensures { λ r. ⌜ record { ran = r; words = now (d .exit); out = now (out .exit); rows = now (rows .exit) } ≡ callLeaves (now (d .entry)) t (now (bytes .entry)) (now (out .entry)) (now (rows .entry)) c ⌝ }
+    ensures { λ r. ⌜ record { ran = r; words = now (d .exit); out = now (out .exit); rows = now (rows .exit) }
+        ≡ callLeaves (now (d .entry)) t (now (bytes .entry)) (now (out .entry)) (now (rows .entry)) c ⌝ }
 {
     match c {
         Call::Join(zone, rank) => alone(kernel::join(d, zone, rank, t)),
@@ -92,7 +93,8 @@ fn run(d: &mut State, t: u64, c: Call, bytes: &[u8], out: &mut [u8], rows: &mut 
 // A record that was read, its body within the script.
 fn run_record(d: &mut State, s: &[u8], r: Record, out: &mut [u8], rows: &mut [i64]) -> Ran
     requires { ⌜ r .body + r .length ≤ length (now s) ⌝ }
-    ensures { λ x. ⌜ record { ran = x; words = now (d .exit); out = now (out .exit); rows = now (rows .exit) } ≡ recordLeaves (now (d .entry)) (now (s .entry)) (now (out .entry)) (now (rows .entry)) r ⌝ }
+    ensures { λ x. ⌜ record { ran = x; words = now (d .exit); out = now (out .exit); rows = now (rows .exit) }
+        ≡ recordLeaves (now (d .entry)) (now (s .entry)) (now (out .entry)) (now (rows .entry)) r ⌝ }
 {
     let body = r.body;
     let end = body + r.length;

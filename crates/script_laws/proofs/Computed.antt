@@ -1,11 +1,11 @@
 -- Document 01's example, computed: first which calls the script makes, on any device, then what they answer on bench's.
 use Prim.Native.Nat.{ℕ}
 use mathlib.Core.Path.{_≡_, refl, ap, _∙_}
-use mathlib.Core.Bool.{Bool, true, false, cond, not}
+use mathlib.Core.Bool.{Bool, true, false, cond}
 use mathlib.Core.List.{List, [], _∷_, _++_}
 use mathlib.Core.Option.{bind}
 use native.Mathlib.Omega.{arith}
-use lib.Dec.{leb, eqb}
+use lib.Dec.{eqb}
 use lib.IntN.{pos}
 use lib.ListN.{length}
 use borrow.Author.Tests.{le-leb, eqb-true}
@@ -22,8 +22,9 @@ use Rattle.cbor.specs.Item.{itemsAt, keyAt, pairsAt, fromHead, itemAt, payloadO
 use Rattle.cbor.specs.Find.{valueOf}
 use Rattle.frames.specs.Prefix.{framed}
 use Rattle.map_fields.specs.Fields.{upTo as fieldUpTo}
-use Rattle.map_fields.specs.Fields.{truth, mapIn, signed, needed, optional, durationIn, valueIn}
-use Rattle.frames.specs.Requests.{envelopeIn, servedCommand, servedAt, limitsIn, commandIn, fromEnvelope, fromPayload, readRequest}
+use Rattle.map_fields.specs.Fields.{truth, mapIn, signed, needed, optional, amountIn, valueIn}
+use Rattle.frames.specs.Requests.{envelopeIn, servedCommand, servedAt, commandIn, fromEnvelope, fromPayload, readRequest}
+use Rattle.frames.specs.Settings.{settingIn, limitsFrom}
 use Rattle.frames.specs.Writing.{writingNumber}
 use Rattle.frames.specs.declared.requests.Reading.{Reading}
 use Rattle.kernel.specs.Frame.{responseFrame, numberFrom, obeyedBy, frameNumber, frameAfter}
@@ -78,13 +79,13 @@ abbrev request : ℕ → Command → Request
 request i c = record { id = i; endpoint = 1; feature = 5; command = c }
 
 first-read : readRequest frame3 ≡ Reading.Is (request 1 (limit 11040000 60))
-unfolding numberAt infoOf widthOf argAt headAt itemsAt keyAt pairsAt fromHead itemAt payloadOf valueOf framed fieldUpTo truth mapIn signed needed optional durationIn valueIn
-    envelopeIn servedCommand servedAt limitsIn commandIn fromEnvelope fromPayload readRequest bind
+unfolding numberAt infoOf widthOf argAt headAt itemsAt keyAt pairsAt fromHead itemAt payloadOf valueOf framed fieldUpTo truth mapIn signed needed optional amountIn valueIn
+    envelopeIn servedCommand servedAt settingIn limitsFrom commandIn fromEnvelope fromPayload readRequest bind
 first-read = refl
 
 second-read : readRequest frame9 ≡ Reading.Is (request 2 (limit 4600000 20))
-unfolding numberAt infoOf widthOf argAt headAt itemsAt keyAt pairsAt fromHead itemAt payloadOf valueOf framed fieldUpTo truth mapIn signed needed optional durationIn valueIn
-    envelopeIn servedCommand servedAt limitsIn commandIn fromEnvelope fromPayload readRequest bind
+unfolding numberAt infoOf widthOf argAt headAt itemsAt keyAt pairsAt fromHead itemAt payloadOf valueOf framed fieldUpTo truth mapIn signed needed optional amountIn valueIn
+    envelopeIn servedCommand servedAt settingIn limitsFrom commandIn fromEnvelope fromPayload readRequest bind
 second-read = refl
 
 -- THE CALLS

@@ -1,3 +1,4 @@
+-- What the proofs of several functions use, and the laws of the words that callers cite.
 pub mod Tests
 pub mod Folds
 pub mod Runs

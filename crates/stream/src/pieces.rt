@@ -1,14 +1,14 @@
 // The records of one piece of a script.
-use device::State;
+use kernel::State;
 ghost use mathlib.Core.Path.{_≡_};
 ghost use mathlib.Core.Bool.{true, false};
 ghost use mathlib.Core.List.{List, [], _++_};
 ghost use Prim.Native.Nat.{ℕ, _+_, _≤_, _<_};
 ghost use lib.ListN.{length, drop};
 ghost use Rattle.records.specs.Kinds.{longest};
-ghost use Rattle.script.specs.Bench.{script, frameRoom, rowsRoom, remaining, Comes};
+ghost use Rattle.script.specs.Bench.{script, frameRoom, rowsRoom, answerRoom, remaining, Comes};
 
-// Room for the longest answer: a number and 32 rows of at most 96 bytes.
+// Room for the longest answer.
 const ANSWER: usize = 4096;
 
 // Records are run up to `from` and answers printed up to `at`; `good` is false behind a bad record.
@@ -27,7 +27,7 @@ fn next(
     out: &mut [u8],
     rows: &mut [i64],
 ) -> Place
-    requires { ⌜ (p .from < length (now s)) × (frameRoom ≤ length (now out)) × (rowsRoom ≤ length (now rows)) ⌝ }
+    requires { ⌜ (p .from < length (now s)) × (p .at + answerRoom ≤ length (now page)) × (frameRoom ≤ length (now out)) × (length (now rows) ≡ rowsRoom) ⌝ }
     ensures { λ r. ⌜ (p .from < r .from) × (r .from ≤ length (now (s .entry))) × (r .good ≡ false → r .from ≡ length (now (s .entry))) ⌝ }
     ensures { λ r. ⌜ ((more : List ℕ) → (length (now (s .entry)) < p .from + longest → more ≡ [])
         → Comes (now (page .entry)) (p .at) (script (now (d .entry)) (drop (p .from) (now (s .entry)) ++ more))
@@ -49,13 +49,15 @@ fn next(
 }
 
 // Whether there is room for one more answer.
-fn has_page(at: usize, len: usize) -> bool {
+fn has_page(at: usize, len: usize) -> bool
+    ensures { λ r. ⌜ (r ≡ true → at + answerRoom ≤ len) ⌝ }
+{
     at <= len && ANSWER <= len - at
 }
 
 // Whether the next record can be told: it is whole, or the last piece is there.
 fn is_ready(p: Place, len: usize, last: bool, page: usize) -> bool
-    ensures { λ r. ⌜ (r ≡ true → (p .from < len) × (last ≡ false → p .from + longest ≤ len)) ⌝ }
+    ensures { λ r. ⌜ (r ≡ true → (p .from < len) × (last ≡ false → p .from + longest ≤ len) × (p .at + answerRoom ≤ page)) ⌝ }
 {
     if len <= p.from {
         return false;
@@ -67,7 +69,8 @@ fn is_ready(p: Place, len: usize, last: bool, page: usize) -> bool
 }
 
 // Runs the records at the front of `s` and prints their answers from the front of `page`: whatever comes behind `s`, and
-// nothing does behind the last piece, the page and what is left to play come to what the whole script plays.
+// nothing does behind the last piece, what stands on the page and then what is left to print is what the whole script
+// prints.
 pub(crate) fn run(
     d: &mut State,
     s: &[u8],
@@ -76,7 +79,7 @@ pub(crate) fn run(
     out: &mut [u8],
     rows: &mut [i64],
 ) -> Place
-    requires { ⌜ (frameRoom ≤ length (now out)) × (rowsRoom ≤ length (now rows)) ⌝ }
+    requires { ⌜ (frameRoom ≤ length (now out)) × (length (now rows) ≡ rowsRoom) ⌝ }
     ensures { λ r. ⌜ r .from ≤ length (now (s .entry)) ⌝ }
     ensures { λ r. ⌜ ((more : List ℕ) → (last ≡ true → more ≡ [])
         → Comes (now (page .entry)) 0 (script (now (d .entry)) (now (s .entry) ++ more))

@@ -3,13 +3,13 @@ use crate::input::Input;
 use crate::input::fill;
 use crate::pieces::Place;
 use crate::pieces::run;
-use device::HELDS;
-use device::MOST;
-use device::SLOTS;
-use device::Settings;
-use device::State;
-use device::VALUES;
-use device::WORDS;
+use kernel::MOST;
+use kernel::Settings;
+use kernel::State;
+use kernel::VALUES;
+use kernel::WORDS;
+use store::HELDS;
+use store::SLOTS;
 ghost use mathlib.Core.Path.{_≡_};
 ghost use mathlib.Core.Bool.{true};
 ghost use Prim.Native.Nat.{_≤_, _<_};
@@ -69,7 +69,7 @@ fn play_with(
     out: &mut [u8],
     rows: &mut [i64],
 ) -> u64
-    requires { ⌜ (frameRoom ≤ length (now out)) × (rowsRoom ≤ length (now rows)) ⌝ }
+    requires { ⌜ (frameRoom ≤ length (now out)) × (length (now rows) ≡ rowsRoom) ⌝ }
 {
     let mut x = Input {
         from: 0,
@@ -100,7 +100,7 @@ pub fn play(limit: u64) -> u64 {
     kernel::start(&mut d, settings());
     let mut buf = io::large_buffer();
     let mut page = io::large_buffer();
-    let mut out = [0u8; FRAME];
-    let mut rows = [0i64; ROWS];
+    let mut out = [0u8; RESPONSE];
+    let mut rows = [0i64; PLAN];
     play_with(&mut d, limit, &mut buf, &mut page, &mut out, &mut rows)
 }

@@ -26,7 +26,8 @@ hex-length (b ∷ bs) = omega (arith, hex-length bs)
 
 -- one pair more, and none left
 module _ (s bs : List ℕ) (p i : ℕ) where
-  pub pair-more : (t : List ℕ) → i < length bs → t ≡ set (set s p (hexDigit (getD bs i 0 / 16))) (p + 1) (hexDigit (getD bs i 0 % 16)) → put t (p + 2) (hex (drop (i + 1) bs)) ≡ put s p (hex (drop i bs))
+  pub pair-more : (t : List ℕ) → i < length bs
+      → t ≡ set (set s p (hexDigit (getD bs i 0 / 16))) (p + 1) (hexDigit (getD bs i 0 % 16)) → put t (p + 2) (hex (drop (i + 1) bs)) ≡ put s p (hex (drop i bs))
   unfolding put hex
   pair-more t h e =
       let k : p + 2 ≡ suc (suc p) = omega arith in

@@ -13,7 +13,9 @@ PiecesJoin = (s : List ℕ) (p : ℕ) (xs : List (List ℕ)) → p + length (joi
 
 -- pieces behind pieces
 abbrev pub PiecesMore : Type 0
-PiecesMore = (s : List ℕ) (p : ℕ) (xs ys : List (List ℕ)) → (putAll s p (xs ++ ys) ≡ putAll (putAll s p xs) (pastAll s p xs) ys) × (pastAll s p (xs ++ ys) ≡ pastAll (putAll s p xs) (pastAll s p xs) ys)
+PiecesMore =
+    (s : List ℕ) (p : ℕ) (xs ys : List (List ℕ))
+    → (putAll s p (xs ++ ys) ≡ putAll (putAll s p xs) (pastAll s p xs) ys) × (pastAll s p (xs ++ ys) ≡ pastAll (putAll s p xs) (pastAll s p xs) ys)
 
 -- a slice is as long as it was, and the position stays within it
 abbrev pub PiecesLength : Type 0

@@ -1,3 +1,4 @@
+-- The count of scripts rises, so that it ends at the largest number at the latest.
 use Prim.Native.Nat.{_-_}
 use native.Mathlib.Omega.{arith}
 use Rattle.bench_cases.proofs.main.Statement.{statement}

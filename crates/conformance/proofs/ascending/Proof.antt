@@ -1,3 +1,4 @@
+-- At each place what is left of the list is tested from the least number that may stand there.
 use Prim.Native.Nat.{_≤_, _-_}
 use mathlib.Core.Path.{_≡_, refl}
 use native.Mathlib.Omega.{arith}
@@ -18,9 +19,19 @@ ascending-spec =
     tie.close
     (tie.spec
     Inv-loop μ-loop (λ c. (omega arith, refl)) (λ c. omega arith) (λ c. omega arith)
-    (λ c. omega (arith, c .shared-slice-known .given (c .before .before .loop .k)))
-    (λ c. ascent-broken _ _ _ _ (c .before .before .before .loop .inv .1) (c .before .before .loop-test .taken) (c .if1 .taken))
-    (λ c. omega (arith, c .before .shared-slice-known .given (c .before .before .before .loop .k)))
+    (λ c.
+    let at-loop = c .before .before .loop in
+    omega (arith, c .shared-slice-known .given (at-loop .k)))
+    (λ c.
+    let at-loop-test = c .before .before .loop-test in
+    let at-loop = c .before .before .before .loop in
+    ascent-broken _ _ _ _ (at-loop .inv .1) (at-loop-test .taken) (c .if1 .taken))
+    (λ c.
+    let at-loop = c .before .before .before .loop in
+    omega (arith, c .before .shared-slice-known .given (at-loop .k)))
     (λ c. omega arith) (λ c. omega arith)
-    (λ c. (omega arith, ascent-turn _ _ _ _ (c .before .before .before .loop .inv .1) (c .before .before .loop-test .taken) (c .if1 .left)))
+    (λ c.
+    let at-loop-test = c .before .before .loop-test in
+    let at-loop = c .before .before .before .loop in
+    (omega arith, ascent-turn _ _ _ _ (at-loop .inv .1) (at-loop-test .taken) (c .if1 .left)))
     (λ c. ascent-end _ _ _ _ (c .before .loop .inv .1) (c .loop-test .left)))

@@ -1,3 +1,4 @@
+-- The tests are the definition's, in its order.
 use Rattle.conformance.specs.Report.{inRange}
 use mathlib.Core.Path.{refl}
 use Rattle.conformance.proofs.in_range.Statement.{statement}

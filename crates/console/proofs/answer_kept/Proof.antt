@@ -1,3 +1,4 @@
+-- What was kept stays within its buffer.
 use mathlib.Core.Path.{sym}
 use lib.Seq.{length-take-le}
 use native.Mathlib.Omega.{arith}

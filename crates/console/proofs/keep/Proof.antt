@@ -1,3 +1,4 @@
+-- Each byte is kept within the buffer.
 use lib.ListN.{length}
 use mathlib.Core.Path.{_≡_}
 use Prim.Native.Nat.{_-_}

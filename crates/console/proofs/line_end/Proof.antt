@@ -1,3 +1,4 @@
+-- The place stays between where it started and the end.
 use lib.ListN.{length}
 use Prim.Native.Nat.{_-_, _≤_}
 use borrow.Author.Needs.{needs}

@@ -1,3 +1,4 @@
+-- What is left of the piece falls with each line.
 use lib.ListN.{length}
 use mathlib.Core.Path.{_≡_}
 use Prim.Native.Nat.{_-_}

@@ -1,3 +1,4 @@
+-- What is left of the input falls with each read.
 use lib.ListN.{length}
 use mathlib.Core.Path.{_≡_}
 use borrow.Author.Needs.{needs}

@@ -1,3 +1,4 @@
+-- `apply_head` moves the clock and stores the override that it read.
 use mathlib.Core.Path.{refl, _∙_}
 use borrow.Author.Needs.{needs}
 use Rattle.planner.proofs.done.Statement.{statement}

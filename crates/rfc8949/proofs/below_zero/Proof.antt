@@ -1,3 +1,4 @@
+-- -1 - v of a 64-bit number is one too, so the subtraction does not overflow.
 use borrow.Author.Needs.{needs}
 use mir.Facts.{toZ-ofZ}
 use Rattle.rfc8949.proofs.Signs.{minus-one-minus}

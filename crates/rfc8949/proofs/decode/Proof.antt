@@ -1,3 +1,4 @@
+-- n stays at most i, and two digits are left where i goes on, so that neither sum overflows; what is left falls.
 use Prim.Native.Nat.{_≤_, _-_}
 use mathlib.Core.Path.{_≡_}
 use lib.ListN.{length}

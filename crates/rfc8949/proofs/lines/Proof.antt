@@ -1,3 +1,4 @@
+-- Each turn takes one from `turns`, so the loop ends, and `out` keeps its length.
 use mathlib.Core.Path.{_≡_}
 use lib.ListN.{length}
 use borrow.Author.Needs.{needs}

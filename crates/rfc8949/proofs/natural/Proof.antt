@@ -1,3 +1,4 @@
+-- v is not negative where it is cast, so the cast is exact.
 use borrow.Author.Needs.{needs}
 use mir.Facts.{toZ-ofZ, fits-natAbs}
 use Rattle.rfc8949.proofs.Signs.{not-negative}

@@ -1,3 +1,4 @@
+-- n is at most the buffer's length where it is cut there.
 use mathlib.Core.Path.{sym}
 use lib.Seq.{length-take-le}
 use borrow.Author.Needs.{needs}

@@ -1,3 +1,4 @@
+-- Each turn takes one from `turns`, so the loop ends whatever `show_head` says.
 use borrow.Author.Needs.{needs}
 use Rattle.rfc8949.proofs.show_heads.Statement.{statement}
 use Rattle.rfc8949.proofs.show_heads.Tie as tie

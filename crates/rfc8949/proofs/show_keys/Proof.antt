@@ -1,3 +1,4 @@
+-- The key counts up to 32.
 use Prim.Native.Nat.{_-_}
 use borrow.Author.Needs.{needs}
 use Rattle.rfc8949.proofs.show_keys.Statement.{statement}

@@ -1,3 +1,4 @@
+-- The reason picks the alternative of the definition; those of the other reasons are false.
 use mathlib.Core.Bool.{Bool, true, false, _&&_, _||_}
 use mathlib.Core.Path.{_≡_, refl}
 use native.Mathlib.Omega.{arith}

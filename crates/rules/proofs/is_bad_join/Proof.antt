@@ -1,3 +1,4 @@
+-- Each test is one bound of the definition, in its order; the last two are of the rank.
 use borrow.Author.Tests.{lt-ltb, le-leb, lt-leb}
 use Rattle.rules.specs.Rules.{badJoin}
 use Rattle.store.proofs.Tests.{ltb-not}

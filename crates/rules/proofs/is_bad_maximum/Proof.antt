@@ -1,3 +1,4 @@
+-- Both comparisons are the definition's.
 use borrow.Author.Tests.{le-leb, lt-leb}
 use Rattle.rules.specs.Rules.{badMaximum}
 use Rattle.rules.proofs.is_bad_maximum.Statement.{statement}

@@ -1,3 +1,4 @@
+-- Each test is the next alternative of the definition: those before it were false.
 use borrow.Author.Needs.{needs}
 use borrow.Author.Tests.{lt-ltb, le-ltb, le-leb, lt-leb}
 use Rattle.rules.specs.Rules.{badSettings}

@@ -1,3 +1,4 @@
+-- The tests are those of the definition, from the shortest form to the longest.
 use borrow.Author.Tests.{le-ltb, lt-ltb}
 use Rattle.cbor.specs.Head.{infoOf}
 use Rattle.cbor.proofs.heads.info_of.Statement.{statement}

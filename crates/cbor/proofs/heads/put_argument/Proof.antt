@@ -1,3 +1,4 @@
+-- The argument's range says its width, 0, 1, 2, 4 or 8, and with it how many bytes are put and that they have room.
 use borrow.Author.Needs.{needs}
 use native.Mathlib.Omega.{arith}
 use Rattle.bytes.proofs.PutLaws.{put-width, put-nothing, put-one}

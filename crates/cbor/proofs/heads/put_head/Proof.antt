@@ -1,3 +1,4 @@
+-- Where the major type is below 8 and the head fits, its first byte and its argument are put; elsewhere nothing is.
 use borrow.Author.Needs.{needs}
 use mathlib.Core.Path.{ap, _∙_}
 use native.Mathlib.Omega.{arith}

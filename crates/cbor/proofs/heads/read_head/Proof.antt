@@ -1,3 +1,4 @@
+-- The first byte says major type and width: a low one holds its argument, `wide` reads a longer; of type 7 only 244 to 246 pass.
 use native.Mathlib.Omega.{arith}
 use Rattle.cbor.proofs.HeadSteps.{wide-none, wide-some, head-end, head-in, head-low, head-out, arg-low, in-simple, in-none}
 use Prim.Native.Nat.{ℕ, _/_, _+_}

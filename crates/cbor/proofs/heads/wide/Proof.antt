@@ -1,3 +1,4 @@
+-- An argument is in shortest form where it is not below its width's least; short slices and longer forms say 0, as `argOrZero` does.
 use mathlib.Core.Path.{_≡_}
 use native.Mathlib.Omega.{arith}
 use Rattle.bytes.proofs.NumberLaws.{all-bytes, number-small, number-one}

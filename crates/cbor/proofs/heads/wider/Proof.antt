@@ -1,3 +1,4 @@
+-- Widths 4 and 8 as `wide` has 1 and 2; additional information above 27 has no argument, which is 0.
 use native.Mathlib.Omega.{arith}
 use Rattle.bytes.proofs.NumberLaws.{all-bytes, number-small}
 use Rattle.cbor.proofs.HeadSteps.{wide-not, wide-short, wide-is}

@@ -1,3 +1,4 @@
+-- Each test finds one of the four widths of the definition, and all of them are at most 8.
 use mathlib.Core.Path.{refl}
 use native.Mathlib.Omega.{arith}
 use borrow.Author.Tests.{ne-eqb}

@@ -1,3 +1,4 @@
+-- `past_item` says 0 just where the item is bad, since no item ends at 0.
 use Rattle.bytes.proofs.NumberLaws.{all-bytes}
 use Rattle.cbor.proofs.ItemSteps.{item-bad, item-got, end-bad, end-at}
 use borrow.Author.Needs.{needs}

@@ -1,3 +1,4 @@
+-- `check_item` says where the item ends; it is the whole payload where that is the slice's end.
 use Rattle.cbor.proofs.ItemSteps.{whole-bad, whole-ends}
 use borrow.Author.Needs.{needs}
 use Rattle.cbor.proofs.items.is_item.Statement.{statement}

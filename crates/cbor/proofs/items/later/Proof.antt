@@ -1,3 +1,4 @@
+-- The first key may be any, and a later one must be above the last: that is `least` and the test of `keyFrom`.
 use Rattle.cbor.proofs.KeySteps.{later-first, later-next, later-not}
 use Rattle.cbor.proofs.items.later.Statement.{statement}
 use Rattle.cbor.proofs.items.later.Tie as tie

@@ -1,3 +1,4 @@
+-- The comparison with what is left is the definition's; where n fits in it, at + n is at most the length.
 use borrow.Author.Tests.{le-leb, lt-leb}
 use borrow.Author.Needs.{needs}
 use Rattle.cbor.proofs.items.past_string.Statement.{statement}

@@ -1,3 +1,4 @@
+-- A first byte below 24 is the key, one below 28 has `wide`'s argument, any other is of another major type or bad.
 use native.Mathlib.Omega.{arith}
 use Rattle.cbor.specs.Item.{least}
 use mathlib.Core.Path.{refl}

@@ -1,3 +1,4 @@
+-- The key is compared as in `stepOf`, and `check_item` says where the value of a smaller one ends.
 use mathlib.Core.Path.{sym, ap, _∙_}
 use Rattle.cbor.specs.Find.{passed}
 use Rattle.cbor.proofs.WalkSteps.{no-pair, pair-there, pair-larger, pair-smaller}

@@ -1,3 +1,4 @@
+-- From here with the pairs left, the walk stops where the whole walk does; each turn passes one pair.
 use mathlib.Core.Path.{_≡_, refl, _∙_}
 use borrow.Author.Needs.{needs}
 use Rattle.cbor.specs.Find.{seekAt}

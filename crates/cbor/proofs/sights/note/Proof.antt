@@ -1,3 +1,4 @@
+-- The two stores are those of `noteAt`; both places are within the words, as k is below SIGHTS.
 use mathlib.Core.Path.{refl}
 use Rattle.cbor.specs.Pass.{noteAt}
 use borrow.Author.Needs.{needs}

@@ -1,3 +1,4 @@
+-- `scan_root` says where the item ends and what it leaves; a payload that is not whole leaves the blank sights.
 use borrow.Author.Needs.{needs}
 use mathlib.Core.Path.{sym, _∙_}
 use Rattle.bytes.proofs.NumberLaws.{all-bytes}

@@ -1,3 +1,4 @@
+-- The item is its head and what is behind it: `scan_map`'s pairs for a map, nothing to note for any other item.
 use borrow.Author.Needs.{needs}
 use native.Mathlib.Omega.{arith}
 use mathlib.Core.Path.{sym, ap}

@@ -1,3 +1,4 @@
+-- The flag at the place, and a no past the end.
 use mathlib.Core.Path.{sym}
 use mathlib.Core.Bool.{false}
 use lib.ListN.{List·getD-eq-default}

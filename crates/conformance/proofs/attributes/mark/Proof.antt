@@ -1,3 +1,4 @@
+-- The flag at the place is set; past the end there is none to set.
 use mathlib.Core.Path.{sym}
 use mathlib.Core.Bool.{true}
 use lib.Seq.{set-out}

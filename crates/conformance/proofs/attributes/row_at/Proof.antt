@@ -1,3 +1,4 @@
+-- The code's table is the definition's, row by row.
 use Rattle.conformance.specs.Attributes.{rows}
 use mathlib.Core.Path.{refl}
 use borrow.Author.Needs.{needs}

@@ -1,3 +1,4 @@
+-- A place among the bits has its group and bit, and a later one its row.
 use Prim.Native.Nat.{_-_}
 use native.Mathlib.Omega.{arith}
 use mathlib.Core.Path.{sym}
@@ -13,4 +14,6 @@ candidate-spec =
     (tie.spec
     (λ c. search needs) (λ c. sym (bit-pair (c .before .args .k) (c .if1 .taken))) (λ c κs. search needs)
     (λ c. search needs)
-    (λ c. row-read (c .before .before .before .args .k - bitPairs) (c .before .before .before .args .k) _ (omega arith) (omega arith) (c .before .row-at .ensures)))
+    (λ c.
+    let at-args = c .before .before .before .args in
+    row-read (at-args .k - bitPairs) (at-args .k) _ (omega arith) (omega arith) (c .before .row-at .ensures)))

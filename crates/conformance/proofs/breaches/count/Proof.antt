@@ -1,3 +1,4 @@
+-- What was counted and what is left from each place on make the whole.
 use native.Mathlib.Nat.{zero-add}
 use Prim.Native.Nat.{_-_, _≤_}
 use mathlib.Core.Logic.{⊎-elim}
@@ -19,8 +20,12 @@ count-spec =
     tie.close
     (tie.spec
     Inv-loop μ-loop (λ c. (omega arith, omega arith, record { whole = zero-add _ }))
-    (λ c κs. (c .before .before .before .before .pre .0, omega arith, c .before .before .before .before .pre .1))
+    (λ c κs.
+    let at-pre = c .before .before .before .before .pre in
+    (at-pre .0, omega arith, at-pre .1))
     (λ c. omega arith) (λ c. omega arith) (λ c. omega arith)
-    (λ c. ⊎-elim (λ w. (omega arith, omega arith, counted (c .before .before .before .loop .inv .2) (omega arith) (c .before .is-broken .ensures) (w .0 .taken) (w .1)))
-    (λ w. (omega arith, omega arith, passed (c .before .before .before .loop .inv .2) (omega arith) (c .before .is-broken .ensures) (w .0 .left) (w .1))) (c .if1 .came))
+    (λ c.
+    let at-loop = c .before .before .before .loop in
+    ⊎-elim (λ w. (omega arith, omega arith, counted (at-loop .inv .2) (omega arith) (c .before .is-broken .ensures) (w .0 .taken) (w .1)))
+    (λ w. (omega arith, omega arith, passed (at-loop .inv .2) (omega arith) (c .before .is-broken .ensures) (w .0 .left) (w .1))) (c .if1 .came))
     (λ c. end (c .before .loop .inv .2) (omega arith)))

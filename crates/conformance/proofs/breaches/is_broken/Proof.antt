@@ -1,3 +1,4 @@
+-- A place among the bits is judged by its group, and a later one by its row.
 use Prim.Native.Nat.{_-_}
 use mathlib.Core.Path.{_∙_}
 use native.Mathlib.Omega.{arith}
@@ -12,6 +13,10 @@ is-broken-spec =
     tie.close
     (tie.spec
     (λ c κs. search needs)
-    (λ c. c .broken-bit .ensures ∙ bit-broken (c .before .before .before .before .args .i) _ (c .before .before .before .before .args .k) (c .before .if1 .taken))
+    (λ c.
+    let at-args = c .before .before .before .before .args in
+    c .broken-bit .ensures ∙ bit-broken (at-args .i) _ (at-args .k) (c .before .if1 .taken))
     (λ c κs. search needs)
-    (λ c. c .lacks-attribute .ensures ∙ row-broken (c .before .before .before .before .args .i) _ (c .before .before .before .before .args .k - bitPairs) (c .before .before .before .before .args .k) (omega arith) (omega arith)))
+    (λ c.
+    let at-args = c .before .before .before .before .args in
+    c .lacks-attribute .ensures ∙ row-broken (at-args .i) _ (at-args .k - bitPairs) (at-args .k) (omega arith) (omega arith)))

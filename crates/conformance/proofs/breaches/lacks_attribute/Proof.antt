@@ -1,3 +1,4 @@
+-- A row's condition is that of its number.
 use Rattle.conformance.proofs.Candidates.{row-lacks}
 use borrow.Author.Needs.{needs}
 use Rattle.conformance.proofs.breaches.lacks_attribute.Statement.{statement}
@@ -9,4 +10,9 @@ lacks-attribute-spec =
     (tie.spec
     (λ c κs. search needs) (λ c. search needs) (λ c κs. search needs) (λ c. search needs)
     (λ c κs. search needs)
-    (λ c. rw (c .before .before .flag .ensures, c .flag2 .ensures, c .before .before .before .before .before .row-at .ensures, c .before .before .before .before .before .before .before .before .pre .1) (row-lacks (c .before .before .before .before .before .before .before .before .args .i) _ (c .before .before .before .before .before .before .before .before .args .k) (c .before .before .before .before .before .before .before .before .pre .0))))
+    (λ c.
+    let at-flag = c .before .before .flag in
+    let at-row-at = c .before .before .before .before .before .row-at in
+    let at-args = c .before .before .before .before .before .before .before .before .args in
+    let at-pre = c .before .before .before .before .before .before .before .before .pre in
+    rw (at-flag .ensures, c .flag2 .ensures, at-row-at .ensures, at-pre .1) (row-lacks (at-args .i) _ (at-args .k) (at-pre .0))))

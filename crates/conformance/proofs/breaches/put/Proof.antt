@@ -1,3 +1,4 @@
+-- Two stores, one behind the other.
 use native.Mathlib.Numerals.{add-one}
 use borrow.Author.Needs.{needs}
 use Rattle.conformance.proofs.breaches.put.Statement.{statement}

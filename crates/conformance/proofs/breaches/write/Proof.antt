@@ -1,3 +1,4 @@
+-- What was written and what is left from each place on make the whole.
 use mathlib.Core.Path.{_∙_}
 use Prim.Native.Nat.{_*_, _-_, _≤_}
 use mathlib.Core.Logic.{⊎-elim}
@@ -19,11 +20,27 @@ write-spec =
     tie.close
     (tie.spec
     Inv-loop μ-loop
-    (λ c. (omega arith, omega arith, start _ _ _ (c .before .before .before .pre .1)))
-    (λ c κs. (c .before .before .before .before .before .pre .0 .0, omega arith, c .before .before .before .before .before .pre .0 .1))
+    (λ c.
+    let at-pre = c .before .before .before .pre in
+    (omega arith, omega arith, start _ _ _ (at-pre .1)))
+    (λ c κs.
+    let at-pre = c .before .before .before .before .before .pre in
+    (at-pre .0 .0, omega arith, at-pre .0 .1))
     (λ c κs. omega arith)
-    (λ c κs. room-for (c .before .before .before .before .before .loop .inv .2) (omega arith) (c .before .before .before .is-broken .ensures) (c .before .before .if1 .taken))
+    (λ c κs.
+    let at-if1 = c .before .before .if1 in
+    let at-is-broken = c .before .before .before .is-broken in
+    let at-loop = c .before .before .before .before .before .loop in
+    room-for (at-loop .inv .2) (omega arith) (at-is-broken .ensures) (at-if1 .taken))
     (λ c. omega arith) (λ c. omega arith) (λ c. omega arith)
-    (λ c. ⊎-elim (λ w. (omega arith, omega arith, stored (c .before .before .before .loop .inv .2) (omega arith) (c .before .is-broken .ensures) (w .0 .taken) (w .1 .ensures) (w .6 ∙ w .3 .ensures) (w .7)))
-    (λ w. (omega arith, omega arith, passed (c .before .before .before .loop .inv .2) (omega arith) (c .before .is-broken .ensures) (w .0 .left) (w .1) (w .2))) (c .if1 .came))
+    (λ c.
+    let at-loop = c .before .before .before .loop in
+    ⊎-elim (λ w. (
+      omega arith,
+      omega arith,
+      stored (at-loop .inv .2) (omega arith) (c .before .is-broken .ensures) (w .0 .taken) (w .1 .ensures)
+          (w .6 ∙ w .3 .ensures) (w .7),
+    ))
+    (λ w. (omega arith, omega arith, passed (at-loop .inv .2) (omega arith) (c .before .is-broken .ensures) (w .0 .left) (w .1) (w .2)))
+    (c .if1 .came))
     (λ c. c .before .loop .inv .2 .long) (λ c. end (c .before .loop .inv .2) (omega arith)))

@@ -1,3 +1,4 @@
+-- The masks say what the column says, type by type and bit by bit.
 use mathlib.Core.Path.{refl, _∙_}
 use Rattle.conformance.specs.Endpoints.{required}
 use Rattle.conformance.specs.Lists.{member}
@@ -13,4 +14,7 @@ requires-bit-spec =
     tie.close
     (tie.spec
     (λ c. search needs) (λ c. search needs) (λ c κs. search needs) (λ c κs. search needs)
-    (λ c. c .has .ensures ∙ rw (c .before .wide .ensures) (mask-at required refl (c .before .before .args .endpoint) (c .before .before .args .b) (c .before .before .pre .0) (c .before .before .pre .1))))
+    (λ c.
+    let at-args = c .before .before .args in
+    let at-pre = c .before .before .pre in
+    c .has .ensures ∙ rw (c .before .wide .ensures) (mask-at required refl (at-args .endpoint) (at-args .b) (at-pre .0) (at-pre .1))))

@@ -1,3 +1,4 @@
+-- A bit is read by a shift, which is a division by its power.
 use Rattle.conformance.specs.Features.{bit}
 use mathlib.Core.Path.{refl}
 use borrow.Author.Needs.{needs}

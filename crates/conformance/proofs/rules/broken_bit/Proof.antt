@@ -1,3 +1,4 @@
+-- Each group has its rule, by its place.
 use mathlib.Core.Path.{_≡_}
 use native.Mathlib.Omega.{arith}
 use Rattle.conformance.specs.Rules.{bitRules}
@@ -15,4 +16,6 @@ broken-bit-spec =
     (λ c. rw (c .before .match .keys2) (c .clashes .ensures))
     (λ c. rw (c .before .match .keys3) (c .lacks-supply .ensures))
     (λ c. rw (c .before .match .keys4) (c .lacks-required .ensures))
-    (λ c. let e : c .before .before .args .group ≡ 4 = omega arith in rw e (c .has-invalid .ensures)))
+    (λ c.
+    let at-args = c .before .before .args in
+    let e : at-args .group ≡ 4 = omega arith in rw e (c .has-invalid .ensures)))

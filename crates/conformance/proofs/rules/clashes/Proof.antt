@@ -1,3 +1,4 @@
+-- The tests are the definition's, bit by bit.
 use Rattle.conformance.specs.Rules.{clashes}
 use borrow.Author.Needs.{needs}
 use Rattle.conformance.proofs.rules.clashes.Statement.{statement}

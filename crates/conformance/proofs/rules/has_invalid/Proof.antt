@@ -1,3 +1,4 @@
+-- The bit is forbidden and set.
 use Rattle.conformance.specs.Rules.{hasInvalid}
 use borrow.Author.Needs.{needs}
 use Rattle.conformance.proofs.rules.has_invalid.Statement.{statement}

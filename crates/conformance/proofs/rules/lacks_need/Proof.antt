@@ -1,3 +1,4 @@
+-- The bit is set, and the one it needs is not.
 use Prim.Native.Nat.{_<_}
 use mathlib.Core.Bool.{Bool, true, false, cond}
 use native.Mathlib.Omega.{arith}
@@ -19,5 +20,9 @@ lacks-need-spec =
     tie.close
     (tie.spec
     (λ c κs. search needs) (λ c κs. search needs)
-    (λ c κs. rw (c .need .ensures) (small (eqb (c .before .before .args .b) V2X)))
-    (λ c. rw (c .before .before .has .ensures, c .has2 .ensures, c .before .need .ensures)))
+    (λ c κs.
+    let at-args = c .before .before .args in
+    rw (c .need .ensures) (small (eqb (at-args .b) V2X)))
+    (λ c.
+    let at-has = c .before .before .has in
+    rw (at-has .ensures, c .has2 .ensures, c .before .need .ensures)))

@@ -1,3 +1,4 @@
+-- The bit is required and clear.
 use Rattle.conformance.specs.Rules.{lacksRequired}
 use borrow.Author.Needs.{needs}
 use Rattle.conformance.proofs.rules.lacks_required.Statement.{statement}

@@ -1,3 +1,4 @@
+-- The tests are the definition's, bit by bit.
 use Rattle.conformance.specs.Rules.{lacksSupply}
 use borrow.Author.Needs.{needs}
 use Rattle.conformance.proofs.rules.lacks_supply.Statement.{statement}
@@ -9,4 +10,6 @@ lacks-supply-spec =
     tie.close
     (tie.spec
     (λ c κs. search needs) (λ c κs. search needs)
-    (λ c. rw (c .before .before .before .has .ensures, c .before .has2 .ensures)))
+    (λ c.
+    let at-has = c .before .before .before .has in
+    rw (at-has .ensures, c .before .has2 .ensures)))

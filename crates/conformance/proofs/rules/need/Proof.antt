@@ -1,3 +1,4 @@
+-- The two answers are the two choices of the definition.
 use borrow.Author.Tests.{eq-eqb, ne-eqb}
 use Rattle.conformance.proofs.rules.need.Statement.{statement}
 use Rattle.conformance.proofs.rules.need.Tie as tie

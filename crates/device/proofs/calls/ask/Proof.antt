@@ -1,3 +1,4 @@
+-- Late is refused with all absent; else the values are those before the clock moves, and the clock alone moves.
 use native.Mathlib.Omega.{arith}
 use Rattle.device.specs.Refusals.{firstOf}
 use Rattle.device.specs.Calls.{askNumber, askAnswer, askAfter}

@@ -1,3 +1,4 @@
+-- It is `link` with the link up.
 use Rattle.device.proofs.calls.back.Statement.{statement}
 use Rattle.device.proofs.calls.back.Tie as tie
 

@@ -1,3 +1,4 @@
+-- 5 and then 7, as in the list of tests; accepted, the override's word is 0 and the clock moves.
 use mathlib.Core.Path.{refl, sym, _∙_}
 use native.Mathlib.Omega.{arith}
 use borrow.Author.Tests.{eq-eqb, ne-eqb}

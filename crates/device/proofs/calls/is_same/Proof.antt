@@ -1,3 +1,4 @@
+-- Both cases are the definition's.
 use Rattle.device.specs.Calls.{same}
 use Rattle.device.proofs.calls.is_same.Statement.{statement}
 use Rattle.device.proofs.calls.is_same.Tie as tie

@@ -1,3 +1,4 @@
+-- The tests 5 and 9 in the list's order; the slot's new record is the free one, and `since_without` gives its second.
 use native.Mathlib.Omega.{arith}
 use Rattle.store.specs.Words.{zonesOf}
 use Rattle.device.specs.Refusals.{firstOf}

@@ -1,3 +1,4 @@
+-- The tests 5, 9 and 7 in the list's order; the record is `told`'s, and `since_told` gives the second that goes with it.
 use mathlib.Core.Path.{sym}
 use native.Mathlib.Omega.{arith}
 use Rattle.store.specs.Zones.{zoneOf}

@@ -1,3 +1,4 @@
+-- It is `link` with the link down.
 use Rattle.device.proofs.calls.lost.Statement.{statement}
 use Rattle.device.proofs.calls.lost.Tie as tie
 

@@ -1,3 +1,4 @@
+-- The sum is the definition's; reason and direction are small, so it does not overflow.
 use native.Mathlib.Omega.{arith}
 use Rattle.device.specs.Calls.{overrideWord}
 use Rattle.device.proofs.calls.override_word.Statement.{statement}

@@ -1,3 +1,4 @@
+-- 5 and then 18, as in the list of tests; what goes together is small, so that it has a word.
 use Prim.Native.Nat.{ℕ, _<_}
 use mathlib.Core.Bool.{Bool, true, false, _&&_}
 use mathlib.Core.Path.{_≡_, refl}

@@ -1,3 +1,4 @@
+-- A link that is back leaves the second as it is; of a lost one it is `since_without`'s.
 use Rattle.device.proofs.calls.since_told.Statement.{statement}
 use Rattle.device.proofs.calls.since_told.Tie as tie
 

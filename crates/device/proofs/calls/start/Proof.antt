@@ -1,3 +1,4 @@
+-- Bad settings make 16 and a device with the refused settings; good ones make 0 and theirs. `fresh` makes both.
 use Rattle.device.specs.Refusals.{firstOf}
 use Rattle.device.specs.Start.{startNumber, startAfter}
 use Rattle.store.proofs.Tests.{via}

@@ -1,3 +1,4 @@
+-- `zone_at` gives the zone, and its link alone is another.
 use Rattle.device.proofs.calls.told.Statement.{statement}
 use Rattle.device.proofs.calls.told.Tie as tie
 

@@ -1,3 +1,4 @@
+-- The tests are those of `framed`, in its order; `get_u32` reads the length that the prefix says.
 use borrow.Author.Tests.{le-leb, lt-leb}
 use Rattle.frames.specs.Prefix.{framed}
 use borrow.Author.Needs.{needs}

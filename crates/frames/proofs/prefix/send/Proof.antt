@@ -1,3 +1,4 @@
+-- Where all fits, the length and the payload behind it are the frame; elsewhere nothing is written. n is below 2^32, so n + 4 fits.
 use mathlib.Core.Path.{refl}
 use native.Mathlib.Omega.{arith}
 use Rattle.frames.proofs.Sends.{send-refused, send-whole}

@@ -1,3 +1,4 @@
+-- Each key's sight is read by the reader of its field, and `all5` joins the five as `envelopeIn` does.
 use Rattle.frames.proofs.Requested.{envelope-reads}
 use borrow.Author.Needs.{needs}
 use Rattle.frames.proofs.requests.is_envelope.Statement.{statement}

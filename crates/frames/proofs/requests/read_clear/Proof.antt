@@ -1,3 +1,4 @@
+-- `is_uint` says whether key 1 has an aim, `amount_of` gives it, and the command says which clear it is.
 use Rattle.frames.proofs.Requested.{clear-limit, clear-setpoint, clear-wrong}
 use borrow.Author.Needs.{needs}
 use Rattle.frames.proofs.requests.read_clear.Statement.{statement}

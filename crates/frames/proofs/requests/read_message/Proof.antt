@@ -1,3 +1,4 @@
+-- The envelope is told by `is_envelope`; served, the parameters are `read_command`'s; each end is a case of `fromEnvelope`.
 use mathlib.Core.Path.{_∙_}
 use Rattle.map_fields.proofs.Joined.{and-same}
 use Rattle.frames.proofs.Requested.{envelope-wrong, unserved, message-is, message-wrong}

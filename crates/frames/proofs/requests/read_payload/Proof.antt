@@ -1,3 +1,4 @@
+-- `scan` says whether the payload is one item and leaves its sights; of these `read_message` makes the reading.
 use Rattle.frames.proofs.Requested.{is-item, not-item}
 use borrow.Author.Needs.{needs}
 use Rattle.frames.proofs.requests.read_payload.Statement.{statement}

@@ -1,3 +1,4 @@
+-- A frame whose prefix is right has more than four bytes, and behind them stands the payload that `read_payload` reads.
 use Prim.Native.Nat.{ℕ}
 use mathlib.Core.List.{List}
 use mathlib.Core.Path.{ap, _∙_}

@@ -1,3 +1,4 @@
+-- The joined tests are those of `isStatus`: 0, 4, 5, and 9 to 14.
 use Rattle.frames.specs.Responses.{isStatus}
 use borrow.Author.Needs.{needs}
 use Rattle.frames.proofs.responses.is_status.Statement.{statement}

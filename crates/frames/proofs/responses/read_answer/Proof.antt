@@ -1,3 +1,4 @@
+-- Prefix, item, fields, in this order: `is_framed` is 1, `scan` is 2, and the rest is `read_body`'s.
 use native.Mathlib.Omega.{arith}
 use Rattle.frames.proofs.Framed.{long-enough, rest-all}
 use Rattle.frames.proofs.Answered.{not-framed, not-item, is-item}

@@ -1,3 +1,4 @@
+-- Id and status are read by `is_uint`, the status is one of those allowed, and the result under key 3 is `read_result`'s.
 use Rattle.frames.proofs.Answered.{body-is, body-no-result, body-wrong}
 use borrow.Author.Needs.{needs}
 use Rattle.frames.proofs.responses.read_body.Statement.{statement}

@@ -1,3 +1,4 @@
+-- The five readers are those of `limitResultIn`, key by key; `all5` says that each was ok.
 use Rattle.frames.proofs.Answered.{effect-reads}
 use borrow.Author.Needs.{needs}
 use Rattle.frames.proofs.responses.read_effect.Statement.{statement}

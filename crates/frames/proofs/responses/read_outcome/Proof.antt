@@ -1,3 +1,4 @@
+-- The command says which result stands there: `read_effect`'s, `read_targets`'s, or success alone.
 use Rattle.frames.proofs.Answered.{effect-is, effect-wrong, targets-are, targets-wrong, success-is, success-wrong}
 use borrow.Author.Needs.{needs}
 use Rattle.frames.proofs.responses.read_outcome.Statement.{statement}

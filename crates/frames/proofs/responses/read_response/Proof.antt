@@ -1,3 +1,4 @@
+-- A command that is not served is 4 before any byte is looked at; else the answer is `read_answer`'s.
 use Rattle.frames.proofs.Answered.{named, not-named}
 use borrow.Author.Needs.{needs}
 use Rattle.frames.proofs.responses.read_response.Statement.{statement}

@@ -1,3 +1,4 @@
+-- Where a result stands, key 3 has a map and `read_outcome` reads it; elsewhere key 3 must be absent.
 use Rattle.frames.proofs.Answered.{result-is, result-no-map, result-none, result-elsewhere}
 use borrow.Author.Needs.{needs}
 use Rattle.frames.proofs.responses.read_result.Statement.{statement}

@@ -1,3 +1,4 @@
+-- The three readers are those of `setpointResultIn`, key by key; `all3` says that each was ok.
 use Rattle.frames.proofs.Answered.{targets-read}
 use borrow.Author.Needs.{needs}
 use Rattle.frames.proofs.responses.read_targets.Statement.{statement}

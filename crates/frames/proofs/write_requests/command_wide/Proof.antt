@@ -1,3 +1,4 @@
+-- Each command's numbers are tested as in `commandWide`: duration and cause, the aim, or the command's own number.
 use Rattle.frames.specs.Requests.{commandWide}
 use borrow.Author.Needs.{needs}
 use Rattle.frames.proofs.write_requests.command_wide.Statement.{statement}

@@ -1,3 +1,4 @@
+-- 3 is tested before 4, as in the list of `requestNumber`; the joined test is that the request is served.
 use mathlib.Core.Path.{_∙_}
 use Rattle.map_fields.proofs.Joined.{and-same}
 use Rattle.map_fields.proofs.Joined.{via}

@@ -1,3 +1,4 @@
+-- The tests joined by `either` are those of `requestWide`; `command_wide` gives the last.
 use Rattle.frames.specs.Requests.{requestWide}
 use borrow.Author.Needs.{needs}
 use Rattle.frames.proofs.write_requests.request_wide.Statement.{statement}

@@ -1,3 +1,4 @@
+-- A refusal writes nothing; else the payload has room in the local array, and `send` writes its frame.
 use Rattle.frames.specs.Requests.{requestNumber, requestItem}
 use Rattle.frames.specs.Writing.{itemFrame}
 use Rattle.frames.proofs.Sends.{send-room, send-item, no-refusal, a-refusal}

@@ -1,3 +1,4 @@
+-- The payload has room in the local array, so that it is the item's encoding, and `send` writes its frame.
 use Rattle.frames.specs.Responses.{responseItem}
 use Rattle.frames.proofs.Sends.{send-room, send-item}
 use Rattle.map_fields.proofs.Added.{puts-fit}

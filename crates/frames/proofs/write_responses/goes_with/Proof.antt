@@ -1,3 +1,4 @@
+-- Each case of the outcome is that of `goesWith`: the command it belongs to, and its numbers in range.
 use borrow.Author.Needs.{needs}
 use Rattle.frames.specs.Responses.{goesWith}
 use Rattle.frames.proofs.write_responses.goes_with.Statement.{statement}

@@ -1,3 +1,4 @@
+-- `all4` joins the tests of `limitInRange`, three of them by `amount_up_to`.
 use Rattle.frames.specs.Responses.{limitInRange}
 use borrow.Author.Needs.{needs}
 use Rattle.frames.proofs.write_responses.limit_in_range.Statement.{statement}

@@ -1,3 +1,4 @@
+-- Where a result stands it must go with the command, and elsewhere there must be none, as in `fits`.
 use Rattle.map_fields.proofs.Joined.{via}
 use Rattle.frames.specs.Responses.{fits}
 use borrow.Author.Needs.{needs}

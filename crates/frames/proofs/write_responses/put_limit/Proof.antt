@@ -1,3 +1,4 @@
+-- At most five pairs are counted, so no sum overflows; the map's head and its fields in order are the result's bytes.
 use Rattle.map_fields.specs.Fields.{amountItem}
 use native.Mathlib.Omega.{arith}
 use Rattle.frames.proofs.Writes.{pairs-small, limit-count, limit-bytes}

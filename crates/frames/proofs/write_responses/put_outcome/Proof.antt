@@ -1,3 +1,4 @@
+-- Each case puts the bytes of its item under key 3; nothing puts none.
 use Rattle.map_fields.specs.Puts.{fieldBytes}
 use Rattle.frames.specs.Responses.{outcomeItem}
 use Rattle.map_fields.proofs.Added.{puts-none}

@@ -1,7 +1,9 @@
+-- At most three pairs are counted, so no sum overflows; the map's head and its fields in order are the result's bytes.
 use Rattle.map_fields.specs.Fields.{amountItem}
 use native.Mathlib.Omega.{arith}
 use Rattle.frames.proofs.Writes.{pairs-small, setpoint-count, setpoint-bytes}
 use Rattle.map_fields.proofs.Added.{puts-more, puts-wider, puts-same}
+use Rattle.frames.specs.Sizes.{outcomeRoom}
 use borrow.Author.Needs.{needs}
 use Rattle.frames.proofs.write_responses.put_setpoint.Statement.{statement}
 use Rattle.frames.proofs.write_responses.put_setpoint.Tie as tie
@@ -16,4 +18,4 @@ put-setpoint-spec =
     (λ c. omega (arith, pairs-small (amountItem (c .before .before .before .args .l .consumption)), pairs-small (amountItem (c .before .before .before .args .l .production)), c .before .count-amount .ensures, c .count-amount2 .ensures))
     (λ c κs. search needs) (λ c κs. search needs) (λ c κs. search needs) (λ c κs. search needs)
     (λ c. search needs)
-    (λ c. puts-wider 108 (omega arith) (puts-same (setpoint-bytes (c .before .before .before .before .before .before .before .before .before .before .before .before .before .before .before .before .before .before .before .args .l) _ (setpoint-count (c .before .before .before .before .before .before .before .before .before .before .before .before .before .before .before .before .before .before .before .args .l) _ _ (c .before .before .before .before .before .before .before .before .before .before .before .before .before .before .before .before .before .count-amount .ensures) (c .before .before .before .before .before .before .before .before .before .before .before .before .before .before .before .before .count-amount2 .ensures))) (puts-more (puts-more (puts-more (c .before .before .before .before .before .before .before .before .before .before .before .before .before .before .put-map .ensures) (c .before .before .before .before .before .before .before .before .before .before .put-truth .ensures)) (c .before .before .before .before .before .before .put-amount .ensures)) (c .before .before .put-amount2 .ensures)))))
+    (λ c. puts-wider outcomeRoom (omega arith) (puts-same (setpoint-bytes (c .before .before .before .before .before .before .before .before .before .before .before .before .before .before .before .before .before .before .before .args .l) _ (setpoint-count (c .before .before .before .before .before .before .before .before .before .before .before .before .before .before .before .before .before .before .before .args .l) _ _ (c .before .before .before .before .before .before .before .before .before .before .before .before .before .before .before .before .before .count-amount .ensures) (c .before .before .before .before .before .before .before .before .before .before .before .before .before .before .before .before .count-amount2 .ensures))) (puts-more (puts-more (puts-more (c .before .before .before .before .before .before .before .before .before .before .before .before .before .before .put-map .ensures) (c .before .before .before .before .before .before .before .before .before .before .put-truth .ensures)) (c .before .before .before .before .before .before .put-amount .ensures)) (c .before .before .put-amount2 .ensures)))))

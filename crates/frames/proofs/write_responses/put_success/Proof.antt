@@ -1,6 +1,8 @@
+-- The head of a map of one pair, and success behind it, are the bytes of a clear's result.
 use native.Mathlib.Omega.{arith}
 use Rattle.frames.proofs.Writes.{clear-bytes}
 use Rattle.map_fields.proofs.Added.{puts-more, puts-wider, puts-same}
+use Rattle.frames.specs.Sizes.{outcomeRoom}
 use borrow.Author.Needs.{needs}
 use Rattle.frames.proofs.write_responses.put_success.Statement.{statement}
 use Rattle.frames.proofs.write_responses.put_success.Tie as tie
@@ -10,4 +12,4 @@ put-success-spec =
     tie.close
     (tie.spec
     (λ c κs. search needs) (λ c κs. search needs) (λ c. search needs)
-    (λ c. puts-wider 108 (omega arith) (puts-same clear-bytes (puts-more (c .before .before .before .before .before .before .put-map .ensures) (c .before .before .put-truth .ensures)))))
+    (λ c. puts-wider outcomeRoom (omega arith) (puts-same clear-bytes (puts-more (c .before .before .before .before .before .before .put-map .ensures) (c .before .before .put-truth .ensures)))))

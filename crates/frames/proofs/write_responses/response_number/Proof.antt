@@ -1,3 +1,4 @@
+-- 4 is tested before 3, and what 3 tests is `responseFits`: the id, the status, and an outcome that fits them.
 use Rattle.frames.proofs.Numbered.{number-unserved, number-whole, number-wide}
 use borrow.Author.Needs.{needs}
 use Rattle.frames.proofs.write_responses.response_number.Statement.{statement}

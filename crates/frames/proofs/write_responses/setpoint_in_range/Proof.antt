@@ -1,3 +1,4 @@
+-- `both` joins the two tests of `setpointInRange`, each by `amount_up_to`.
 use Rattle.frames.specs.Responses.{setpointInRange}
 use borrow.Author.Needs.{needs}
 use Rattle.frames.proofs.write_responses.setpoint_in_range.Statement.{statement}

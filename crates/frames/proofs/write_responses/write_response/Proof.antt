@@ -1,3 +1,4 @@
+-- A refusal writes nothing; else `frame_response` writes the frame where it fits.
 use borrow.Author.Needs.{needs}
 use Rattle.frames.specs.Responses.{responseItem, responseNumber}
 use Rattle.frames.specs.Writing.{itemFrame}

@@ -1,3 +1,4 @@
+-- No zone before i is up, so that whether one is up is decided by those from i on.
 use Prim.Native.Nat.{_-_, _≤_}
 use mathlib.Core.Path.{_≡_, refl, sym, _∙_}
 use native.Mathlib.Omega.{arith}

@@ -1,3 +1,4 @@
+-- A zone is up where it is joined and its link is: `id_at` and `up_at` give the two.
 use mathlib.Core.Path.{sym, _∙_}
 use borrow.Author.Tests.{eq-eqb, ne-eqb}
 use Rattle.store.specs.Zones.{isJoined, isUp}

@@ -1,3 +1,4 @@
+-- r is the row of the zones before i where none from i on decides it; one that is up decides it at once.
 use Prim.Native.Nat.{_-_, _<_, _≤_}
 use mathlib.Core.Logic.{⊎-elim}
 use mathlib.Core.Path.{_≡_, refl, sym, _∙_}

@@ -1,3 +1,4 @@
+-- As `link_row`, over the zones with the given record in its slot's place.
 use Prim.Native.Nat.{_-_, _<_, _≤_}
 use mathlib.Core.Logic.{⊎-elim}
 use mathlib.Core.Path.{_≡_, refl, sym, _∙_}

@@ -1,3 +1,4 @@
+-- Only where this link was up and no other is does the second move: `is_up` and `any_up_without` say so.
 use Rattle.holds.proofs.Since.{since-free}
 use Rattle.store.proofs.Tests.{via}
 use Rattle.holds.proofs.links.since_without.Statement.{statement}

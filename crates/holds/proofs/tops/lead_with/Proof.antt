@@ -1,20 +1,50 @@
+-- An unexpired value goes in with its seat where no smaller seat stands, and its end where it is nearer.
 use mathlib.Core.Path.{_∙_}
 use native.Mathlib.Omega.{arith}
 use borrow.Author.Needs.{needs}
 use borrow.Author.Tests.{lt-ltb, le-ltb, le-leb, lt-leb}
 use Rattle.holds.specs.Dues.{nearer}
-use Rattle.holds.specs.Pass.{lesser, takes}
+use Rattle.holds.specs.Pass.{lesser, takes, leadStep}
 use Rattle.holds.proofs.Ends.{lesser-swap}
 use Rattle.holds.proofs.tops.lead_with.Statement.{statement}
 use Rattle.holds.proofs.tops.lead_with.Tie as tie
 
+mul-if2 : tie.Need-mul-if2
+mul-if2 c = search needs
+
+array-read-if2 : tie.Need-array-read-if2
+array-read-if2 c = search needs
+
+mul-seats : tie.Need-mul-seats
+mul-seats c = search needs
+
+array-write-seats : tie.Need-array-write-seats
+array-write-seats c = search needs
+
+mul-lead : tie.Need-mul-lead
+mul-lead c = search needs
+
+array-write-lead : tie.Need-array-write-lead
+array-write-lead c = search needs
+
+least-requires : tie.Need-least-requires
+least-requires c κs = search needs
+
+returns : tie.Need-returns
+unfolding leadStep takes nearer lesser
+returns c = (rw (c .least .ensures ∙ lesser-swap (c .before .before .before .before .before .before .before .args .g .next) (c .before .before .before .before .before .before .before .args .h .until), lt-ltb _ _ (c .before .before .if1 .taken), le-leb _ _ (c .before .if2 .taken)), omega arith)
+
+least-requires-2 : tie.Need-least-requires-2
+least-requires-2 c κs = search needs
+
+returns-2 : tie.Need-returns-2
+unfolding leadStep takes nearer lesser
+returns-2 c = (rw (c .least2 .ensures ∙ lesser-swap (c .before .before .before .before .before .before .before .args .g .next) (c .before .before .before .before .before .before .before .args .h .until), lt-ltb _ _ (c .before .before .if1 .taken), lt-leb _ _ (c .before .if2 .left)), omega arith)
+
+returns-3 : tie.Need-returns-3
+unfolding leadStep takes nearer
+returns-3 c = (rw (le-ltb _ _ (c .if1 .left)), omega arith)
+
 pub lead-with-spec : {M : Type 1} → statement M
-unfolding lesser nearer takes
 lead-with-spec =
-    tie.close
-    (tie.spec
-    (λ c κs. search needs)
-    (λ c. (rw (c .least .ensures ∙ lesser-swap (c .before .before .before .args .next) (c .before .before .before .args .until), lt-ltb _ _ (c .before .before .if1 .taken), le-leb _ _ (c .before .if2 .taken)), omega arith))
-    (λ c κs. search needs)
-    (λ c. (rw (c .least2 .ensures ∙ lesser-swap (c .before .before .before .args .next) (c .before .before .before .args .until), lt-ltb _ _ (c .before .before .if1 .taken), lt-leb _ _ (c .before .if2 .left)), omega arith))
-    (λ c. (rw (le-ltb _ _ (c .if1 .left)), omega arith)))
+    tie.close (tie.spec mul-if2 array-read-if2 mul-seats array-write-seats mul-lead array-write-lead least-requires returns least-requires-2 returns-2 returns-3)

@@ -1,3 +1,4 @@
+-- g stands for the winning claims and the nearest end of the zones before i; a turn adds zone i.
 use Prim.Native.Nat.{_-_, _≤_}
 use native.Mathlib.Omega.{arith}
 use borrow.Author.Needs.{needs}

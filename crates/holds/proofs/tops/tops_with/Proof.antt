@@ -1,3 +1,4 @@
+-- As `tops`, over the zones with the given record in its slot's place.
 use Prim.Native.Nat.{_-_, _≤_}
 use mathlib.Core.Path.{refl}
 use native.Mathlib.Omega.{arith}

@@ -1,3 +1,4 @@
+-- At its slot the zone is the given one; elsewhere it is `zone_at`'s, and `with_zone` adds either.
 use Rattle.holds.proofs.Placed.{placed-here, placed-other}
 use borrow.Author.Needs.{needs}
 use Rattle.holds.proofs.tops.with_slot.Statement.{statement}

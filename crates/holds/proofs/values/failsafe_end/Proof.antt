@@ -1,3 +1,4 @@
+-- The sum is made only where it is below END; any larger one is not nearer than END.
 use native.Mathlib.Omega.{arith}
 use borrow.Author.Needs.{needs}
 use Rattle.holds.proofs.Ends.{nearer-far}

@@ -1,3 +1,4 @@
+-- Only joined zones have a failsafe that ends; `failsafe_end` gives its second.
 use borrow.Author.Needs.{needs}
 use Rattle.holds.proofs.values.next_down.Statement.{statement}
 use Rattle.holds.proofs.values.next_down.Tie as tie

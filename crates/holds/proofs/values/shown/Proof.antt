@@ -1,3 +1,4 @@
+-- Each case is that of the definition; a value below VALUE_END fits, so the cast keeps it.
 use borrow.Author.Tests.{lt-ltb, le-ltb}
 use Rattle.holds.specs.Holds.{shown}
 use borrow.Author.Needs.{needs}

@@ -1,3 +1,4 @@
+-- `supports` decides, and `shown` gives the number, as in `shownIf`.
 use mathlib.Core.Path.{_∙_}
 use mir.Facts.{toZ-ofZ}
 use mir.Val.{SFits}

@@ -1,3 +1,4 @@
+-- Override before limited before controlled, as in `stateUp`; a limit is shown where it is not negative.
 use mir.Facts.{toZ-ofZ}
 use borrow.Author.Tests.{eq-eqb, ne-eqb}
 use Rattle.holds.specs.Pass.{stateUp}

@@ -1,3 +1,4 @@
+-- `link_row` says the row of the table: `values_up` of the winners that `tops` finds, or `values_down`.
 use mathlib.Core.Bool.{false}
 use mathlib.Core.Path.{_≡_, _∙_}
 use borrow.Author.Needs.{needs}

@@ -1,3 +1,4 @@
+-- The failsafe limits stand while a zone is joined and the failsafe holds; else there is only the control state.
 use Prim.Native.Nat.{_+_}
 use mathlib.Core.Bool.{false, _&&_}
 use mathlib.Core.Logic.{⊎-elim}

@@ -1,3 +1,4 @@
+-- As `values_at`, over the situation with the given record in its slot's place.
 use mathlib.Core.Bool.{false}
 use mathlib.Core.Path.{_≡_, _∙_}
 use lib.ListN.{set}

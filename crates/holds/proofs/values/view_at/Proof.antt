@@ -1,3 +1,4 @@
+-- The values as in `values_at`; the next end is that of `tops` with a link up, and the failsafe's with none.
 use mathlib.Core.Bool.{true, false}
 use mathlib.Core.Path.{_≡_}
 use borrow.Author.Needs.{needs}

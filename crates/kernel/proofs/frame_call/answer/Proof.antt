@@ -1,3 +1,4 @@
+-- Decided and written before anything is stored: `ready` gives number, frame and output; only 0 with room is enacted.
 use mathlib.Core.Path.{_≡_, sym, ap, _∙_}
 use lib.ListN.{length}
 use Rattle.store.specs.Sizes.{words}

@@ -1,3 +1,4 @@
+-- A right prefix has a payload behind it, which `payload_call` answers; a wrong one is reading 1, and nothing moves.
 use mathlib.Core.Path.{sym, _∙_}
 use native.Mathlib.Omega.{arith}
 use Rattle.frames.proofs.Framed.{long-enough, rest-all}

@@ -1,3 +1,4 @@
+-- Each reading is a case of the definitions: `answer` for a request, status 4 alone for an unserved one, a bare number else.
 use mathlib.Core.Path.{sym, _∙_}
 use Rattle.kernel.proofs.Framing.{as-read, unserved-answer, refused-reading}
 use borrow.Author.Needs.{needs}

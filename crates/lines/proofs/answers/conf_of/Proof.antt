@@ -1,3 +1,4 @@
+-- The list's count stays within the attributes.
 use mathlib.Core.Path.{sym}
 use lib.Seq.{length-take-le}
 use native.Mathlib.Omega.{arith}

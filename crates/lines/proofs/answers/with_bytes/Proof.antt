@@ -1,3 +1,4 @@
+-- The word's bounds stay within the line, and its bytes within the buffer.
 use mathlib.Core.Path.{sym}
 use lib.Seq.{length-take-le}
 use native.Mathlib.Omega.{arith}

@@ -1,3 +1,4 @@
+-- The first word is cut within the line.
 use mathlib.Core.Path.{sym}
 use lib.Seq.{length-take-le}
 use native.Mathlib.Omega.{arith}

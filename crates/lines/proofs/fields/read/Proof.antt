@@ -1,3 +1,4 @@
+-- The kinds left fall with each word, and the fields keep their length.
 use Prim.Native.Nat.{_-_}
 use mathlib.Core.Path.{_≡_}
 use lib.ListN.{length}

@@ -1,3 +1,4 @@
+-- The count stays within the bytes.
 use mathlib.Core.Path.{sym}
 use lib.Seq.{length-take-le}
 use native.Mathlib.Omega.{arith}

@@ -1,3 +1,4 @@
+-- The pairs left fall with each one.
 use Prim.Native.Nat.{_-_}
 use mathlib.Core.Path.{_≡_}
 use lib.ListN.{length}

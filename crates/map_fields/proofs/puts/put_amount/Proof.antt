@@ -1,3 +1,4 @@
+-- An absent amount adds no bytes, and a number is a pair whose value is major type 0.
 use Rattle.map_fields.specs.Fields.{amountItem}
 use Rattle.map_fields.proofs.Added.{puts-none}
 use Rattle.cbor.specs.Item.{encode}

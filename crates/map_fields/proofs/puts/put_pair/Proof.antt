@@ -1,3 +1,4 @@
+-- Two heads one behind the other, each of at most nine bytes: where there is room for eighteen, both are put.
 use Rattle.map_fields.proofs.Added.{puts-pair}
 use borrow.Author.Needs.{needs}
 use Rattle.map_fields.proofs.puts.put_pair.Statement.{statement}

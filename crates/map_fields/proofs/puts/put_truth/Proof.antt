@@ -1,3 +1,4 @@
+-- A truth is a simple value, 20 or 21, whose encoding is its head.
 use Rattle.cbor.specs.Item.{encode}
 use Rattle.map_fields.specs.Puts.{pairBytes, fieldBytes}
 use borrow.Author.Needs.{needs}

@@ -1,3 +1,4 @@
+-- An unsigned number's encoding is its head, of major type 0.
 use Rattle.cbor.specs.Item.{encode}
 use Rattle.map_fields.specs.Puts.{pairBytes, fieldBytes}
 use borrow.Author.Needs.{needs}

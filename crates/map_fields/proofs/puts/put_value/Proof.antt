@@ -1,3 +1,4 @@
+-- Of each case the pair is that of its item; -1 - v of a negative v is not negative and fits, so the cast keeps it.
 use mir.Syntax.{w64}
 use mir.Val.{SFits}
 use Rattle.map_fields.proofs.Signs.{minus-fits, minus-cast, minus-item, plain-cast, plain-item}

@@ -1,3 +1,4 @@
+-- Major type 5 is the sight of a map, and of nothing else.
 use Rattle.map_fields.proofs.BySight.{map-reads}
 use Rattle.map_fields.proofs.readers.is_map.Statement.{statement}
 use Rattle.map_fields.proofs.readers.is_map.Tie as tie

@@ -1,3 +1,4 @@
+-- Major type 7 with 21 is the sight of true, and of nothing else.
 use Rattle.map_fields.proofs.BySight.{success-reads}
 use borrow.Author.Needs.{needs}
 use Rattle.map_fields.proofs.readers.is_success.Statement.{statement}

@@ -1,3 +1,4 @@
+-- Absent where it need not be there, or major type 0 and not too large: the two ways in which the reader accepts.
 use Rattle.map_fields.proofs.BySight.{uint-reads}
 use borrow.Author.Needs.{needs}
 use Rattle.map_fields.proofs.readers.is_uint.Statement.{statement}

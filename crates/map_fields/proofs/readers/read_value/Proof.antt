@@ -1,3 +1,4 @@
+-- The sight says the kind: absent, null, or a number below 2^63, for which the cast and -1 - v are exact; all else is refused.
 use Rattle.map_fields.proofs.Signs.{negative-fits}
 use Rattle.map_fields.proofs.BySight.{value-absent, value-null, value-wrong, small, value-uint, value-nint}
 use borrow.Author.Needs.{needs}

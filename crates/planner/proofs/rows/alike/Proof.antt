@@ -1,3 +1,4 @@
+-- The values before i are the same, so that whether all are is decided by those from i on.
 use Prim.Native.Nat.{_+_, _≤_, _-_}
 use mathlib.Core.Path.{_≡_, refl, sym, _∙_}
 use native.Mathlib.Omega.{arith}

@@ -1,3 +1,4 @@
+-- The rows written and those left, from the last second looked at, make the plan; each turn goes on to a later due second.
 use Prim.Native.Nat.{_-_}
 use native.Mathlib.Omega.{arith}
 use borrow.Author.Needs.{needs}

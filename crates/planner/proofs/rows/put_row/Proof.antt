@@ -1,3 +1,4 @@
+-- The second first; to store the values from i on now is to store them all behind it. The row has room, so no place is past the end.
 use Prim.Native.Nat.{_+_, _≤_, _-_, _<_}
 use mathlib.Core.Path.{_≡_, refl, _∙_}
 use native.Mathlib.Omega.{arith}

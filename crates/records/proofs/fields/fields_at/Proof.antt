@@ -15,13 +15,17 @@ fields-at-spec =
     (λ c. search needs) (λ c κs. search needs) (λ c. search needs) (λ c κs. search needs) (λ c. search needs)
     (λ c κs. search needs) (λ c. search needs) (λ c. search needs) (λ c κs. search needs)
     (λ c.
-    let at-bytes = c .before .before .before .before .shared-slice-known in
-    let at-args = c .before .before .before .before .before .args in (
+    let at-byte-at2 = c .before .before .byte-at2 in
+    let at-byte-at = c .before .before .before .byte-at in
+    let at-shared-slice-known = c .before .before .before .before .shared-slice-known in
+    let at-args-2 = c .before .before .before .before .before .args in
+    let at-bytes = at-shared-slice-known in
+    let at-args = at-args-2 in (
       rw (
         c .get-u16 .ensures,
         c .before .get-u32 .ensures,
-        c .before .before .byte-at2 .ensures .0,
-        c .before .before .before .byte-at .ensures .0,
+        at-byte-at2 .ensures .0,
+        at-byte-at .ensures .0,
       ),
       omega (arith, c .get-u16 .ensures, number-small (at-args .s .now) (all-bytes (at-args .s .now) (at-bytes .given)) 2 (at-args .at + 8)),
     )))

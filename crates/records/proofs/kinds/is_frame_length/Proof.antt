@@ -1,3 +1,4 @@
+-- Both tests are the definition's.
 use borrow.Author.Tests.{le-leb, lt-leb}
 use Rattle.records.proofs.kinds.is_frame_length.Statement.{statement}
 use Rattle.records.proofs.kinds.is_frame_length.Tie as tie

@@ -1,3 +1,4 @@
+-- The kind is tested first, then the length.
 use mathlib.Core.Path.{sym, _∙_}
 use Rattle.records.specs.Kinds.{rightBody}
 use borrow.Author.Needs.{needs}
@@ -10,5 +11,7 @@ is-right-body-spec =
     tie.close
     (tie.spec
     (λ c κs. search needs) (λ c κs. search needs)
-    (λ c. rw (sym (c .before .before .is-kind .ensures) ∙ c .before .if1 .taken) (c .is-right-length .ensures))
+    (λ c.
+    let at-is-kind = c .before .before .is-kind in
+    rw (sym (at-is-kind .ensures) ∙ c .before .if1 .taken) (c .is-right-length .ensures))
     (λ c. rw (sym (c .before .is-kind .ensures) ∙ c .if1 .left)))

@@ -1,3 +1,4 @@
+-- Each kind has its test of the length.
 use borrow.Author.Tests.{eq-eqb, ne-eqb}
 use Rattle.records.specs.Kinds.{rightLength}
 use borrow.Author.Needs.{needs}
@@ -10,6 +11,15 @@ is-right-length-spec =
     tie.close
     (tie.spec
     (λ c. rw (eq-eqb (c .before .args .kind) 1 (c .if1 .taken))) (λ c κs. search needs)
-    (λ c. rw (ne-eqb (c .before .before .before .args .kind) 1 (c .before .before .if1 .left), eq-eqb (c .before .before .before .args .kind) 5 (c .before .if2 .taken)) (c .is-frame-length .ensures))
-    (λ c. rw (ne-eqb (c .before .before .before .args .kind) 1 (c .before .before .if1 .left), ne-eqb (c .before .before .before .args .kind) 5 (c .before .if2 .left), eq-eqb (c .before .before .before .args .kind) 7 (c .if3 .taken)))
-    (λ c. rw (ne-eqb (c .before .before .before .args .kind) 1 (c .before .before .if1 .left), ne-eqb (c .before .before .before .args .kind) 5 (c .before .if2 .left), ne-eqb (c .before .before .before .args .kind) 7 (c .if3 .left))))
+    (λ c.
+    let at-if1 = c .before .before .if1 in
+    let at-args = c .before .before .before .args in
+    rw (ne-eqb (at-args .kind) 1 (at-if1 .left), eq-eqb (at-args .kind) 5 (c .before .if2 .taken)) (c .is-frame-length .ensures))
+    (λ c.
+    let at-if1 = c .before .before .if1 in
+    let at-args = c .before .before .before .args in
+    rw (ne-eqb (at-args .kind) 1 (at-if1 .left), ne-eqb (at-args .kind) 5 (c .before .if2 .left), eq-eqb (at-args .kind) 7 (c .if3 .taken)))
+    (λ c.
+    let at-if1 = c .before .before .if1 in
+    let at-args = c .before .before .before .args in
+    rw (ne-eqb (at-args .kind) 1 (at-if1 .left), ne-eqb (at-args .kind) 5 (c .before .if2 .left), ne-eqb (at-args .kind) 7 (c .if3 .left))))

@@ -1,3 +1,4 @@
+-- A space between two numbers, a newline behind the last.
 use borrow.Author.Tests.{lt-ltb, le-ltb}
 use Rattle.script.proofs.answers.behind.Statement.{statement}
 use Rattle.script.proofs.answers.behind.Tie as tie

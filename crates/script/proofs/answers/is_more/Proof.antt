@@ -1,3 +1,4 @@
+-- Both tests are the definition's.
 use borrow.Author.Tests.{lt-ltb, le-ltb}
 use Rattle.script.proofs.answers.is_more.Statement.{statement}
 use Rattle.script.proofs.answers.is_more.Tie as tie

@@ -1,3 +1,4 @@
+-- The number, the newline and the rows are put one behind the other.
 use mathlib.Core.Path.{_∙_}
 use Rattle.script.specs.Answers.{answerPieces}
 use Rattle.script.proofs.Printing.{all-to-do, two-done}
@@ -11,4 +12,12 @@ print-answer-spec =
     tie.close
     (tie.spec
     (λ c κs. search needs) (λ c κs. search needs) (λ c κs. search needs) (λ c. search needs)
-    (λ c. let w = two-done _ _ _ _ _ _ _ _ _ _ _ _ (all-to-do (c .before .before .before .before .before .before .before .before .before .before .before .before .before .args .out .now) (c .before .before .before .before .before .before .before .before .before .before .before .before .before .args .at) (answerPieces (c .before .before .before .before .before .before .before .before .before .before .before .before .before .args .number) (c .before .before .before .before .before .before .before .before .before .before .before .before .before .args .count) (c .before .before .before .before .before .before .before .before .before .before .before .before .before .args .rows .now))) (c .before .before .before .before .before .before .before .before .before .before .put-decimal .ensures) (c .before .before .before .before .before .before .put-byte .ensures) in (c .before .before .put-rows .ensures .0 ∙ w .past, c .before .before .put-rows .ensures .1 ∙ w .list)))
+    (λ c.
+    let at-put-rows = c .before .before .put-rows in
+    let at-put-byte = c .before .before .before .before .before .before .put-byte in
+    let back-8 = c .before .before .before .before .before .before .before .before in
+    let at-put-decimal = back-8 .before .before .put-decimal in
+    let at-args = back-8 .before .before .before .before .before .args in
+    let w = two-done _ _ _ _ _ _ _ _ _ _ _ _ (all-to-do (at-args .out .now) (at-args .at)
+    (answerPieces (at-args .number) (at-args .count) (at-args .rows .now))) (at-put-decimal .ensures) (at-put-byte .ensures) in
+    (at-put-rows .ensures .0 ∙ w .past, at-put-rows .ensures .1 ∙ w .list)))

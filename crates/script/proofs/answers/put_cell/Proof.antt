@@ -1,3 +1,4 @@
+-- A negative number is a dash, any other its digits.
 use mir.Facts.{toZ-ofZ, fits-natAbs}
 use Rattle.text.proofs.Signs.{not-negative}
 use Rattle.script.proofs.Printing.{cell-absent, cell-number}
@@ -10,7 +11,20 @@ put-cell-spec =
     tie.close
     (tie.spec
     (λ c κs. search needs) (λ c. search needs)
-    (λ c. rw (← cell-absent (c .before .before .before .before .before .before .args .n) (rw (toZ-ofZ (c .before .before .before .before .before .before .fits .n)) at (c .before .before .before .before .if1 .taken))) (c .before .before .put-byte .ensures))
-    (λ c. rw (toZ-ofZ (c .before .before .before .fits .n)) (not-negative (c .before .before .before .args .n) (rw (toZ-ofZ (c .before .before .before .fits .n)) at (c .before .if1 .left)), fits-natAbs tt (c .before .before .before .fits .n)))
+    (λ c.
+    let at-put-byte = c .before .before .put-byte in
+    let at-if1 = c .before .before .before .before .if1 in
+    let at-args = c .before .before .before .before .before .before .args in
+    let at-fits = c .before .before .before .before .before .before .fits in
+    rw (← cell-absent (at-args .n) (rw (toZ-ofZ (at-fits .n)) at (at-if1 .taken))) (at-put-byte .ensures))
+    (λ c.
+    let at-args = c .before .before .before .args in
+    let at-fits = c .before .before .before .fits in
+    rw (toZ-ofZ (at-fits .n)) (not-negative (at-args .n) (rw (toZ-ofZ (at-fits .n)) at (c .before .if1 .left)), fits-natAbs tt (at-fits .n)))
     (λ c κs. search needs) (λ c. search needs)
-    (λ c. rw (← cell-number (c .before .before .before .before .before .before .args .n) (rw (toZ-ofZ (c .before .before .before .before .before .before .fits .n)) at (c .before .before .before .before .if1 .left))) (rw (toZ-ofZ (c .before .before .before .before .before .before .fits .n)) at (c .before .before .put-decimal .ensures))))
+    (λ c.
+    let at-put-decimal = c .before .before .put-decimal in
+    let at-if1 = c .before .before .before .before .if1 in
+    let at-args = c .before .before .before .before .before .before .args in
+    let at-fits = c .before .before .before .before .before .before .fits in
+    rw (← cell-number (at-args .n) (rw (toZ-ofZ (at-fits .n)) at (at-if1 .left))) (rw (toZ-ofZ (at-fits .n)) at (at-put-decimal .ensures))))

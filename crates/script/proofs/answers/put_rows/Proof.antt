@@ -1,3 +1,4 @@
+-- What was put and what is left of the table from each row on make the whole.
 use Prim.Native.Nat.{_≤_, _<_}
 use mathlib.Core.Path.{sym, _∙_}
 use native.Mathlib.Omega.{arith}
@@ -12,7 +13,8 @@ use Rattle.script.proofs.answers.put_rows.Statement.{statement}
 use Rattle.script.proofs.answers.put_rows.Tie as tie
 
 abbrev Inv-loop : tie.InvT-loop
-Inv-loop out₀ at rows count p₀ from₀ left₀ out p from left = ToDo out₀ at (tablePieces count rows) out p (tablePieces left (drop from rows)) × (from ≤ length rows)
+Inv-loop out₀ at rows count p₀ from₀ left₀ out p from left = ToDo out₀ at (tablePieces count rows) out p (tablePieces left (drop from rows)) ×
+    (from ≤ length rows)
 
 abbrev μ-loop : tie.MeasureT-loop
 μ-loop out₀ at rows count p₀ from₀ left₀ out p from left = left
@@ -22,12 +24,48 @@ put-rows-spec =
     tie.close
     (tie.spec
     Inv-loop μ-loop (λ c. (all-to-do _ _ _, omega arith)) (λ c κs. search needs)
-    (λ c κs. c .before .before .loop .inv .1)
-    (λ c. let h : c .before .before .before .before .loop .from < length (c .before .before .before .before .before .before .args .rows .now) = ltb-true _ _ (both (ltb 0 (c .before .before .before .before .loop .left)) _ (sym (c .before .before .before .is-more .ensures) ∙ c .before .before .if1 .taken) .1) in search needs)
+    (λ c κs.
+    let at-loop = c .before .before .loop in
+    at-loop .inv .1)
+    (λ c.
+    let at-if1 = c .before .before .if1 in
+    let at-is-more = c .before .before .before .is-more in
+    let at-loop = c .before .before .before .before .loop in
+    let at-args = c .before .before .before .before .before .before .args in
+    let h : at-loop .from < length (at-args .rows .now) = ltb-true _ _
+    (both (ltb 0 (at-loop .left)) _ (sym (at-is-more .ensures) ∙ at-if1 .taken) .1) in
+    search needs)
     (λ c. c .before .row-end .ensures .0) (λ c. c .before .row-end .ensures .0)
     (λ c. c .before .row-end .ensures .1) (λ c κs. search needs)
-    (λ c. omega (arith, ltb-true 0 (c .before .before .before .before .before .before .before .before .loop .left) (both (ltb 0 (c .before .before .before .before .before .before .before .before .loop .left)) _ (sym (c .before .before .before .before .before .before .before .is-more .ensures) ∙ c .before .before .before .before .before .before .if1 .taken) .0)))
-    (λ c. omega (arith, ltb-true 0 (c .before .before .before .before .before .before .before .before .loop .left) (both (ltb 0 (c .before .before .before .before .before .before .before .before .loop .left)) _ (sym (c .before .before .before .before .before .before .before .is-more .ensures) ∙ c .before .before .before .before .before .before .if1 .taken) .0)))
-    (λ c. (rw (c .before .before .before .before .before .row-end .ensures .3) (run-done _ _ _ _ _ _ _ _ _ (rw (table-next (c .before .before .before .before .before .before .before .before .loop .left) (drop (c .before .before .before .before .before .before .before .before .loop .from) (c .before .before .before .before .before .before .before .before .before .before .args .rows .now)) (ltb-true _ _ (both (ltb 0 (c .before .before .before .before .before .before .before .before .loop .left)) _ (sym (c .before .before .before .before .before .before .before .is-more .ensures) ∙ c .before .before .before .before .before .before .if1 .taken) .0))) at (c .before .before .before .before .before .before .before .before .loop .inv .0)) (rw (c .before .before .before .before .before .row-end .ensures .2) at (c .before .before .put-row .ensures))), c .before .before .before .before .before .row-end .ensures .1))
-    (λ c. c .before .before .loop .inv .0 .len)
-    (λ c. all-done _ _ _ _ _ _ (c .before .before .loop .inv .0) (table-over (c .before .before .loop .left) (c .before .before .loop .from) (c .before .before .before .before .args .rows .now) _ (c .before .before .loop .inv .1) (c .before .is-more .ensures) (c .if1 .left))))
+    (λ c.
+    let at-if1 = c .before .before .before .before .before .before .if1 in
+    let at-is-more = c .before .before .before .before .before .before .before .is-more in
+    let at-loop = c .before .before .before .before .before .before .before .before .loop in
+    omega (arith, ltb-true 0 (at-loop .left) (both (ltb 0 (at-loop .left)) _ (sym (at-is-more .ensures) ∙ at-if1 .taken) .0)))
+    (λ c.
+    let at-if1 = c .before .before .before .before .before .before .if1 in
+    let at-is-more = c .before .before .before .before .before .before .before .is-more in
+    let at-loop = c .before .before .before .before .before .before .before .before .loop in
+    omega (arith, ltb-true 0 (at-loop .left) (both (ltb 0 (at-loop .left)) _ (sym (at-is-more .ensures) ∙ at-if1 .taken) .0)))
+    (λ c.
+    let at-put-row = c .before .before .put-row in
+    let at-row-end = c .before .before .before .before .before .row-end in
+    let at-if1 = c .before .before .before .before .before .before .if1 in
+    let at-is-more = c .before .before .before .before .before .before .before .is-more in
+    let at-loop = c .before .before .before .before .before .before .before .before .loop in
+    let back-8 = c .before .before .before .before .before .before .before .before in
+    let at-args = back-8 .before .before .args in (
+      rw (at-row-end .ensures .3) (run-done _ _ _ _ _ _ _ _ _
+          (rw (table-next (at-loop .left) (drop (at-loop .from) (at-args .rows .now))
+          (ltb-true _ _ (both (ltb 0 (at-loop .left)) _ (sym (at-is-more .ensures) ∙ at-if1 .taken) .0))) at (at-loop .inv .0))
+          (rw (at-row-end .ensures .2) at (at-put-row .ensures))),
+      at-row-end .ensures .1,
+    ))
+    (λ c.
+    let at-loop = c .before .before .loop in
+    at-loop .inv .0 .len)
+    (λ c.
+    let at-loop = c .before .before .loop in
+    let at-args = c .before .before .before .before .args in
+    all-done _ _ _ _ _ _ (at-loop .inv .0) (table-over (at-loop .left) (at-loop .from) (at-args .rows .now) _ (at-loop .inv .1)
+    (c .before .is-more .ensures) (c .if1 .left))))

@@ -1,3 +1,4 @@
+-- A row is cut where the numbers end.
 use mathlib.Core.Path.{refl}
 use native.Mathlib.Omega.{arith}
 use Rattle.script.proofs.Printing.{row-cut, row-whole}

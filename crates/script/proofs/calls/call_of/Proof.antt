@@ -1,3 +1,4 @@
+-- Each kind has its call.
 use Rattle.script.specs.Runs.{callOf}
 use borrow.Author.Tests.{ne-eqb}
 use Rattle.script.proofs.calls.call_of.Statement.{statement}
@@ -11,4 +12,15 @@ call-of-spec =
     (λ c. rw (c .match .keys1)) (λ c. rw (c .match .keys2)) (λ c. rw (c .match .keys3))
     (λ c. rw (c .match .keys4)) (λ c. rw (c .match .keys5)) (λ c. rw (c .match .keys6))
     (λ c. rw (c .match .keys7)) (λ c. rw (c .match .keys8))
-    (λ c. rw (ne-eqb (c .before .args .kind) 1 (c .match .rest .0 .0 .0 .0 .0 .0 .0 .1), ne-eqb (c .before .args .kind) 2 (c .match .rest .0 .0 .0 .0 .0 .0 .1), ne-eqb (c .before .args .kind) 3 (c .match .rest .0 .0 .0 .0 .0 .1), ne-eqb (c .before .args .kind) 4 (c .match .rest .0 .0 .0 .0 .1), ne-eqb (c .before .args .kind) 5 (c .match .rest .0 .0 .0 .1), ne-eqb (c .before .args .kind) 6 (c .match .rest .0 .0 .1), ne-eqb (c .before .args .kind) 7 (c .match .rest .0 .1), ne-eqb (c .before .args .kind) 8 (c .match .rest .1))))
+    (λ c.
+    let at-kind = c .before .args .kind in
+    rw (
+      ne-eqb at-kind 1 (c .match .rest .0 .0 .0 .0 .0 .0 .0 .1),
+      ne-eqb at-kind 2 (c .match .rest .0 .0 .0 .0 .0 .0 .1),
+      ne-eqb at-kind 3 (c .match .rest .0 .0 .0 .0 .0 .1),
+      ne-eqb at-kind 4 (c .match .rest .0 .0 .0 .0 .1),
+      ne-eqb at-kind 5 (c .match .rest .0 .0 .0 .1),
+      ne-eqb at-kind 6 (c .match .rest .0 .0 .1),
+      ne-eqb at-kind 7 (c .match .rest .0 .1),
+      ne-eqb at-kind 8 (c .match .rest .1),
+    )))

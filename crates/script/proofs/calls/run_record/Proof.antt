@@ -1,3 +1,4 @@
+-- The call is chosen by the record's kind, and its frame is the body.
 use Prim.Native.Nat.{_+_, _-_}
 use mathlib.Core.Path.{_≡_}
 use native.Mathlib.Omega.{arith}
@@ -14,4 +15,12 @@ run-record-spec =
     (λ c. search needs) (λ c κs. search needs) (λ c. search needs) (λ c κs. search needs)
     (λ c κs. search needs) (λ c. search needs) (λ c. search needs) (λ c. search needs) (λ c κs. search needs)
     (λ c. search needs) (λ c. search needs)
-    (λ c. let n : (c .before .before .before .before .before .before .before .before .before .before .before .before .before .before .args .r .body + c .before .before .before .before .before .before .before .before .before .before .before .before .before .before .args .r .length) - c .before .before .before .before .before .before .before .before .before .before .before .before .before .before .args .r .body ≡ c .before .before .before .before .before .before .before .before .before .before .before .before .before .before .args .r .length = omega arith in rw (n, c .before .before .before .before .before .before .before .before .call-of .ensures, c .before .before .before .before .before .before .before .before .before .before .byte-at .ensures .0, c .before .before .before .before .before .before .before .before .before .byte-at2 .ensures .0) at (c .before .before .before .run .ensures)))
+    (λ c.
+    let at-run = c .before .before .before .run in
+    let at-call-of = c .before .before .before .before .before .before .before .before .call-of in
+    let back-8 = c .before .before .before .before .before .before .before .before in
+    let at-byte-at2 = back-8 .before .byte-at2 in
+    let at-byte-at = back-8 .before .before .byte-at in
+    let at-args = back-8 .before .before .before .before .before .before .args in
+    let n : (at-args .r .body + at-args .r .length) - at-args .r .body ≡ at-args .r .length = omega arith in
+    rw (n, at-call-of .ensures, at-byte-at .ensures .0, at-byte-at2 .ensures .0) at (at-run .ensures)))

@@ -1,3 +1,4 @@
+-- The two words are those of the definition; p + 2 * q + 1 is small, so no sum overflows.
 use Rattle.store.specs.Words.{heldIn}
 use borrow.Author.Needs.{needs}
 use Rattle.store.proofs.lenses.held_in.Statement.{statement}

@@ -1,3 +1,4 @@
+-- The records before q are those that `held_in` gives; a turn sets the next.
 use lib.ListN.{length-set, length, take}
 use Rattle.store.specs.Sizes.{helds}
 use Rattle.store.proofs.Folds.{fill-turn, fill-end}

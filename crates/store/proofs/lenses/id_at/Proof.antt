@@ -1,3 +1,4 @@
+-- `part` gives the seat's word, whose rest by 256 is the id; past the last slot both are 0.
 use Prim.Native.Nat.{_%_}
 use mathlib.Core.Path.{refl}
 use native.Mathlib.Nat.{add-zero}

@@ -1,3 +1,4 @@
+-- A slot is found below SLOTS just where the zone is joined.
 use Rattle.store.proofs.Slots.{slot-joined}
 use Rattle.store.proofs.lenses.is_joined.Statement.{statement}
 use Rattle.store.proofs.lenses.is_joined.Tie as tie

@@ -1,3 +1,4 @@
+-- Word 12 is the one that `settingsOf` reads for it.
 use Rattle.store.specs.Words.{settingsOf}
 use Rattle.store.proofs.lenses.is_manager.Statement.{statement}
 use Rattle.store.proofs.lenses.is_manager.Tie as tie

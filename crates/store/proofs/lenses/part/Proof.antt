@@ -1,3 +1,4 @@
+-- Within the slots it is the word that `base` and k name; the position is small, so no sum overflows.
 use borrow.Author.Needs.{needs}
 use borrow.Author.Tests.{lt-ltb, le-ltb}
 use Rattle.store.proofs.lenses.part.Statement.{statement}

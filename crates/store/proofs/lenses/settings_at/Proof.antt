@@ -1,3 +1,4 @@
+-- Each field is the word of the definition, and truths are words above 0.
 use Rattle.store.specs.Words.{settingsOf}
 use Rattle.store.proofs.lenses.settings_at.Statement.{statement}
 use Rattle.store.proofs.lenses.settings_at.Tie as tie

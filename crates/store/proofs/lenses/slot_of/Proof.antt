@@ -1,3 +1,4 @@
+-- No slot before i has the id, so that the first one is i and the first of those from i on.
 use Prim.Native.Nat.{_+_, _-_, _≤_}
 use mathlib.Core.Path.{_≡_, sym, _∙_}
 use native.Mathlib.Omega.{arith}

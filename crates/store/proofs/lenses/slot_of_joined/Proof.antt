@@ -1,3 +1,4 @@
+-- The test for 0 is the definition's, and `slot_of` gives the slot of any other id.
 use borrow.Author.Tests.{lt-ltb, le-ltb}
 use Rattle.store.proofs.lenses.slot_of_joined.Statement.{statement}
 use Rattle.store.proofs.lenses.slot_of_joined.Tie as tie

@@ -1,3 +1,4 @@
+-- `part` gives the link's word, up where it is above 0; past the last slot it is 0, and a free zone is down.
 use mathlib.Core.Path.{refl}
 use borrow.Author.Needs.{needs}
 use lib.Dec.{ltb}

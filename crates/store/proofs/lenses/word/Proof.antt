@@ -1,3 +1,4 @@
+-- Within the words it is the element; past them it is the default, as all the words are WORDS many.
 use mathlib.Core.Path.{_≡_, sym, ap}
 use native.Mathlib.Omega.{arith}
 use lib.ListN.{length, List·getD-eq-default}

@@ -1,3 +1,4 @@
+-- The words of a slot are the zone of the definition; past the last slot the default is the free zone.
 use Rattle.store.proofs.Lens.{zones-at, zones-past}
 use Rattle.store.specs.Zones.{freeZone}
 use Rattle.store.specs.Words.{zoneAt}

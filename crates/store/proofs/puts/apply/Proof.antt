@@ -1,3 +1,4 @@
+-- The four stores are those of `applied`, in its order.
 use Rattle.store.specs.Words.{applied}
 use Rattle.store.proofs.puts.apply.Statement.{statement}
 use Rattle.store.proofs.puts.apply.Tie as tie

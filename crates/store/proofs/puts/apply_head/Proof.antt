@@ -1,3 +1,4 @@
+-- To change no slot and keep `since` is to store the override and the clock alone.
 use Rattle.store.proofs.Stores.{head-stored}
 use Rattle.store.proofs.puts.apply_head.Statement.{statement}
 use Rattle.store.proofs.puts.apply_head.Tie as tie

@@ -1,3 +1,4 @@
+-- Both cases are the definition's.
 use Rattle.store.specs.Words.{bit}
 use Rattle.store.proofs.puts.bit_of.Statement.{statement}
 use Rattle.store.proofs.puts.bit_of.Tie as tie

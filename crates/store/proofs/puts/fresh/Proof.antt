@@ -1,3 +1,4 @@
+-- All zero, and then the words that `setting_words` gives, from the settings' place on.
 use Rattle.store.specs.Words.{fresh}
 use Rattle.store.proofs.puts.fresh.Statement.{statement}
 use Rattle.store.proofs.puts.fresh.Tie as tie

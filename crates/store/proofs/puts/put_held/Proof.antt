@@ -1,3 +1,4 @@
+-- Two words, one behind the other; the position is small, so at + 1 does not overflow.
 use borrow.Author.Needs.{needs}
 use Rattle.store.proofs.puts.put_held.Statement.{statement}
 use Rattle.store.proofs.puts.put_held.Tie as tie

@@ -1,3 +1,4 @@
+-- To store the values from q on now is to store them all in the words of the start.
 use Rattle.store.specs.Sizes.{helds}
 use Rattle.store.proofs.HeldWords.{store-start, store-turn, store-end}
 use Rattle.store.proofs.Folds.{length-of}

@@ -1,3 +1,4 @@
+-- To store the words from i on now is to store all ten in the words of the start.
 use Prim.Native.Nat.{_+_, _-_, _≤_}
 use mathlib.Core.Path.{_≡_, refl}
 use native.Mathlib.Omega.{arith}

@@ -1,3 +1,4 @@
+-- Within the words it is the store; past them a store changes nothing, as all the words are WORDS many.
 use mathlib.Core.Path.{_≡_, sym, ap}
 use native.Mathlib.Omega.{arith}
 use lib.ListN.{length}

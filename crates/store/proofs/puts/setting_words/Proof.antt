@@ -1,3 +1,4 @@
+-- Each word is that of the definition, truths by `bit_of`.
 use borrow.Author.Needs.{needs}
 use Rattle.store.specs.Words.{settingWords}
 use Rattle.store.proofs.puts.setting_words.Statement.{statement}

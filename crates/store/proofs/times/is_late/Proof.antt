@@ -1,3 +1,4 @@
+-- The two comparisons are the definition's.
 use borrow.Author.Tests.{lt-ltb, le-ltb}
 use Rattle.store.specs.Times.{late}
 use Rattle.store.proofs.times.is_late.Statement.{statement}

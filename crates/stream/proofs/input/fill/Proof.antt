@@ -1,3 +1,4 @@
+-- What is read is counted, and stays within the buffer.
 use Prim.Native.Nat.{_≤_, _+_}
 use mathlib.Core.Path.{_≡_, refl}
 use native.Mathlib.Omega.{arith}

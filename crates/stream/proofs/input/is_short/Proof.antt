@@ -1,3 +1,4 @@
+-- Both tests are the definition's.
 use borrow.Author.Tests.{lt-ltb, le-ltb}
 use Rattle.stream.proofs.input.is_short.Statement.{statement}
 use Rattle.stream.proofs.input.is_short.Tie as tie

@@ -1,3 +1,4 @@
+-- Each byte moves to a place before its own, so both are within the buffer.
 use Prim.Native.Nat.{_-_}
 use mathlib.Core.Path.{_≡_, refl}
 use native.Mathlib.Omega.{arith}

@@ -1,3 +1,4 @@
+-- The count left falls with each read.
 use native.Mathlib.Omega.{arith}
 use borrow.Author.Needs.{needs}
 use Rattle.stream.proofs.input.skip.Statement.{statement}

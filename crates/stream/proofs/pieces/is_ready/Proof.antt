@@ -1,4 +1,4 @@
--- It says true only where a record starts before the end, and then the last piece is there or a longest record fits.
+-- It says true only where a record starts before the end, an answer has room, and the last piece is there or a longest record fits.
 use Prim.Native.Nat.{ℕ, _-_, _≤_}
 use mathlib.Core.Path.{_≡_}
 use native.Mathlib.Omega.{arith}
@@ -14,8 +14,12 @@ is-ready-spec =
     (tie.spec
     (λ c. λ e. absurd (let z : _≡_ {A = ℕ} 0 1 = cc in omega arith))
     (λ c κs. search needs) (λ c. search needs)
-    (λ c. λ e. (omega arith, λ f. absurd (let h = c .if3 .taken in let z : _≡_ {A = ℕ} 0 1 = cc in omega arith)))
+    (λ c. λ e. (omega arith, (λ f. absurd (let h = c .if3 .taken in let z : _≡_ {A = ℕ} 0 1 = cc in omega arith)), c .before .before .has-page .ensures (c .before .if2 .taken)))
     (λ c.
     let at-args = c .before .before .before .before .before .before .args in
-    λ e. (omega arith, λ f. let h : longest ≤ at-args .len - at-args .p .from = leb-true _ _ e in omega arith))
+    λ e. (
+      omega arith,
+      (λ f. let h : longest ≤ at-args .len - at-args .p .from = leb-true _ _ e in omega arith),
+      c .before .before .before .has-page .ensures (c .before .before .if2 .taken),
+    ))
     (λ c. λ e. absurd (let z : _≡_ {A = ℕ} 0 1 = cc in omega arith)))

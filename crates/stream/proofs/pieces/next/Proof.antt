@@ -25,8 +25,8 @@ next-spec =
     (ap (λ (y : Stepped). y .good) (sym (at-step .ensures .0)) ∙ at-if1 .taken) in
     let n = ap (λ (y : Stepped). y .next) (at-step .ensures .0) in (
       (omega (arith, m .0), omega (arith, m .1), λ e. absurd (let z : _≡_ {A = ℕ} 0 1 = cc in omega arith)),
-      turn-good (at-args .d .now) (at-args .s .now) (at-args .p .from) (at-args .out .now) (at-args .rows .now) (at-pre .0) (at-pre .1) (at-pre .2) _
-          (at-step .ensures .0) _ (at-step .ensures .1 .0) (at-if1 .taken) _ (at-step .ensures .1 .1 .1) _ _ _ _ (at-print-answer .ensures),
+      turn-good (at-args .d .now) (at-args .s .now) (at-args .p .from) (at-args .out .now) (at-args .rows .now) (at-pre .0) (at-pre .2) (at-pre .3) _
+          (at-step .ensures .0) _ (at-step .ensures .1 .0) (at-if1 .taken) _ (at-step .ensures .1 .1 .1) (search needs) _ _ _ _ (at-pre .1) (at-print-answer .ensures),
     ))
     (λ c. search needs) (λ c. search needs)
     (λ c.
@@ -35,6 +35,6 @@ next-spec =
     let at-args = back-8 .before .before .before .args in
     let at-pre = back-8 .before .before .before .pre in (
       (at-pre .0, omega arith, λ e. refl),
-      λ more told. turn-bad (at-args .d .now) (at-args .s .now) (at-args .p .from) (at-args .out .now) (at-args .rows .now) (at-pre .0) (at-pre .1)
-          (at-pre .2) _ (at-step .ensures .0) _ (at-step .ensures .1 .0) (c .if1 .left) _ _ more _ told,
+      λ more told. turn-bad (at-args .d .now) (at-args .s .now) (at-args .p .from) (at-args .out .now) (at-args .rows .now) (at-pre .0) (at-pre .2)
+          (at-pre .3) _ (at-step .ensures .0) _ (at-step .ensures .1 .0) (c .if1 .left) _ _ more _ told,
     )))

@@ -36,7 +36,8 @@ run-spec =
     let at-loop = c .before .before .before .before .before .before .loop in
     let back-8 = c .before .before .before .before .before .before .before .before in
     let at-pre = back-8 .before .before .pre in
-    (at-is-ready .ensures (at-if1 .taken) .0, omega (arith, at-pre .0, at-loop .inv .2), omega (arith, at-pre .1, at-loop .inv .3)))
+    let ready = at-is-ready .ensures (at-if1 .taken) in
+    (ready .0, ready .2, omega (arith, at-pre .0, at-loop .inv .2), omega (arith, at-pre .1, at-loop .inv .3)))
     (λ c.
     let at-next = c .before .before .before .before .before .next in
     omega (arith, at-next .ensures .0 .0, at-next .ensures .0 .1))

@@ -1,3 +1,4 @@
+-- A yes comes only behind the test that something was run.
 use Prim.Native.Nat.{ℕ}
 use mathlib.Core.Path.{_≡_}
 use native.Mathlib.Omega.{arith}

@@ -1,3 +1,4 @@
+-- What was written stays within the buffer.
 use lib.Seq.{length-take-le}
 use mathlib.Core.Path.{sym}
 use borrow.Author.Needs.{needs}

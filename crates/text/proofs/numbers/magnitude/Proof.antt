@@ -1,3 +1,4 @@
+-- A negative number is -1 - n, and its size one more than n.
 use mir.Facts.{toZ-ofZ, fits-natAbs}
 use Rattle.text.proofs.Signs.{not-negative, lowered-fits, lowered-natural, one-more-fits, one-more}
 use borrow.Author.Needs.{needs}

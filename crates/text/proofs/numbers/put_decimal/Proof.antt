@@ -1,3 +1,4 @@
+-- The digits are put where they have room, and nothing else is.
 use native.Mathlib.Omega.{arith}
 use lib.ListN.{length}
 use Rattle.bytes.proofs.PutLaws.{stored, not-stored, has-room}
@@ -12,8 +13,28 @@ put-decimal-spec =
     tie.close
     (tie.spec
     (λ c κs. search needs) (λ c κs. search needs)
-    (λ c κs. has-room (c .before .before .before .before .before .args .at) _ (length (c .before .before .before .before .before .args .out .now)) _ (c .before .before .has-room .ensures) (c .before .if1 .taken))
-    (λ c. omega (arith, has-room (c .before .before .before .before .before .before .before .before .args .at) (c .before .before .before .before .before .before .width-of .result) (length (c .before .before .before .before .before .before .before .before .args .out .now)) _ (c .before .before .before .before .before .has-room .ensures) (c .before .before .before .before .if1 .taken)))
+    (λ c κs.
+    let at-has-room = c .before .before .has-room in
+    let at-args = c .before .before .before .before .before .args in
+    has-room (at-args .at) _ (length (at-args .out .now)) _ (at-has-room .ensures) (c .before .if1 .taken))
+    (λ c.
+    let at-if1 = c .before .before .before .before .if1 in
+    let at-has-room = c .before .before .before .before .before .has-room in
+    let at-width-of = c .before .before .before .before .before .before .width-of in
+    let at-args = c .before .before .before .before .before .before .before .before .args in
+    omega (arith, has-room (at-args .at) (at-width-of .result) (length (at-args .out .now)) _ (at-has-room .ensures) (at-if1 .taken)))
     (λ c. search needs)
-    (λ c. stored (c .before .before .before .before .before .before .before .before .args .out .now) (decimal (c .before .before .before .before .before .before .before .before .args .n)) (c .before .before .before .before .before .before .before .before .args .at) _ (decimal-length (c .before .before .before .before .before .before .before .before .args .n) _ (c .before .before .before .before .before .before .width-of .ensures .0)) _ (c .before .before .before .before .before .has-room .ensures) _ (c .before .before .before .before .if1 .taken) (put-decimal (c .before .before .before .before .before .before .before .before .args .out .now) _ (c .before .before .before .before .before .before .before .before .args .at) _ (c .before .before .before .before .before .before .before .before .args .n) (c .before .before .before .before .before .before .width-of .ensures .0) (c .before .before .put-digits .ensures)))
-    (λ c. not-stored (c .before .before .before .before .args .out .now) (decimal (c .before .before .before .before .args .n)) (c .before .before .before .before .args .at) _ (decimal-length (c .before .before .before .before .args .n) _ (c .before .before .width-of .ensures .0)) _ (c .before .has-room .ensures) (c .if1 .left)))
+    (λ c.
+    let at-put-digits = c .before .before .put-digits in
+    let at-if1 = c .before .before .before .before .if1 in
+    let at-has-room = c .before .before .before .before .before .has-room in
+    let at-width-of = c .before .before .before .before .before .before .width-of in
+    let at-args = c .before .before .before .before .before .before .before .before .args in
+    stored (at-args .out .now) (decimal (at-args .n)) (at-args .at) _ (decimal-length (at-args .n) _ (at-width-of .ensures .0)) _
+    (at-has-room .ensures) _ (at-if1 .taken) (put-decimal (at-args .out .now) _ (at-args .at) _ (at-args .n) (at-width-of .ensures .0)
+    (at-put-digits .ensures)))
+    (λ c.
+    let at-width-of = c .before .before .width-of in
+    let at-args = c .before .before .before .before .args in
+    not-stored (at-args .out .now) (decimal (at-args .n)) (at-args .at) _ (decimal-length (at-args .n) _ (at-width-of .ensures .0)) _
+    (c .before .has-room .ensures) (c .if1 .left)))

@@ -1,3 +1,4 @@
+-- From the last digit to the first, what is left to put makes the whole.
 use Prim.Native.Nat.{_≤_, _-_}
 use mathlib.Core.Path.{_≡_, refl, sym, _∙_}
 use native.Mathlib.Omega.{arith}
@@ -21,6 +22,14 @@ put-digits-spec =
     (tie.spec
     Inv-loop μ-loop (λ c. (refl, omega arith, refl)) (λ c. omega arith) (λ c. omega arith) (λ c. omega arith)
     (λ c. search needs) (λ c. search needs) (λ c. omega arith)
-    (λ c. (put-last (c .before .loop .out) (c .before .before .args .at) (c .before .loop .i) (c .before .loop .i - 1) (c .before .loop .rest) (omega arith) ∙ c .before .loop .inv .0, omega arith, simp length-set (c .before .loop .inv .2)))
+    (λ c.
+    let at-args = c .before .before .args in (
+      put-last (c .before .loop .out) (at-args .at) (c .before .loop .i) (c .before .loop .i - 1) (c .before .loop .rest)
+          (omega arith) ∙ c .before .loop .inv .0,
+      omega arith,
+      simp length-set (c .before .loop .inv .2),
+    ))
     (λ c. c .before .loop .inv .2)
-    (λ c. sym (put-nothing (c .before .loop .out) (c .before .before .args .at) (c .before .loop .i) (c .before .loop .rest) (omega arith)) ∙ c .before .loop .inv .0))
+    (λ c.
+    let at-args = c .before .before .args in
+    sym (put-nothing (c .before .loop .out) (at-args .at) (c .before .loop .i) (c .before .loop .rest) (omega arith)) ∙ c .before .loop .inv .0))

@@ -1,3 +1,4 @@
+-- The sign and the digits behind it are one piece, put where it has room.
 use Rattle.bytes.proofs.PutLaws.{length-put, stored, not-stored, has-room}
 use mathlib.Core.Path.{_∙_, ap}
 use mathlib.Core.List.{_∷_}
@@ -15,10 +16,44 @@ put-minus-spec =
     tie.close
     (tie.spec
     (λ c κs. search needs) (λ c. search needs) (λ c κs. search needs)
-    (λ c. omega (arith, has-room (c .before .before .before .before .args .at) (1 + c .before .before .width-of .result) (length (c .before .before .before .before .args .out .now)) _ (c .before .has-room .ensures) (c .if1 .taken)))
-    (λ c. omega (arith, has-room (c .before .before .before .before .before .args .at) (1 + c .before .before .before .width-of .result) (length (c .before .before .before .before .before .args .out .now)) _ (c .before .before .has-room .ensures) (c .before .if1 .taken)))
-    (λ c κs. simp length-set (omega (arith, has-room (c .before .before .before .before .before .args .at) (1 + c .before .before .before .width-of .result) (length (c .before .before .before .before .before .args .out .now)) _ (c .before .before .has-room .ensures) (c .before .if1 .taken))))
-    (λ c. omega (arith, has-room (c .before .before .before .before .before .before .before .before .args .at) (1 + c .before .before .before .before .before .before .width-of .result) (length (c .before .before .before .before .before .before .before .before .args .out .now)) _ (c .before .before .before .before .before .has-room .ensures) (c .before .before .before .before .if1 .taken)))
-    (λ c. ap length (c .before .before .put-digits .ensures) ∙ simp (length-put, length-set))
-    (λ c. stored (c .before .before .before .before .before .before .before .before .args .out .now) (45 ∷ decimal (c .before .before .before .before .before .before .before .before .args .n)) (c .before .before .before .before .before .before .before .before .args .at) _ (minus-length (c .before .before .before .before .before .before .before .before .args .n) _ (c .before .before .before .before .before .before .width-of .ensures .0)) _ (c .before .before .before .before .before .has-room .ensures) _ (c .before .before .before .before .if1 .taken) (put-minus (c .before .before .before .before .before .before .before .before .args .out .now) _ (c .before .before .before .before .before .before .before .before .args .at) _ (c .before .before .before .before .before .before .before .before .args .n) (c .before .before .before .before .before .before .width-of .ensures .0) (c .before .before .put-digits .ensures)))
-    (λ c. not-stored (c .before .before .before .before .args .out .now) (45 ∷ decimal (c .before .before .before .before .args .n)) (c .before .before .before .before .args .at) _ (minus-length (c .before .before .before .before .args .n) _ (c .before .before .width-of .ensures .0)) _ (c .before .has-room .ensures) (c .if1 .left)))
+    (λ c.
+    let at-width-of = c .before .before .width-of in
+    let at-args = c .before .before .before .before .args in
+    omega (arith, has-room (at-args .at) (1 + at-width-of .result) (length (at-args .out .now)) _ (c .before .has-room .ensures) (c .if1 .taken)))
+    (λ c.
+    let at-has-room = c .before .before .has-room in
+    let at-width-of = c .before .before .before .width-of in
+    let at-args = c .before .before .before .before .before .args in
+    omega (arith, has-room (at-args .at) (1 + at-width-of .result) (length (at-args .out .now)) _ (at-has-room .ensures) (c .before .if1 .taken)))
+    (λ c κs.
+    let at-has-room = c .before .before .has-room in
+    let at-width-of = c .before .before .before .width-of in
+    let at-args = c .before .before .before .before .before .args in
+    simp length-set (omega (
+      arith,
+      has-room (at-args .at) (1 + at-width-of .result) (length (at-args .out .now)) _ (at-has-room .ensures)
+          (c .before .if1 .taken),
+    )))
+    (λ c.
+    let at-if1 = c .before .before .before .before .if1 in
+    let at-has-room = c .before .before .before .before .before .has-room in
+    let at-width-of = c .before .before .before .before .before .before .width-of in
+    let at-args = c .before .before .before .before .before .before .before .before .args in
+    omega (arith, has-room (at-args .at) (1 + at-width-of .result) (length (at-args .out .now)) _ (at-has-room .ensures) (at-if1 .taken)))
+    (λ c.
+    let at-put-digits = c .before .before .put-digits in
+    ap length (at-put-digits .ensures) ∙ simp (length-put, length-set))
+    (λ c.
+    let at-put-digits = c .before .before .put-digits in
+    let at-if1 = c .before .before .before .before .if1 in
+    let at-has-room = c .before .before .before .before .before .has-room in
+    let at-width-of = c .before .before .before .before .before .before .width-of in
+    let at-args = c .before .before .before .before .before .before .before .before .args in
+    stored (at-args .out .now) (45 ∷ decimal (at-args .n)) (at-args .at) _ (minus-length (at-args .n) _ (at-width-of .ensures .0)) _
+    (at-has-room .ensures) _ (at-if1 .taken) (put-minus (at-args .out .now) _ (at-args .at) _ (at-args .n) (at-width-of .ensures .0)
+    (at-put-digits .ensures)))
+    (λ c.
+    let at-width-of = c .before .before .width-of in
+    let at-args = c .before .before .before .before .args in
+    not-stored (at-args .out .now) (45 ∷ decimal (at-args .n)) (at-args .at) _ (minus-length (at-args .n) _ (at-width-of .ensures .0)) _
+    (c .before .has-room .ensures) (c .if1 .left)))

@@ -1,3 +1,4 @@
+-- A digit is counted each time that the rest is ten or more.
 use mathlib.Core.Path.{refl}
 use Prim.Native.Nat.{_-_}
 use native.Mathlib.Omega.{arith}

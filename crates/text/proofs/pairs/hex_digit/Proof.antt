@@ -1,3 +1,4 @@
+-- Ten digits, then letters.
 use borrow.Author.Tests.{lt-ltb, le-ltb}
 use Rattle.text.specs.Text.{hexDigit}
 use borrow.Author.Needs.{needs}

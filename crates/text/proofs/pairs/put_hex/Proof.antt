@@ -1,3 +1,4 @@
+-- The pairs are put where they have room, and nothing else is.
 use Prim.Native.Nat.{_*_}
 use native.Mathlib.Omega.{arith}
 use lib.ListN.{length}
@@ -13,9 +14,29 @@ put-hex-spec =
     tie.close
     (tie.spec
     (λ c κs. search needs)
-    (λ c κs. has-room (c .before .before .before .before .before .args .at) (2 * length (c .before .before .before .before .before .args .bytes .now)) (length (c .before .before .before .before .before .args .out .now)) _ (c .before .before .has-pairs .ensures) (c .before .if1 .taken))
-    (λ c. omega (arith, has-room (c .before .before .before .before .before .before .before .before .args .at) (2 * length (c .before .before .before .before .before .before .before .before .args .bytes .now)) (length (c .before .before .before .before .before .before .before .before .args .out .now)) _ (c .before .before .before .before .before .has-pairs .ensures) (c .before .before .before .before .if1 .taken)))
-    (λ c. omega (arith, has-room (c .before .before .before .before .before .before .before .before .args .at) (2 * length (c .before .before .before .before .before .before .before .before .args .bytes .now)) (length (c .before .before .before .before .before .before .before .before .args .out .now)) _ (c .before .before .before .before .before .has-pairs .ensures) (c .before .before .before .before .if1 .taken)))
+    (λ c κs.
+    let at-has-pairs = c .before .before .has-pairs in
+    let at-args = c .before .before .before .before .before .args in
+    has-room (at-args .at) (2 * length (at-args .bytes .now)) (length (at-args .out .now)) _ (at-has-pairs .ensures) (c .before .if1 .taken))
+    (λ c.
+    let at-if1 = c .before .before .before .before .if1 in
+    let at-has-pairs = c .before .before .before .before .before .has-pairs in
+    let at-args = c .before .before .before .before .before .before .before .before .args in
+    omega (arith, has-room (at-args .at) (2 * length (at-args .bytes .now)) (length (at-args .out .now)) _ (at-has-pairs .ensures) (at-if1 .taken)))
+    (λ c.
+    let at-if1 = c .before .before .before .before .if1 in
+    let at-has-pairs = c .before .before .before .before .before .has-pairs in
+    let at-args = c .before .before .before .before .before .before .before .before .args in
+    omega (arith, has-room (at-args .at) (2 * length (at-args .bytes .now)) (length (at-args .out .now)) _ (at-has-pairs .ensures) (at-if1 .taken)))
     (λ c. search needs)
-    (λ c. stored (c .before .before .before .before .before .before .before .before .args .out .now) (hex (c .before .before .before .before .before .before .before .before .args .bytes .now)) (c .before .before .before .before .before .before .before .before .args .at) _ (hex-length (c .before .before .before .before .before .before .before .before .args .bytes .now)) _ (c .before .before .before .before .before .has-pairs .ensures) _ (c .before .before .before .before .if1 .taken) (c .before .before .put-pairs .ensures))
-    (λ c. not-stored (c .before .before .before .before .args .out .now) (hex (c .before .before .before .before .args .bytes .now)) (c .before .before .before .before .args .at) _ (hex-length (c .before .before .before .before .args .bytes .now)) _ (c .before .has-pairs .ensures) (c .if1 .left)))
+    (λ c.
+    let at-put-pairs = c .before .before .put-pairs in
+    let at-if1 = c .before .before .before .before .if1 in
+    let at-has-pairs = c .before .before .before .before .before .has-pairs in
+    let at-args = c .before .before .before .before .before .before .before .before .args in
+    stored (at-args .out .now) (hex (at-args .bytes .now)) (at-args .at) _ (hex-length (at-args .bytes .now)) _ (at-has-pairs .ensures) _
+    (at-if1 .taken) (at-put-pairs .ensures))
+    (λ c.
+    let at-args = c .before .before .before .before .args in
+    not-stored (at-args .out .now) (hex (at-args .bytes .now)) (at-args .at) _ (hex-length (at-args .bytes .now)) _ (c .before .has-pairs .ensures)
+    (c .if1 .left)))

@@ -1,3 +1,4 @@
+-- Two stores: the high digit, then the low one.
 use lib.ListN.{length-set}
 use native.Mathlib.Omega.{arith}
 use borrow.Author.Needs.{needs}

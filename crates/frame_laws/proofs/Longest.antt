@@ -1,0 +1,259 @@
+-- The longest frames: each field has at most so many bytes, by the width of its number. Assumes nothing.
+use Prim.Native.Nat.{ℕ, _+_, _-_, _^_, _≤_, _<_}
+use mathlib.Core.Path.{_≡_, refl, sym, ap, _∙_}
+use mathlib.Core.Bool.{Bool, true, false, cond, _&&_, _||_}
+use mathlib.Core.List.{List, [], _∷_, _++_}
+use mathlib.Core.Option.{Option, some, none}
+use native.Mathlib.Omega.{arith}
+use lib.ListN.{length, length-append}
+use lib.Dec.{leb, ltb, eqb}
+use lib.IntN.{pos, negsuc}
+use borrow.Author.Tests.{leb-true, ltb-false, eqb-true}
+use Rattle.bytes.specs.Bytes.{bytesOf}
+use Rattle.bytes.proofs.NumberLaws.{bytes-length}
+use Rattle.cbor.specs.Head.{infoOf, widthOf, headLen, headBytes}
+use Rattle.cbor.specs.Item.{Item, encode, encodePairs, countPairs}
+use Rattle.cbor.proofs.Widths.{by-width, head-length, head-short}
+use Rattle.messages.specs.declared.Field.{Field}
+use Rattle.messages.specs.declared.Amount.{Amount}
+use Rattle.messages.specs.declared.Aim.{Aim}
+use Rattle.messages.specs.declared.LimitResult.{LimitResult}
+use Rattle.messages.specs.declared.SetpointResult.{SetpointResult}
+use Rattle.messages.specs.declared.Command.{Command}
+use Rattle.messages.specs.declared.Outcome.{Outcome}
+use Rattle.messages.specs.declared.Request.{Request}
+use Rattle.messages.specs.declared.Response.{Response}
+use Rattle.messages.specs.Numbers.{wireNumber}
+use Rattle.messages.specs.Refusals.{firstOf}
+use Rattle.map_fields.specs.Fields.{Fields, present, most32, mostValue, valueItem, aimItem, amountItem, truthItem}
+use Rattle.map_fields.specs.Puts.{fieldBytes}
+use Rattle.map_fields.proofs.Added.{map-bytes, fields-none, fields-more}
+use Rattle.map_fields.proofs.Joined.{no-both, and-left, and-right, or-left, or-right}
+use Rattle.frames.specs.Prefix.{frameOf}
+use Rattle.frames.specs.Writing.{itemFrame}
+use Rattle.frames.specs.Sizes.{longestRequest, longestResponse}
+use Rattle.frames.specs.Settings.{durationAmount, settingOfLimits, settingOfSetpoints, settingFields}
+use Rattle.frames.specs.Requests.{commandFields, requestFields, requestItem, requestNumber, requestWide, requestUnserved, commandWide, aimWide, isServed, servedAt, servedCommand}
+use Rattle.frames.specs.Responses.{limitFields, setpointFields, clearFields, mapItem, outcomeItem, responseFields, responseItem, responseNumber, responseFits, fits, stands, goesWith, limitInRange, setpointInRange, amountUpTo, isStatus, isNothing, statusAlone, statusFits, statusNumber}
+use Rattle.frame_laws.specs.Longest.{RequestLongest, RequestReached, ResponseLongest, ResponseReached, StatusLongest}
+use Rattle.frame_laws.proofs.Maps.{count-fields}
+use Rattle.frame_laws.proofs.RequestBack.{request-ranges, request-served, is-served, wire-served, command-few, wide-parts}
+use Rattle.frame_laws.proofs.ResponseBack.{limit-range, limit-few, setpoint-few, clear-few, status-small, response-ranges, no-test, one-test}
+
+-- HEADS
+len-1 : (v : ℕ) → v < 24 → headLen v ≤ 1
+unfolding headLen
+len-1 v h =
+    by-width (λ (i w : ℕ). 1 + w ≤ 1) v (λ a. omega arith) (λ a b. absurd (omega arith)) (λ a b. absurd (omega arith)) (λ a b. absurd (omega arith))
+    (λ a. absurd (omega arith))
+
+len-2 : (v : ℕ) → v < 256 → headLen v ≤ 2
+unfolding headLen
+len-2 v h = by-width (λ (i w : ℕ). 1 + w ≤ 2) v (λ a. omega arith) (λ a b. omega arith) (λ a b. absurd (omega arith)) (λ a b. absurd (omega arith)) (λ a. absurd (omega arith))
+
+len-5 : (v : ℕ) → v < 4294967296 → headLen v ≤ 5
+unfolding headLen
+len-5 v h = by-width (λ (i w : ℕ). 1 + w ≤ 5) v (λ a. omega arith) (λ a b. omega arith) (λ a b. omega arith) (λ a b. omega arith) (λ a. absurd (omega arith))
+
+-- MAPS AND FRAMES
+frame-length : (i : Item) → length (itemFrame i) ≡ 4 + length (encode i)
+unfolding itemFrame frameOf
+frame-length i = length-append (bytesOf 4 (length (encode i))) (encode i) ∙ ap (λ (n : ℕ). n + length (encode i)) (bytes-length 4 (length (encode i)))
+
+map-long : (fs : Fields) (n : ℕ) → length fs ≤ 23 → length (encodePairs (present fs)) ≤ n → length (encode (Item.map (present fs))) ≤ 1 + n
+map-long fs n few h =
+    let k : ℕ = countPairs (present fs) in
+    rw (map-bytes fs, length-append) (omega (arith, head-length 5 k, len-1 k (omega (arith, count-fields fs)), h))
+
+pairs-none : length (encodePairs (present [])) ≤ 0
+pairs-none = rw fields-none (omega arith)
+
+pairs-more : (k : ℕ) (o : Option Item) (fs : Fields) (a b : ℕ) → length (fieldBytes k o) ≤ a → length (encodePairs (present fs)) ≤ b → length (encodePairs (present ((k, o) ∷ fs))) ≤ a + b
+pairs-more k o fs a b x y = rw (fields-more k o fs, length-append) (omega arith)
+
+-- FIELDS
+module _ (k : ℕ) (low : k < 24) where
+  none-long : length (fieldBytes k none) ≤ 0
+  unfolding fieldBytes
+  none-long = omega arith
+
+  uint-long : (v n : ℕ) → headLen v ≤ n → length (fieldBytes k (some (Item.uint v))) ≤ 1 + n
+  unfolding fieldBytes encode
+  uint-long v n h = rw length-append (omega (arith, head-length 0 k, len-1 k low, head-length 0 v))
+
+  simple-long : (v : ℕ) → v < 24 → length (fieldBytes k (some (Item.simple v))) ≤ 2
+  unfolding fieldBytes encode
+  simple-long v h = rw length-append (omega (arith, head-length 0 k, len-1 k low, head-length 7 v, len-1 v h))
+
+  truth-long : (b : Bool) → length (fieldBytes k (some (truthItem b))) ≤ 2
+  truth-long true = simple-long 21 (omega arith)
+  truth-long false = simple-long 20 (omega arith)
+
+  value-long : (f : Field) → length (fieldBytes k (valueItem f)) ≤ 10
+  unfolding valueItem fieldBytes encode
+  value-long Field.Absent = omega arith
+  value-long Field.Null = omega (arith, simple-long 22 (omega arith))
+  value-long (Field.Value (pos n)) = uint-long n 9 (head-short n)
+  value-long (Field.Value (negsuc n)) = rw length-append (omega (arith, head-length 0 k, len-1 k low, head-length 1 n, head-short n))
+
+  duration-long : (d : ℕ) → d ≤ most32 → length (fieldBytes k (amountItem (durationAmount d))) ≤ 6
+  unfolding amountItem
+  duration-long d h = go (eqb d 0)
+    where
+      go : (b : Bool) → length (fieldBytes k (amountItem (cond b Amount.Absent (Amount.Is d)))) ≤ 6
+      go true = omega (arith, none-long)
+      go false = uint-long d 5 (len-5 d (omega arith))
+
+  aim-long : (a : Aim) → aimWide a ≡ false → length (fieldBytes k (aimItem a)) ≤ 2
+  unfolding aimItem
+  aim-long Aim.Both h = omega (arith, none-long)
+  aim-long (Aim.One d) h = uint-long d 1 (len-1 d (omega (arith, ltb-false 1 d h)))
+
+  amount-long : (a : Amount) → length (fieldBytes k (amountItem a)) ≤ 10
+  unfolding amountItem
+  amount-long Amount.Absent = omega (arith, none-long)
+  amount-long (Amount.Is v) = uint-long v 9 (head-short v)
+
+  reason-long : (a : Amount) → amountUpTo 4 a ≡ true → length (fieldBytes k (amountItem a)) ≤ 2
+  unfolding amountItem
+  reason-long Amount.Absent h = omega (arith, none-long)
+  reason-long (Amount.Is v) h = uint-long v 1 (len-1 v (omega (arith, leb-true v 4 h)))
+
+  below-long : (fs : Fields) (n : ℕ) → length fs ≤ 23 → length (encodePairs (present fs)) ≤ n → length (fieldBytes k (some (Item.map (present fs)))) ≤ 2 + n
+  unfolding fieldBytes
+  below-long fs n few h = rw length-append (omega (arith, head-length 0 k, len-1 k low, map-long fs n few h))
+
+-- REQUESTS
+setting-long : (c p : Field) (d k : ℕ) → d ≤ most32 → k ≤ 255
+    → length (encodePairs (present (settingFields (record { consumption = c; production = p; duration = durationAmount d; cause = k })))) ≤ 29
+unfolding settingFields
+setting-long c p d k hd hk =
+    pairs-more 1 _ _ 10 19 (value-long 1 (omega arith) c)
+    (pairs-more 2 _ _ 10 9 (value-long 2 (omega arith) p)
+    (pairs-more 3 _ _ 6 3 (duration-long 3 (omega arith) d hd)
+    (pairs-more 4 _ _ 3 0 (uint-long 4 (omega arith) k 2 (len-2 k (omega arith))) pairs-none)))
+
+one-aim : (a : Aim) → aimWide a ≡ false → length (encodePairs (present ((1, aimItem a) ∷ []))) ≤ 29
+one-aim a w = omega (arith, pairs-more 1 (aimItem a) [] 2 0 (aim-long 1 (omega arith) a w) pairs-none)
+
+command-long : (c : Command) → commandWide c ≡ false → length (encodePairs (present (commandFields c))) ≤ 29
+unfolding commandFields commandWide settingOfLimits settingOfSetpoints
+command-long (Command.SetLimit l) w = let x = wide-parts (l .duration) (l .cause) w in setting-long _ _ _ _ (x .0) (x .1)
+command-long (Command.ClearLimit a) w = one-aim a w
+command-long (Command.SetSetpoint l) w = let x = wide-parts (l .duration) (l .cause) w in setting-long _ _ _ _ (x .0) (x .1)
+command-long (Command.ClearSetpoint a) w = one-aim a w
+command-long (Command.Unserved n) w = omega (arith, pairs-none)
+
+pub request-longest : RequestLongest
+unfolding requestItem requestFields servedAt
+request-longest r e =
+    let g = request-ranges r e in
+    let s = and-left (servedAt (r .endpoint) (r .feature)) (isServed (r .command)) (request-served r e) in
+    let at : (r .endpoint ≡ 1) × (r .feature ≡ 5) = (eqb-true (r .endpoint) 1 (and-left _ _ s), eqb-true (r .feature) 5 (and-right (eqb (r .endpoint) 1) _ s)) in
+    let c = wire-served (r .command) (is-served r e) in
+    let m = map-long (requestFields r) 43 (omega arith)
+        (pairs-more 1 _ _ 6 37 (uint-long 1 (omega arith) (r .id) 5 (len-5 (r .id) (omega (arith, g .0))))
+        (pairs-more 2 _ _ 2 35 (uint-long 2 (omega arith) (r .endpoint) 1 (len-1 (r .endpoint) (omega (arith, at .0))))
+        (pairs-more 3 _ _ 2 33 (uint-long 3 (omega arith) (r .feature) 1 (len-1 (r .feature) (omega (arith, at .1))))
+        (pairs-more 4 _ _ 2 31 (uint-long 4 (omega arith) (wireNumber (r .command)) 1 (len-1 (wireNumber (r .command)) (omega (arith, c .0))))
+        (pairs-more 5 _ _ 31 0 (below-long 5 (omega arith) (commandFields (r .command)) 29 (omega (arith, command-few (r .command))) (command-long (r .command) (g .3))) pairs-none))))) in
+    omega (arith, frame-length (Item.map (present (requestFields r))), m)
+
+-- RESPONSES
+limit-long : (l : LimitResult) → limitInRange l ≡ true → length (encodePairs (present (limitFields l))) ≤ 26
+unfolding limitFields
+limit-long l h =
+    let g = limit-range l h in
+    pairs-more 1 _ _ 2 24 (truth-long 1 (omega arith) (l .applied))
+    (pairs-more 2 _ _ 2 22 (uint-long 2 (omega arith) (l .state) 1 (len-1 (l .state) (omega (arith, g .0))))
+    (pairs-more 3 _ _ 10 12 (amount-long 3 (omega arith) (l .consumption))
+    (pairs-more 4 _ _ 10 2 (amount-long 4 (omega arith) (l .production))
+    (pairs-more 5 _ _ 2 0 (reason-long 5 (omega arith) (l .reason) (g .3)) pairs-none))))
+
+setpoint-long : (l : SetpointResult) → length (encodePairs (present (setpointFields l))) ≤ 26
+unfolding setpointFields
+setpoint-long l = omega (
+    arith,
+    pairs-more 1 (some (truthItem true)) _ 2 20 (truth-long 1 (omega arith) true)
+    (pairs-more 2 (amountItem (l .consumption)) _ 10 10 (amount-long 2 (omega arith) (l .consumption))
+    (pairs-more 3 (amountItem (l .production)) [] 10 0 (amount-long 3 (omega arith) (l .production)) pairs-none)),
+  )
+
+clear-long : length (encodePairs (present clearFields)) ≤ 26
+unfolding clearFields
+clear-long = omega (arith, pairs-more 1 (some (truthItem true)) [] 2 0 (truth-long 1 (omega arith) true) pairs-none)
+
+result-long : (fs : Fields) → length fs ≤ 5 → length (encodePairs (present fs)) ≤ 26 → length (fieldBytes 3 (mapItem fs)) ≤ 28
+result-long fs few h = below-long 3 (omega arith) fs 26 (omega arith) h
+
+goes-long : (c : ℕ) (o : Outcome) → goesWith c o ≡ true → length (fieldBytes 3 (outcomeItem o)) ≤ 28
+unfolding goesWith outcomeItem
+goes-long c Outcome.Nothing h = absurd (no-both (sym h))
+goes-long c (Outcome.Limit l) h = result-long (limitFields l) (limit-few l) (limit-long l (and-right (eqb c 1) _ h))
+goes-long c (Outcome.Setpoint l) h = result-long (setpointFields l) (setpoint-few l) (setpoint-long l)
+goes-long c Outcome.Success h = result-long clearFields clear-few clear-long
+
+nothing-long : (o : Outcome) → isNothing o ≡ true → length (fieldBytes 3 (outcomeItem o)) ≤ 28
+unfolding outcomeItem
+nothing-long Outcome.Nothing h = omega (arith, none-long 3 (omega arith))
+nothing-long (Outcome.Limit l) h = absurd (no-both (sym h))
+nothing-long (Outcome.Setpoint l) h = absurd (no-both (sym h))
+nothing-long Outcome.Success h = absurd (no-both (sym h))
+
+outcome-long : (c n : ℕ) (o : Outcome) → fits c n o ≡ true → length (fieldBytes 3 (outcomeItem o)) ≤ 28
+unfolding fits
+outcome-long c n o = go (stands c n)
+  where
+    go : (b : Bool) → cond b (goesWith c o) (isNothing o) ≡ true → length (fieldBytes 3 (outcomeItem o)) ≤ 28
+    go true h = goes-long c o h
+    go false h = nothing-long o h
+
+-- by the ranges of its parts
+response-long : (r : Response) → r .id ≤ most32 → r .status ≤ 14 → length (fieldBytes 3 (outcomeItem (r .outcome))) ≤ 28 → length (itemFrame (responseItem r)) ≤ longestResponse
+unfolding responseItem responseFields
+response-long r a b o =
+    let m = map-long (responseFields r) 36 (omega arith)
+        (pairs-more 1 _ _ 6 30 (uint-long 1 (omega arith) (r .id) 5 (len-5 (r .id) (omega arith)))
+        (pairs-more 2 _ _ 2 28 (uint-long 2 (omega arith) (r .status) 1 (len-1 (r .status) (omega arith)))
+        (pairs-more 3 _ _ 28 0 o pairs-none))) in
+    omega (arith, frame-length (Item.map (present (responseFields r))), m)
+
+pub response-longest : ResponseLongest
+unfolding responseNumber
+response-longest c r e =
+    let f = no-test (servedCommand c) (responseFits c r) e .1 in
+    let g = response-ranges r c f in
+    response-long r (g .0) (status-small (r .status) (g .1)) (outcome-long c (r .status) (r .outcome) (g .2))
+
+pub status-longest : StatusLongest
+unfolding statusNumber statusFits
+status-longest i s e =
+    let x = one-test (statusFits i s) e in
+    response-long (statusAlone i s) (leb-true i most32 (and-left _ _ x)) (status-small s (and-left _ _ (and-right (leb i most32) _ x))) (nothing-long Outcome.Nothing refl)
+
+-- THE LONGEST ARE AS LONG
+pub request-reached : RequestReached
+unfolding itemFrame frameOf requestItem requestFields commandFields settingOfLimits settingFields present valueItem amountItem encode encodePairs countPairs headBytes infoOf widthOf bytesOf requestNumber requestWide requestUnserved commandWide servedAt firstOf
+request-reached = (
+  record {
+    id = 4294967295;
+    endpoint = 1;
+    feature = 5;
+    command = Command.SetLimit (record { consumption = Field.Value (pos 9223372036854775807); production = Field.Value (pos 9223372036854775807); duration = 4294967295; cause = 255 });
+  },
+  refl,
+  refl,
+)
+
+pub response-reached : ResponseReached
+unfolding itemFrame frameOf responseItem responseFields outcomeItem limitFields amountItem present encode encodePairs countPairs headBytes infoOf widthOf bytesOf responseNumber responseFits fits stands goesWith limitInRange isStatus servedCommand firstOf
+response-reached = (
+  1,
+  record {
+    id = 4294967295;
+    status = 11;
+    outcome = Outcome.Limit (record { applied = true; state = 1; consumption = Amount.Is 9223372036854775807; production = Amount.Is 9223372036854775807; reason = Amount.Is 1 });
+  },
+  refl,
+  refl,
+)

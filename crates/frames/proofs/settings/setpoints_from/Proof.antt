@@ -1,0 +1,13 @@
+-- Field by field.
+use Rattle.frames.specs.Settings.{setpointsFrom}
+use borrow.Author.Needs.{needs}
+use Rattle.frames.proofs.settings.setpoints_from.Statement.{statement}
+use Rattle.frames.proofs.settings.setpoints_from.Tie as tie
+
+pub setpoints-from-spec : {M : Type 1} → statement M
+unfolding setpointsFrom
+setpoints-from-spec =
+    tie.close
+    (tie.spec
+    (λ c κs. search needs) (λ c κs. search needs) (λ c κs. search needs)
+    (λ c. rw (c .before .before .target-of .ensures, c .before .target-of2 .ensures, c .duration-of .ensures)))

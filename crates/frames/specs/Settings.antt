@@ -1,0 +1,64 @@
+-- The parameters of a Set command: one shape, which SetLimit and SetSetpoint alike are read into and written from. Assumes nothing: these
+-- are definitions.
+use Prim.Native.Nat.{ℕ}
+use mathlib.Core.Bool.{Bool, cond}
+use mathlib.Core.List.{[], _∷_}
+use mathlib.Core.Option.{Option, some, bind}
+use lib.Dec.{eqb}
+use Rattle.cbor.specs.Item.{Item, Pairs}
+use Rattle.cbor.specs.Find.{valueOf}
+use Rattle.messages.specs.declared.Field.{Field}
+use Rattle.messages.specs.declared.Target.{Target}
+use Rattle.messages.specs.declared.Amount.{Amount}
+use Rattle.messages.specs.declared.Limits.{Limits}
+use Rattle.messages.specs.declared.Setpoints.{Setpoints}
+use Rattle.map_fields.specs.Fields.{upTo, needed, most32, valueIn, amountIn, valueItem, amountItem, Fields}
+use Rattle.frames.specs.declared.settings.Setting.{Setting}
+
+-- READING
+-- "SetLimit: 1 consumption, 2 production, 3 duration (32 bits), 4 cause (0 to 255, required, not kept)"; null where it is allowed
+unfoldable pub settingIn : Bool → Pairs → Option Setting
+settingIn null ps =
+    bind (valueIn null (valueOf ps 1)) (λ c.
+    bind (valueIn null (valueOf ps 2)) (λ p.
+    bind (amountIn most32 (valueOf ps 3)) (λ d.
+    bind (needed (upTo 255) (valueOf ps 4)) (λ k.
+    some (record { consumption = c; production = p; duration = d; cause = k })))))
+
+-- an omitted duration and 0 are alike
+abbrev pub durationOf : Amount → ℕ
+durationOf Amount.Absent = 0
+durationOf (Amount.Is d) = d
+
+unfoldable pub limitsFrom : Setting → Limits
+limitsFrom s = record { consumption = s .consumption; production = s .production; duration = durationOf (s .duration); cause = s .cause }
+
+abbrev pub targetOf : Field → Target
+targetOf Field.Absent = Target.Absent
+targetOf Field.Null = Target.Absent
+targetOf (Field.Value z) = Target.Value z
+
+-- "SetSetpoint has the same keys, without null"
+unfoldable pub setpointsFrom : Setting → Setpoints
+setpointsFrom s =
+    record { consumption = targetOf (s .consumption); production = targetOf (s .production); duration = durationOf (s .duration); cause = s .cause }
+
+-- WRITING
+-- "A zero duration is omitted"
+abbrev pub durationAmount : ℕ → Amount
+durationAmount d = cond (eqb d 0) Amount.Absent (Amount.Is d)
+
+unfoldable pub settingOfLimits : Limits → Setting
+settingOfLimits l = record { consumption = l .consumption; production = l .production; duration = durationAmount (l .duration); cause = l .cause }
+
+abbrev pub fieldOf : Target → Field
+fieldOf Target.Absent = Field.Absent
+fieldOf (Target.Value z) = Field.Value z
+
+unfoldable pub settingOfSetpoints : Setpoints → Setting
+settingOfSetpoints l =
+    record { consumption = fieldOf (l .consumption); production = fieldOf (l .production); duration = durationAmount (l .duration); cause = l .cause }
+
+unfoldable pub settingFields : Setting → Fields
+settingFields s =
+    (1, valueItem (s .consumption)) ∷ (2, valueItem (s .production)) ∷ (3, amountItem (s .duration)) ∷ (4, some (Item.uint (s .cause))) ∷ []

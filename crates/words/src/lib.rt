@@ -1,0 +1,18 @@
+// The words of a line of text: where they are, and the numbers, the bytes in hex and the lists that they say.
+mod hex; // hex.rt: bytes in hex
+mod lists; // lists.rt: attributes parted by commas
+mod numbers; // numbers.rt: a decimal number
+mod spans; // spans.rt: where the words of a line are
+
+pub use hex::Read;
+pub use hex::is_none;
+pub use hex::read_hex;
+pub use lists::read_list;
+pub use numbers::Number;
+pub use numbers::no_number;
+pub use numbers::number_in;
+pub use numbers::read_number;
+pub use spans::Bounds;
+pub use spans::same;
+pub use spans::span;
+pub use spans::split;

@@ -1,0 +1,84 @@
+// Where the words of a line are. Words are parted by one space, so that two spaces have an empty word between them.
+ghost use Prim.Native.Nat.{_≤_};
+ghost use lib.ListN.{length};
+
+// The start and the end of a word.
+pub struct Bounds {
+    pub from: usize,
+    pub to: usize,
+}
+
+// The position of the first byte b from `from` on, or the end.
+pub fn next(s: &[u8], from: usize, b: u8) -> usize
+    requires { ⌜ from ≤ length (now s) ⌝ }
+    ensures { λ r. ⌜ from ≤ r ⌝ }
+    ensures { λ r. ⌜ r ≤ length (now (s .entry)) ⌝ }
+{
+    let mut i = from;
+    while i < s.len() {
+        if s[i] == b {
+            return i;
+        }
+        i += 1;
+    }
+    i
+}
+
+// Stores where each word ends, as far as there is room, and says how many words there are; one too many says that
+// there are more.
+pub fn split(line: &[u8], ends: &mut [usize]) -> usize {
+    let mut n = 0;
+    let mut at = 0;
+    while n < ends.len() {
+        let end = next(line, at, b' ');
+        ends[n] = end;
+        n += 1;
+        if line.len() <= end {
+            return n;
+        }
+        at = end + 1;
+    }
+    usize::MAX
+}
+
+fn end_of(ends: &[usize], k: usize) -> usize {
+    if k < ends.len() {
+        return ends[k];
+    }
+    0
+}
+
+// A word starts past the space behind the one before it.
+fn start_of(ends: &[usize], k: usize) -> usize {
+    if k == 0 {
+        return 0;
+    }
+    let end = end_of(ends, k - 1);
+    if end < usize::MAX {
+        return end + 1;
+    }
+    end
+}
+
+// Where the k-th word is, by the ends of the words.
+pub fn span(ends: &[usize], k: usize) -> Bounds {
+    Bounds {
+        from: start_of(ends, k),
+        to: end_of(ends, k),
+    }
+}
+
+// Whether two words are the same bytes.
+pub fn same(a: &[u8], b: &[u8]) -> bool {
+    if a.len() != b.len() {
+        return false;
+    }
+    let mut i = 0;
+    while i < a.len() {
+        if a[i] != b[i] {
+            return false;
+        }
+        i += 1;
+    }
+    true
+}
