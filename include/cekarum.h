@@ -12,7 +12,7 @@
  * - calls on one device do not overlap in time; calls on two devices may.
  *
  * A refusal changes nothing: neither the device nor its clock nor a lent buffer, except that cekarum_frame may write a response
- * frame to the front of its output. Beside a refusal values are -1 and lengths 0, except the length of such a response. What
+ * frame to the front of its output, and that cekarum_receive closes its receiver at a bad length. Beside a refusal values are -1 and lengths 0, except the length of such a response. What
  * lies behind a response, the rows or the pairs stays as it was.
  */
 #ifndef CEKARUM_H
@@ -222,7 +222,7 @@ struct cekarum_received {
     uint64_t length; /* bytes of the frame that is whole now, at the front of room until the next call; 0: none is */
 };
 
-/* What follows cekarum_receive; only it calls this. */
+/* The export beneath cekarum_receive; nothing else calls it. */
 uint64_t cekarum_raw_receive(uint64_t *receiver, uint8_t *room, uint64_t room_length, const uint8_t *scrap,
                              uint64_t scrap_length, uint64_t *counts);
 

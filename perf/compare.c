@@ -8,7 +8,7 @@
 #include <stdlib.h>
 #include <string.h>
 
-enum { OUT = 128, ROWS = 6 * PLAIN_ROWS + 16, PAIRS = 2 * PLAIN_PAIRS + 16, CALLS = 15, NUMBERS = 19 };
+enum { OUT = 128, ROWS = 6 * PLAIN_ROWS + 16, PAIRS = 2 * PLAIN_PAIRS + 16, CALLS = 16, NUMBERS = 19 };
 
 enum call {
     START,
@@ -25,7 +25,8 @@ enum call {
     WRITE_REQUEST,
     READ_RESPONSE,
     WRITE_RESPONSE,
-    REPORT
+    REPORT,
+    RECEIVE
 };
 
 static const char *const call_names[CALLS] = {
@@ -44,6 +45,7 @@ static const char *const call_names[CALLS] = {
     [READ_RESPONSE] = "read_response",
     [WRITE_RESPONSE] = "write_response",
     [REPORT] = "report",
+    [RECEIVE] = "receive",
 };
 
 /* One kernel's side: its device, what it was lent and what it answered. */
@@ -57,6 +59,9 @@ struct side {
     uint64_t pairs[PAIRS];
     struct plain_request request;
     struct plain_response response;
+    struct plain_receiver receiver;
+    uint64_t taken;
+    uint8_t wire[PLAIN_FRAME_MAX]; /* the receiver's room */
 };
 
 /* One call, as both kernels get it. */
@@ -71,6 +76,8 @@ struct ask {
     uint16_t attributes[80];
     size_t attribute_count;
     struct bytes in;
+    const uint8_t *scrap;
+    size_t scrap_length;
 };
 
 static struct side sides[2];
@@ -84,6 +91,7 @@ static uint64_t call_one(struct side *s, const struct ask *q)
     const struct kernel *k = s->k;
     struct plain_written w = {0, 0};
     struct plain_answer a;
+    struct plain_received got;
     switch (q->call) {
     case START:
         return k->start(s->device, &q->settings);
@@ -121,6 +129,11 @@ static uint64_t call_one(struct side *s, const struct ask *q)
         break;
     case REPORT:
         w = k->report(&q->inputs, q->attributes, q->attribute_count, s->pairs, q->room);
+        break;
+    case RECEIVE:
+        got = k->receive(&s->receiver, s->wire, q->room, q->scrap, q->scrap_length);
+        s->taken = got.taken;
+        w = (struct plain_written){got.number, got.length};
         break;
     }
     s->length = w.length;
@@ -161,6 +174,10 @@ static const char *difference(const struct side *x, const struct side *y, const 
         return "rows";
     if (memcmp(x->pairs, y->pairs, sizeof x->pairs) != 0)
         return "pairs";
+    if (q->call == RECEIVE && (x->taken != y->taken || memcmp(&x->receiver, &y->receiver, sizeof x->receiver) != 0))
+        return "bytes taken or records";
+    if (q->call == RECEIVE && memcmp(x->wire, y->wire, sizeof x->wire) != 0)
+        return "receivers' rooms";
     if (x->number != 0)
         return NULL;
     if (q->call == READ_REQUEST && !same_request(&x->request, &y->request))
@@ -337,6 +354,94 @@ static void mix_call(void)
     }
 }
 
+/* A stream of frames, which a bad length may end. */
+static struct {
+    uint8_t at[8 * PLAIN_FRAME_MAX];
+    size_t n, frames, ends[8]; /* where each frame ends */
+    bool bad;
+} stream;
+
+static void stream_prefix(uint64_t length)
+{
+    for (unsigned i = 0; i < 4; i++)
+        stream.at[stream.n++] = (uint8_t)(length >> (24 - 8 * i));
+}
+
+static void mix_stream(void)
+{
+    static const uint64_t bad[] = {0, 2049, 65536, 0x01000001, UINT32_MAX, 0x00ff0010};
+    stream.n = 0;
+    stream.frames = mix_below(6);
+    stream.bad = mix_chance(300);
+    for (size_t i = 0; i < stream.frames; i++) {
+        size_t length = mix_chance(700) ? 1 + mix_below(60) : mix_chance(800) ? 1 + mix_below(2048) : 2048 - mix_below(2);
+        stream_prefix(length);
+        for (; length > 0; length--)
+            stream.at[stream.n++] = (uint8_t)mix_any();
+        stream.ends[i] = stream.n;
+    }
+    if (stream.bad)
+        stream_prefix(bad[mix_below(sizeof bad / sizeof *bad)]);
+    for (size_t more = mix_below(stream.bad ? 9 : 4); more > 0; more--)
+        stream.at[stream.n++] = stream.bad ? (uint8_t)mix_any() : 0;
+}
+
+/* The frame that was given out is the next of the uncut stream. */
+static void judge_frame(size_t given)
+{
+    size_t from = given == 0 ? 0 : stream.ends[given - 1];
+    if (given >= stream.frames || stream.ends[given] - from != sides[0].length ||
+        memcmp(sides[0].wire, stream.at + from, sides[0].length) != 0)
+        complain("not the frames of the uncut stream");
+}
+
+static size_t receive_room(void)
+{
+    return mix_chance(30) ? mix_below(PLAIN_FRAME_MAX) : PLAIN_FRAME_MAX;
+}
+
+/* A random cutting of a random stream; some scraps are empty, and some calls lend too little room. */
+static void scraps(void)
+{
+    size_t given = 0, at = 0, most = mix_chance(500) ? 1 + mix_below(9) : 1 + mix_below(3000);
+    uint8_t fill = (uint8_t)mix_any();
+    mix_stream();
+    for (unsigned i = 0; i < 2; i++) {
+        sides[i].receiver = (struct plain_receiver){0, 0, 0};
+        memset(sides[i].wire, fill, sizeof sides[i].wire);
+    }
+    while (differ < 100 && (at < stream.n || mix_chance(300))) {
+        ask.call = RECEIVE;
+        ask.room = receive_room();
+        ask.scrap = stream.at + at;
+        ask.scrap_length = mix_below(most + 1);
+        if (ask.scrap_length > stream.n - at)
+            ask.scrap_length = stream.n - at;
+        if (both() == 1 && sides[0].receiver.closed == 1)
+            break;
+        at += sides[0].taken;
+        if (sides[0].length > 0)
+            judge_frame(given++);
+    }
+    if (given != stream.frames || (sides[0].receiver.closed == 1) != stream.bad)
+        complain("not all of the stream");
+}
+
+/* Counts that no call leaves, or perhaps one does. */
+static void odd_counts(void)
+{
+    static const uint64_t odd[] = {0, 1, 3, 4, 5, 6, 2051, 2052, 2053, UINT64_MAX, UINT64_MAX - 3};
+    struct plain_receiver r = {odd[mix_below(11)], odd[mix_below(11)], mix_chance(700) ? 0 : mix_below(3)};
+    sides[0].receiver = sides[1].receiver = r;
+    ask.call = RECEIVE;
+    ask.room = receive_room();
+    for (size_t i = 0; i < 8; i++)
+        ask.in.at[i] = (uint8_t)(mix_chance(700) ? 0 : mix_below(9));
+    ask.scrap = ask.in.at;
+    ask.scrap_length = mix_below(3000);
+    both();
+}
+
 static void start(bool sound)
 {
     ask.call = START;
@@ -438,6 +543,10 @@ int main(int argc, char **argv)
             start(mix_chance(850));
         else if (mix_chance(2))
             crowd();
+        else if (mix_chance(1))
+            scraps();
+        else if (mix_chance(5))
+            odd_counts();
         mix_call();
         both();
     }

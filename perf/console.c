@@ -234,6 +234,24 @@ static bool do_response(char **w)
     return true;
 }
 
+static bool do_scrap(char **w)
+{
+    static struct plain_receiver receiver;
+    static uint8_t room[PLAIN_FRAME_MAX];
+    bool fresh = strcmp(w[1], "new") == 0;
+    size_t lent;
+    if ((!fresh && strcmp(w[1], "same") != 0) || !room_of(w[2], sizeof room, &lent) || !read_bytes(w[3]))
+        return false;
+    if (fresh) {
+        receiver = (struct plain_receiver){0, 0, 0};
+        memset(room, 0, sizeof room);
+    }
+    struct plain_received r = plain_receive(&receiver, room, lent, bytes, byte_count);
+    printf("%llu ", (unsigned long long)r.number);
+    print_bytes(r.taken, room, r.length);
+    return true;
+}
+
 static bool do_conf(char **w)
 {
     static uint64_t pairs[PAIRS_ROOM];
@@ -262,7 +280,7 @@ static const struct {
     {"lost", 3, do_zone},      {"back", 3, do_zone},         {"override", 4, do_override},
     {"clear", 2, do_clear},    {"ask", 2, do_ask},           {"plan", 3, do_plan},
     {"frame", 5, do_frame},    {"request", 2, do_request},   {"response", 3, do_response},
-    {"conf", 11, do_conf},
+    {"conf", 11, do_conf},     {"scrap", 4, do_scrap},
 };
 
 /* Words parted by one space: their count, or -1 where there are too many. */

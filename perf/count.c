@@ -11,13 +11,15 @@
 #define CALL(name) cekarum_##name
 static uint64_t device[CEKARUM_WORDS];
 #define DEVICE device
+static struct cekarum_receiver receiver;
 #else
 #define CALL(name) plain_##name
 static struct plain device;
 #define DEVICE &device
+static struct plain_receiver receiver;
 #endif
 
-static uint8_t in[PLAIN_FRAME_MAX], out[PLAIN_FRAME_MAX];
+static uint8_t in[PLAIN_FRAME_MAX], out[PLAIN_FRAME_MAX], room[PLAIN_FRAME_MAX];
 static size_t in_length;
 static int64_t rows[6 * PLAIN_ROWS];
 static volatile uint64_t kept; /* so that no call is left out */
@@ -272,6 +274,45 @@ static void overrides_and_clears(uint64_t times)
     }
 }
 
+/* A frame of 2,052 bytes, in scraps of so many bytes. */
+static void receive_by(size_t most)
+{
+    for (size_t at = 0; at < in_length;) {
+        size_t n = in_length - at < most ? in_length - at : most;
+#ifdef PROVED
+        struct cekarum_received got = cekarum_receive(&receiver, room, sizeof room, in + at, n);
+#else
+        struct plain_received got = plain_receive(&receiver, room, sizeof room, in + at, n);
+#endif
+        kept = got.number;
+        at += got.taken;
+    }
+}
+
+static void scraps_1(uint64_t times)
+{
+    for (uint64_t i = 0; i < times; i++)
+        receive_by(1);
+}
+
+static void scraps_64(uint64_t times)
+{
+    for (uint64_t i = 0; i < times; i++)
+        receive_by(64);
+}
+
+static void scraps_1460(uint64_t times)
+{
+    for (uint64_t i = 0; i < times; i++)
+        receive_by(1460);
+}
+
+static void scraps_all(uint64_t times)
+{
+    for (uint64_t i = 0; i < times; i++)
+        receive_by(2052);
+}
+
 /* Tries the counting itself: a hundred instructions and the loop around them. */
 static void hundred(uint64_t times)
 {
@@ -308,6 +349,10 @@ static const struct {
     {"join7", "join and leave, 7 others", 0, seven_zones, joins_and_leaves},
     {"lost", "lost and back, 2 zones", 0, two_zones, losts_and_backs},
     {"override", "override and clear", 0, no_zone, overrides_and_clears},
+    {"scrapall", "2,052 bytes received in one scrap", 0, string_2048, scraps_all},
+    {"scrap1460", "2,052 bytes received in scraps of 1,460", 0, string_2048, scraps_1460},
+    {"scrap64", "2,052 bytes received in scraps of 64", 0, string_2048, scraps_64},
+    {"scrap1", "2,052 bytes received in scraps of 1", 0, string_2048, scraps_1},
 };
 
 /* ---- the stack ---- */

@@ -46,5 +46,6 @@ const struct kernel KERNEL = {
     .write_request = plain_write_request,
     .read_response = plain_read_response,
     .write_response = plain_write_response,
+    .receive = plain_receive,
     .report = plain_report,
 };

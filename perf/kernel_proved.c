@@ -95,6 +95,14 @@ static struct plain_written write_response(uint64_t command, const struct plain_
     return written(cekarum_write_response(command, p, out, room));
 }
 
+static struct plain_received receive(struct plain_receiver *r, uint8_t *room, size_t room_length, const uint8_t *scrap, size_t n)
+{
+    struct cekarum_receiver words = {{r->have, r->need, r->closed}};
+    struct cekarum_received got = cekarum_receive(&words, room, room_length, scrap, n);
+    *r = (struct plain_receiver){words.words[0], words.words[1], words.words[2]};
+    return (struct plain_received){got.number, got.taken, got.length};
+}
+
 static struct plain_written report(const struct plain_inputs *in, const uint16_t *attributes, size_t n, uint64_t *pairs,
                                    size_t room)
 {
@@ -120,5 +128,6 @@ const struct kernel second_kernel = {
     .write_request = write_request,
     .read_response = read_response,
     .write_response = write_response,
+    .receive = receive,
     .report = report,
 };

@@ -16,3 +16,4 @@
 #define plain_read_response other_read_response
 #define plain_write_response other_write_response
 #define plain_report other_report
+#define plain_receive other_receive

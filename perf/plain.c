@@ -1015,3 +1015,48 @@ struct plain_written plain_report(const struct plain_inputs *in, const uint16_t 
     }
     return (struct plain_written){0, p.count};
 }
+
+/* ---- frames that come in scraps ---- */
+
+static bool is_open(const struct plain_receiver *r)
+{
+    if (r->closed != 0)
+        return false;
+    if (r->need == 0)
+        return r->have < 4;
+    return r->have >= 4 && r->have < r->need && r->need <= PLAIN_FRAME_MAX;
+}
+
+/* The prefix, part of which may stand in the room already. */
+static size_t prefix(const struct plain_receiver *r, const uint8_t *room, const uint8_t *scrap)
+{
+    size_t length = 0;
+    for (size_t i = 0; i < 4; i++)
+        length = length << 8 | (i < r->have ? room[i] : scrap[i - r->have]);
+    return length;
+}
+
+struct plain_received plain_receive(struct plain_receiver *r, uint8_t *room, size_t room_length, const uint8_t *scrap, size_t n)
+{
+    if (room_length < PLAIN_FRAME_MAX)
+        return (struct plain_received){15, 0, 0};
+    if (!is_open(r))
+        return (struct plain_received){1, 0, 0};
+    if (r->need == 0 && n >= 4 - r->have) {
+        size_t length = prefix(r, room, scrap);
+        if (length == 0 || length > PLAIN_FRAME_MAX - 4) {
+            *r = (struct plain_receiver){0, 0, 1};
+            return (struct plain_received){1, 0, 0};
+        }
+        r->need = 4 + length;
+    }
+    size_t left = r->need == 0 ? n : r->need - r->have, taken = n < left ? n : left;
+    memcpy(room + r->have, scrap, taken);
+    r->have += taken;
+    if (r->have != r->need)
+        return (struct plain_received){0, taken, 0};
+    uint64_t length = r->need;
+    if (length != 0)
+        *r = (struct plain_receiver){0, 0, 0};
+    return (struct plain_received){0, taken, length};
+}

@@ -101,6 +101,17 @@ struct plain_written plain_write_request(const struct plain_request *r, uint8_t 
 uint64_t plain_read_response(uint64_t command, const uint8_t *in, size_t n, struct plain_response *r);
 struct plain_written plain_write_response(uint64_t command, const struct plain_response *r, uint8_t *out, size_t room);
 
+/* Frames that come in scraps: have bytes stand in the room, need in all once the prefix is whole. All zero to begin. */
+struct plain_receiver {
+    uint64_t have, need, closed;
+};
+
+struct plain_received {
+    uint64_t number, taken, length;
+};
+
+struct plain_received plain_receive(struct plain_receiver *r, uint8_t *room, size_t room_length, const uint8_t *scrap, size_t n);
+
 /* Pairs: two numbers each, group then bit or attribute. */
 struct plain_written plain_report(const struct plain_inputs *in, const uint16_t *attributes, size_t n, uint64_t *pairs,
                                   size_t room);

@@ -16,7 +16,7 @@ use Rattle.frames.specs.Sizes.{payloadRoom}
 use Rattle.map_fields.specs.Puts.{Adds, Puts}
 use Rattle.map_fields.proofs.Added.{puts-fit}
 use Rattle.frames.specs.Writing.{itemFrame, writingNumber, refusedWith, writtenOf, leftBy}
-use Rattle.frames.specs.declared.prefix.Written.{Written}
+use Rattle.frames.specs.declared.sender.Written.{Written}
 
 -- what a writer answers and leaves, as its contract says it
 abbrev pub Writes : ℕ → List ℕ → List ℕ → Written → List ℕ → Type 0

@@ -1,29 +1,3 @@
--- A frame: four bytes of length, most significant first, and the payload. Assumes nothing: these are definitions.
-use Prim.Native.Nat.{ℕ, _+_, _-_}
-use mathlib.Core.Bool.{Bool, _&&_}
-use mathlib.Core.List.{List, _++_}
-use lib.ListN.{length, drop}
-use lib.Dec.{leb, eqb}
-use Rattle.bytes.specs.Bytes.{numberAt, bytesOf}
-
--- "four bytes of length"
-abbrev pub prefixBytes : ℕ
-prefixBytes = 4
-
--- "four bytes of length, most significant first, equal to the payload that follows; nothing after it"
-unfoldable pub frameOf : List ℕ → List ℕ
-frameOf payload = bytesOf prefixBytes (length payload) ++ payload
-
--- "Frame payload: 1 to 2,048 bytes"
-abbrev pub mostPayload : ℕ
-mostPayload = 2048
-
--- what follows the prefix
-abbrev pub payloadIn : List ℕ → List ℕ
-payloadIn frame = drop prefixBytes frame
-
--- the prefix says how many bytes follow it, and they are 1 to 2,048; a frame of which this is false is refused with 1
-unfoldable pub framed : List ℕ → Bool
-framed frame =
-    leb (prefixBytes + 1) (length frame) && leb (length frame - prefixBytes) mostPayload
-    && eqb (numberAt frame 0 prefixBytes) (length frame - prefixBytes)
+-- A frame's prefix, as `prefix` has it.
+unfoldable pub use Rattle.prefix.specs.Prefix.{frameOf, framed}
+pub use Rattle.prefix.specs.Prefix.{prefixBytes, mostPayload, payloadIn}

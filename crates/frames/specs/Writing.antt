@@ -8,7 +8,7 @@ use Rattle.bytes.specs.Bytes.{put}
 use Rattle.cbor.specs.Item.{Item, encode}
 use Rattle.messages.specs.Refusals.{firstOf}
 use Rattle.frames.specs.Prefix.{frameOf}
-use Rattle.frames.specs.declared.prefix.Written.{Written}
+use Rattle.frames.specs.declared.sender.Written.{Written}
 
 -- the frame of an item
 unfoldable pub itemFrame : Item → List ℕ

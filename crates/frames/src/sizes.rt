@@ -1,16 +1,4 @@
-// How many bytes frames have. The longest that are written are theorems of frame_laws.
-// The length in front of a payload.
-pub const PREFIX: usize = 4;
-
-// The longest payload.
-pub const PAYLOAD: usize = 2048;
-
-// The shortest frame: a payload is not empty.
-pub const SHORTEST: usize = PREFIX + 1;
-
-// The longest frame.
-pub const FRAME: usize = PREFIX + PAYLOAD;
-
+// How many bytes the frames that are written have. The longest are theorems of frame_laws.
 // The longest frame of a request that is written.
 pub const REQUEST: usize = 48;
 

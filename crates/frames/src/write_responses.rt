@@ -1,7 +1,7 @@
 // Responses, written.
-use crate::prefix::Written;
-use crate::prefix::refused;
-use crate::prefix::send;
+use crate::sender::Written;
+use crate::sender::refused;
+use crate::sender::send;
 use map_fields::count_amount;
 use map_fields::put_amount;
 use map_fields::put_map;

@@ -6,9 +6,13 @@ use lib.ListN.{length, drop}
 use lib.Dec.{leb, ltb, eqb}
 use Rattle.bytes.specs.Bytes.{numberAt, bytesOf}
 
+-- "four bytes of length"
+abbrev pub prefixBytes : ℕ
+prefixBytes = 4
+
 -- "four bytes of length, most significant first, equal to the payload that follows; nothing after it"
 unfoldable pub frameOf : List ℕ → List ℕ
-frameOf payload = bytesOf 4 (length payload) ++ payload
+frameOf payload = bytesOf prefixBytes (length payload) ++ payload
 
 -- "Frame payload: 1 to 2,048 bytes"
 abbrev pub mostPayload : ℕ
@@ -16,20 +20,22 @@ mostPayload = 2048
 
 -- the longest frame, prefix and payload
 abbrev pub mostFrame : ℕ
-mostFrame = 2052
+mostFrame = prefixBytes + mostPayload
 
 -- what follows the prefix
 abbrev pub payloadIn : List ℕ → List ℕ
-payloadIn frame = drop 4 frame
+payloadIn frame = drop prefixBytes frame
 
 -- the prefix says how many bytes follow it, and they are 1 to 2,048; a frame of which this is false is refused with 1
 unfoldable pub framed : List ℕ → Bool
-framed frame = ltb 4 (length frame) && leb (length frame - 4) mostPayload && eqb (numberAt frame 0 4) (length frame - 4)
+framed frame =
+    ltb prefixBytes (length frame) && leb (length frame - prefixBytes) mostPayload
+    && eqb (numberAt frame 0 prefixBytes) (length frame - prefixBytes)
 
 -- where the frame ends that s begins with; 5, the soonest, while its prefix is not whole
 unfoldable pub endOf : List ℕ → ℕ
-endOf s = cond (ltb (length s) 4) 5 (4 + numberAt s 0 4)
+endOf s = cond (ltb (length s) prefixBytes) (prefixBytes + 1) (prefixBytes + numberAt s 0 prefixBytes)
 
 -- "a length of 0 or above 2,048", with the prefix's four bytes
 unfoldable pub badEnd : ℕ → Bool
-badEnd e = leb e 4 || ltb mostFrame e
+badEnd e = leb e prefixBytes || ltb mostFrame e

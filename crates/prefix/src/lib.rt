@@ -7,7 +7,7 @@ pub const PREFIX: usize = 4;
 
 pub const PAYLOAD: usize = 2048;
 
-pub const FRAME: usize = 2052;
+pub const FRAME: usize = PREFIX + PAYLOAD;
 
 // Whether the prefix says how many bytes follow it, and they are 1 to 2,048.
 pub fn is_framed(frame: &[u8]) -> bool

@@ -3,8 +3,8 @@ use mathlib.Core.Path.{refl}
 use native.Mathlib.Omega.{arith}
 use Rattle.frames.proofs.Sends.{send-refused, send-whole}
 use borrow.Author.Needs.{needs}
-use Rattle.frames.proofs.prefix.send.Statement.{statement}
-use Rattle.frames.proofs.prefix.send.Tie as tie
+use Rattle.frames.proofs.sender.send.Statement.{statement}
+use Rattle.frames.proofs.sender.send.Tie as tie
 
 pub send-spec : {M : Type 1} → statement M
 send-spec =

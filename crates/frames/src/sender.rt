@@ -1,11 +1,9 @@
-// The length prefix: tested, and written with the payload.
-use crate::sizes::PAYLOAD;
-use crate::sizes::PREFIX;
-use crate::sizes::SHORTEST;
+// A payload written behind its length.
+use prefix::PREFIX;
 ghost use mathlib.Core.Path.{_≡_};
 ghost use Prim.Native.Nat.{_≤_, _<_, _^_};
 ghost use lib.ListN.{length, take};
-ghost use Rattle.frames.specs.Prefix.{framed, frameOf};
+ghost use Rattle.frames.specs.Prefix.{frameOf};
 ghost use Rattle.frames.specs.Writing.{refusedWith, writtenOf, leftBy};
 
 // What a writer answers: the refusal number or 0, and the length of the frame written.
@@ -13,20 +11,6 @@ ghost use Rattle.frames.specs.Writing.{refusedWith, writtenOf, leftBy};
 pub struct Written {
     pub number: u64,
     pub length: usize,
-}
-
-// Whether the prefix says how many bytes follow it, and they are 1 to 2,048.
-pub fn is_framed(frame: &[u8]) -> bool
-    ensures { λ r. ⌜ r ≡ framed (now (frame .entry)) ⌝ }
-{
-    if frame.len() < SHORTEST {
-        return false;
-    }
-    let n = frame.len() - PREFIX;
-    if PAYLOAD < n {
-        return false;
-    }
-    bytes::get_u32(frame, 0) == n as u64
 }
 
 // Refuses with n, and writes nothing.
