@@ -1,3 +1,4 @@
 pub mod Numbers
 pub mod Hex
+pub mod Starts
 pub mod Examples

@@ -19,8 +19,12 @@ use crate::words::split;
 use device::Settings;
 use device::State;
 use device::calls;
+ghost use mathlib.Core.Path.{_≡_};
 ghost use Prim.Native.Nat.{_≤_};
 ghost use lib.ListN.{length};
+ghost use Rattle.device.specs.Words.{fresh};
+ghost use Rattle.device.specs.Start.{refusedSettings};
+ghost use Rattle.lines.specs.Starts.{settingsIn};
 
 // The most words of a line.
 const WORDS: usize = 11;
@@ -54,7 +58,9 @@ fn numbers_of(rows: u64) -> u64 {
     0
 }
 
-fn settings_of(f: [u64; FIELDS]) -> Settings {
+fn settings_of(f: [u64; FIELDS]) -> Settings
+    ensures { λ r. ⌜ r ≡ settingsIn f ⌝ }
+{
     Settings {
         directions: f[0],
         limits: f[1] == 1,
@@ -330,6 +336,8 @@ pub fn answer(d: &mut State, s: &[u8], bytes: &mut [u8], out: &mut [u8], at: usi
 }
 
 // The device before the first start: the one that a refused start hands back.
-pub fn before_start(d: &mut State) {
+pub fn before_start(d: &mut State)
+    ensures { λ _. ⌜ now (d .exit) ≡ fresh refusedSettings ⌝ }
+{
     calls::start(d, settings_of([3, 0, 0, 0, 0, 0, 0, 0, 0, 0]));
 }
