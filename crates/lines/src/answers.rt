@@ -24,8 +24,12 @@ use words::read_hex;
 use words::read_list;
 use words::span;
 use words::split;
+ghost use mathlib.Core.Path.{_≡_};
 ghost use Prim.Native.Nat.{_≤_};
 ghost use lib.ListN.{length};
+ghost use Rattle.store.specs.Words.{fresh};
+ghost use Rattle.device.specs.Start.{refusedSettings};
+ghost use Rattle.lines.specs.Starts.{settingsIn};
 
 // The most words of a line.
 const WORDS: usize = 1 + FIELDS;
@@ -53,7 +57,9 @@ fn numbers_of(rows: u64) -> u64 {
     0
 }
 
-fn settings_of(f: [u64; FIELDS]) -> Settings {
+fn settings_of(f: [u64; FIELDS]) -> Settings
+    ensures { λ r. ⌜ r ≡ settingsIn f ⌝ }
+{
     Settings {
         directions: f[0],
         limits: f[1] == 1,
@@ -340,6 +346,8 @@ pub fn answer(
 }
 
 // The device before the first start: the one that a refused start hands back.
-pub fn before_start(d: &mut State) {
+pub fn before_start(d: &mut State)
+    ensures { λ _. ⌜ now (d .exit) ≡ fresh refusedSettings ⌝ }
+{
     kernel::start(d, settings_of([3, 0, 0, 0, 0, 0, 0, 0, 0, 0]));
 }
