@@ -1,3 +1,4 @@
+-- One byte and the width of the argument.
 use native.Mathlib.Omega.{arith}
 use mathlib.Core.Path.{ap, _∙_}
 use Prim.Native.Nat.{ℕ, _+_}

@@ -1,3 +1,4 @@
+-- Two stores are the two low bytes.
 use borrow.Author.Needs.{needs}
 use native.Mathlib.Omega.{arith}
 use lib.ListN.{length-set}

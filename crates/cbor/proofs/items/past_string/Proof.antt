@@ -1,3 +1,4 @@
+-- The test is the one of the definition, without a sum that could overflow.
 use borrow.Author.Tests.{le-leb, lt-leb}
 use borrow.Author.Needs.{needs}
 use Rattle.cbor.proofs.items.past_string.Statement.{statement}

@@ -1,3 +1,4 @@
+-- Two stores are the two that `noteAt` makes.
 use mathlib.Core.Path.{refl}
 use Rattle.cbor.specs.Pass.{noteAt}
 use borrow.Author.Needs.{needs}

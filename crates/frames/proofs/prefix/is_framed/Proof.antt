@@ -1,3 +1,4 @@
+-- The tests are those of the definition.
 use borrow.Author.Tests.{le-leb, lt-leb}
 use Rattle.frames.specs.Prefix.{framed}
 use borrow.Author.Needs.{needs}
@@ -12,4 +13,6 @@ is-framed-spec =
     (λ c. rw (lt-leb 5 _ (c .if1 .taken))) (λ c. search needs)
     (λ c. rw (le-leb 5 _ (c .before .if1 .left), lt-leb _ 2048 (c .if2 .taken)))
     (λ c κs. search needs)
-    (λ c. rw (le-leb 5 _ (c .before .before .if1 .left), le-leb _ 2048 (c .before .if2 .left), ← c .get-u32 .ensures)))
+    (λ c.
+    let at-if1 = c .before .before .if1 in
+    rw (le-leb 5 _ (at-if1 .left), le-leb _ 2048 (c .before .if2 .left), ← c .get-u32 .ensures)))

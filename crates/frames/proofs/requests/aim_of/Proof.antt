@@ -1,3 +1,4 @@
+-- By the case.
 use borrow.Author.Needs.{needs}
 use Rattle.frames.proofs.requests.aim_of.Statement.{statement}
 use Rattle.frames.proofs.requests.aim_of.Tie as tie

@@ -1,3 +1,4 @@
+-- Joined one after the other.
 use Rattle.frames.specs.Requests.{servedCommand}
 use borrow.Author.Needs.{needs}
 use Rattle.frames.proofs.requests.is_command.Statement.{statement}

@@ -1,3 +1,4 @@
+-- Joined one after the other.
 use Rattle.frames.specs.Responses.{stands}
 use borrow.Author.Needs.{needs}
 use Rattle.frames.proofs.responses.has_result.Statement.{statement}

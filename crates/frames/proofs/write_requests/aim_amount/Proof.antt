@@ -1,3 +1,4 @@
+-- By the case.
 use Rattle.map_fields.specs.Fields.{amountItem, aimItem}
 use borrow.Author.Needs.{needs}
 use Rattle.frames.proofs.write_requests.aim_amount.Statement.{statement}

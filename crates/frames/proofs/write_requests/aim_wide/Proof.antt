@@ -1,3 +1,4 @@
+-- By the case.
 use borrow.Author.Needs.{needs}
 use Rattle.frames.proofs.write_requests.aim_wide.Statement.{statement}
 use Rattle.frames.proofs.write_requests.aim_wide.Tie as tie

@@ -1,3 +1,4 @@
+-- By the case.
 use borrow.Author.Needs.{needs}
 use Rattle.frames.proofs.write_responses.amount_up_to.Statement.{statement}
 use Rattle.frames.proofs.write_responses.amount_up_to.Tie as tie

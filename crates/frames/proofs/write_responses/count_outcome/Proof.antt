@@ -1,3 +1,4 @@
+-- By the case.
 use Rattle.frames.specs.Responses.{outcomeItem}
 use borrow.Author.Needs.{needs}
 use Rattle.frames.proofs.write_responses.count_outcome.Statement.{statement}

@@ -1,3 +1,4 @@
+-- By the case.
 use Rattle.map_fields.specs.Fields.{amountItem}
 use borrow.Author.Needs.{needs}
 use Rattle.map_fields.proofs.puts.count_amount.Statement.{statement}

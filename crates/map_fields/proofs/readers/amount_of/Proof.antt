@@ -1,3 +1,4 @@
+-- The test is the one of the definition.
 use borrow.Author.Tests.{ne-eqb}
 use Rattle.map_fields.specs.Sights.{amountOf}
 use Rattle.map_fields.proofs.readers.amount_of.Statement.{statement}

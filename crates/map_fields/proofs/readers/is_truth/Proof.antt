@@ -1,3 +1,4 @@
+-- What is seen says which kind of item it is, and which one.
 use Rattle.map_fields.proofs.BySight.{truth-reads}
 use borrow.Author.Needs.{needs}
 use Rattle.map_fields.proofs.readers.is_truth.Statement.{statement}
