@@ -27,7 +27,9 @@ module _ (s : List ℕ) (q i : ℕ) (high : 24 ≤ i) where
       x : ℕ
       x = numberAt s q (widthOf i)
 
-      go : (a b : Bool) → eqb (infoOf x) i ≡ b → (cond a (cond b (Arg.Is x (q + widthOf i)) Arg.Bad) Arg.Bad ≡ Arg.Bad) ⊎ ((v : ℕ) × (infoOf v ≡ i) × (cond a (cond b (Arg.Is x (q + widthOf i)) Arg.Bad) Arg.Bad ≡ Arg.Is v (q + widthOf i)))
+      go : (a b : Bool) → eqb (infoOf x) i ≡ b
+          → (cond a (cond b (Arg.Is x (q + widthOf i)) Arg.Bad) Arg.Bad ≡ Arg.Bad)
+          ⊎ ((v : ℕ) × (infoOf v ≡ i) × (cond a (cond b (Arg.Is x (q + widthOf i)) Arg.Bad) Arg.Bad ≡ Arg.Is v (q + widthOf i)))
       go false b e = inl refl
       go true false e = inl refl
       go true true e = inr (x, eqb-true (infoOf x) i e, refl)
@@ -107,7 +109,8 @@ module _ (s : List ℕ) (p m v n i : ℕ) (len : n ≡ headLen v) (small : m < 8
   as-long = rw (lt-ltb m 8 small) (len ∙ sym (head-length m v))
 
   module _ (b : Bool) (room : b ≡ leb (p + n) (length s)) where
-    pub head-stored : b ≡ true → i ≡ infoOf v → (t : List ℕ) → t ≡ put (set s p (m * 32 + i)) (p + 1) (bytesOf (widthOf (infoOf v)) v) → (p + n ≡ pastWhole s p (headOf m v)) × (t ≡ putWhole s p (headOf m v))
+    pub head-stored : b ≡ true → i ≡ infoOf v → (t : List ℕ) → t ≡ put (set s p (m * 32 + i)) (p + 1) (bytesOf (widthOf (infoOf v)) v)
+        → (p + n ≡ pastWhole s p (headOf m v)) × (t ≡ putWhole s p (headOf m v))
     unfolding headBytes put
     head-stored y e t h =
         stored s (headOf m v) p n as-long b room t y (h ∙ rw (e, lt-ltb m 8 small, add-one p))

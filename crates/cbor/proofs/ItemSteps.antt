@@ -145,7 +145,12 @@ module _ (s : List ℕ) (m v q d : ℕ) where
   unfolding fromHead
   rest-flat out =
       let other : (k : ℕ) → 2 ≤ k → k ≤ 5 → eqb m k ≡ false = λ k g l. ne-eqb m k (λ z. out (omega arith) (omega arith)) in
-      rw (other 2 (omega arith) (omega arith), other 3 (omega arith) (omega arith), other 4 (omega arith) (omega arith), other 5 (omega arith) (omega arith)) (flat (Item.uint v) (Item.nint v) (Item.simple v) q (eqb m 0) (eqb m 1))
+      rw (
+        other 2 (omega arith) (omega arith),
+        other 3 (omega arith) (omega arith),
+        other 4 (omega arith) (omega arith),
+        other 5 (omega arith) (omega arith),
+      ) (flat (Item.uint v) (Item.nint v) (Item.simple v) q (eqb m 0) (eqb m 1))
 
   pub rest-string : 2 ≤ m → m < 4 → (r : ℕ) → r ≡ cond (leb v (length s - q)) (q + v) 0 → r ≡ pastOf (restAt s d (Head.Is m v q))
   unfolding fromHead

@@ -68,7 +68,8 @@ module _ (path level : ℕ) (l : List ℕ) (k : ℕ) (i : Item) where
   unfolding noteKey
   note-last h = let z : LEVELS - 1 - level ≡ 0 = omega arith in rw z
 
-  note-deeper : level + 1 < LEVELS → noteFrom path level l k i ≡ cond (eqb k (path % STEP)) (noted (noteFrom (path / STEP) (level + 1)) (noteHead level l k i) (pairsIn (some i))) (noteHead level l k i)
+  note-deeper : level + 1 < LEVELS
+      → noteFrom path level l k i ≡ cond (eqb k (path % STEP)) (noted (noteFrom (path / STEP) (level + 1)) (noteHead level l k i) (pairsIn (some i))) (noteHead level l k i)
   unfolding noteKey
   note-deeper h = let z : LEVELS - 1 - level ≡ suc (LEVELS - 1 - (level + 1)) = omega arith in rw z
 

@@ -146,8 +146,8 @@ key-low (suc n) path level d fit j h l k i e ok lt =
     by-key n path level l k i (λ (x : List ℕ). sightIn x j ≡ sightIn (noteHead level l k i) j) refl
     (noted-not (noteKey n (path / STEP) (level + 1)) (key-length n (path / STEP) (level + 1)) (w .0) j
     (λ m c x q o small.
-        key-low n (path / STEP) (level + 1) (w .0) (omega arith) j (omega arith) m c x q o small
-        ∙ note-there m ((level + 1) * KEYS + c) (sightOf (some x)) j (omega arith) (omega arith) (λ y. omega arith))
+    key-low n (path / STEP) (level + 1) (w .0) (omega arith) j (omega arith) m c x q o small
+    ∙ note-there m ((level + 1) * KEYS + c) (sightOf (some x)) j (omega arith) (omega arith) (λ y. omega arith))
     (pairsIn (some i)) 0 (noteHead level l k i) (w .1) (head-length level l k i ∙ e))
 
 -- a map along a path that leads nowhere is empty
@@ -181,11 +181,11 @@ module _ (key : ℕ) (small : key < KEYS) where
   own n path level d lo fit ps l ok e =
       noted-at (noteKey n path level) (key-length n path level) d (level * KEYS + key) key some small
       (λ m k i q o z.
-          key-low n path level d fit (level * KEYS + key) (omega arith) m k i q o (omega arith)
-          ∙ rw z (note-here m (level * KEYS + key) (sightOf (some i)) q (omega arith)))
+      key-low n path level d fit (level * KEYS + key) (omega arith) m k i q o (omega arith)
+      ∙ rw z (note-here m (level * KEYS + key) (sightOf (some i)) q (omega arith)))
       (λ m k i q o lt ne.
-          key-low n path level d fit (level * KEYS + key) (omega arith) m k i q o lt
-          ∙ note-there m (level * KEYS + k) (sightOf (some i)) (level * KEYS + key) (omega arith) (omega arith) (λ y. ne (omega arith)))
+      key-low n path level d fit (level * KEYS + key) (omega arith) m k i q o lt
+      ∙ note-there m (level * KEYS + k) (sightOf (some i)) (level * KEYS + key) (omega arith) (omega arith) (λ y. ne (omega arith)))
       ps lo l ok e
       ∙ ap (over (sightIn l (level * KEYS + key))) (bind-some (valueOf ps key))
 
@@ -293,9 +293,9 @@ places-keys l ps zero j k h = refl
 places-keys l ps (suc n) j k h =
     let first : sightIn l j ≡ sightOf (valueOf ps k) = rw (add-zero j, add-zero k) at (h 0 (omega arith)) in
     let rest = places-keys l ps n (j + 1) (k + 1) (λ i lt.
-        let a : j + (i + 1) ≡ j + 1 + i = omega arith in
-        let b : k + (i + 1) ≡ k + 1 + i = omega arith in
-        rw (a, b) at (h (i + 1) (omega arith))) in
+    let a : j + (i + 1) ≡ j + 1 + i = omega arith in
+    let b : k + (i + 1) ≡ k + 1 + i = omega arith in
+    rw (a, b) at (h (i + 1) (omega arith))) in
     rw (first, rest)
 
 places-along : (l : List ℕ) (n path level : ℕ) (ps : Pairs) → ((r key : ℕ) → r < n → key < KEYS → sightIn l ((level + r) * KEYS + key) ≡ sightOf (valueOf (mapAt r path ps) key))
@@ -306,12 +306,12 @@ places-along l (suc n) path level ps h =
     let split : suc n * KEYS ≡ KEYS + n * KEYS = omega arith in
     let next : level * KEYS + KEYS ≡ (level + 1) * KEYS = omega arith in
     let own = places-keys l ps KEYS (level * KEYS) 0 (λ i lt.
-        let a : (level + 0) * KEYS + i ≡ level * KEYS + i = omega arith in
-        let b : 0 + i ≡ i = omega arith in
-        rw b (rw a at (h 0 i (omega arith) lt))) in
+    let a : (level + 0) * KEYS + i ≡ level * KEYS + i = omega arith in
+    let b : 0 + i ≡ i = omega arith in
+    rw b (rw a at (h 0 i (omega arith) lt))) in
     let rest = places-along l n (path / STEP) (level + 1) (followed path ps) (λ r key lr lk.
-        let a : (level + suc r) * KEYS + key ≡ (level + 1 + r) * KEYS + key = omega arith in
-        rw a at (h (suc r) key (omega arith) lk)) in
+    let a : (level + suc r) * KEYS + key ≡ (level + 1 + r) * KEYS + key = omega arith in
+    rw a at (h (suc r) key (omega arith) lk)) in
     ap (places l (level * KEYS)) split ∙ places-add l KEYS (n * KEYS) (level * KEYS)
     ∙ ap (λ (t : List Sight). t ++ places l (level * KEYS + KEYS) (n * KEYS)) own
     ∙ ap (λ (j : ℕ). sightsFrom KEYS 0 ps ++ places l j (n * KEYS)) next
@@ -321,8 +321,8 @@ pub pass-exact : (path d lo : ℕ) (ps : Pairs) → OkPairs ps lo d → pass pat
 pass-exact path d lo ps ok =
     words-all (pass path ps) (noted-length (noteFrom path 0) (key-length (LEVELS - 1) path 0) blank ps ∙ length-replicate {A = ℕ} WORDS 8)
     ∙ ap wordsOf (places-along (pass path ps) LEVELS path 0 ps (λ r key lr lk.
-        let a : r * KEYS + key ≡ (0 + r) * KEYS + key = omega arith in
-        rw a at (pass-sight path d lo ps ok r key lr lk)))
+    let a : r * KEYS + key ≡ (0 + r) * KEYS + key = omega arith in
+    rw a at (pass-sight path d lo ps ok r key lr lk)))
 
 -- WHAT THE WORDS SHOW
 map-at : (f : Sight → ℕ) (l : List Sight) (k : ℕ) → k < length l → getD (map f l) k 0 ≡ f (getD l k noSight)

@@ -84,7 +84,8 @@ items-sound s d f hf (suc n) p e is le h =
     subst₂ (λ (z : Items) (j : ℕ). Stands s p (encodeItems z) j × (count z ≡ suc n) × OkItems z d) a b
     (join s (encode (u .0)) (encodeItems (v .0)) p (u .1) (v .1) (x .0) (y .0), ap suc (y .1), (x .1, y .2))
 
-pairs-sound : (s : List ℕ) → Bytes s → (d : ℕ) (f : ℕ → Got Item) → Sound s d f → (n lo p e : ℕ) (ps : Pairs) → p ≤ length s → pairsAt s f n lo p ≡ got ps e → Stands s p (encodePairs ps) e × (countPairs ps ≡ n) × OkPairs ps lo d
+pairs-sound : (s : List ℕ) → Bytes s → (d : ℕ) (f : ℕ → Got Item) → Sound s d f → (n lo p e : ℕ) (ps : Pairs) → p ≤ length s → pairsAt s f n lo p ≡ got ps e
+    → Stands s p (encodePairs ps) e × (countPairs ps ≡ n) × OkPairs ps lo d
 unfolding pairsAt Sound encode countPairs Ok
 pairs-sound s ok d f hf zero lo p e ps le h =
     let a : Pairs.empty ≡ ps = cc in
@@ -100,8 +101,11 @@ pairs-sound s ok d f hf (suc n) lo p e ps le h =
     let b : v .1 ≡ e = cc in
     let x = hf (w .1) (u .1) (u .0) (u .2) in
     let y = pairs-sound s ok d f hf n (w .0 + 1) (u .1) (v .1) (v .0) (x .0 .fits) (v .2) in
-    subst₂ (λ (z : Pairs) (j : ℕ). Stands s p (encodePairs z) j × (countPairs z ≡ suc n) × OkPairs z lo d) a b
-    (join s (headBytes 0 (w .0)) (encode (u .0) ++ encodePairs (v .0)) p (w .1) (v .1) (hd .stands) (join s (encode (u .0)) (encodePairs (v .0)) (w .1) (u .1) (v .1) (x .0) (y .0)), ap suc (y .1), (k .1, hd .small, x .1, y .2))
+    subst₂ (λ (z : Pairs) (j : ℕ). Stands s p (encodePairs z) j × (countPairs z ≡ suc n) × OkPairs z lo d) a b (
+      join s (headBytes 0 (w .0)) (encode (u .0) ++ encodePairs (v .0)) p (w .1) (v .1) (hd .stands) (join s (encode (u .0)) (encodePairs (v .0)) (w .1) (u .1) (v .1) (x .0) (y .0)),
+      ap suc (y .1),
+      (k .1, hd .small, x .1, y .2),
+    )
 
 -- above 5 the subset has false, true and null alone
 pub allowed-rest : (m v : ℕ) → Within m v → leb m 5 ≡ false → (m ≡ 7) × (20 ≤ v) × (v ≤ 22)
@@ -189,7 +193,8 @@ module _ (s : List ℕ) (ok : Bytes s) (D : ℕ) (is : ℕ → ℕ → Got Items
 pub item-sound : (s : List ℕ) → Bytes s → (d : ℕ) → Sound s d (itemAt s d)
 unfolding Sound itemAt Ok
 item-sound s ok zero = λ p e i.
-    from-sound s ok zero (λ n q. bad) (λ n q. bad) (λ n q x xs le h. absurd (let z : _≡_ {A = ℕ} 0 1 = cc in omega arith)) (λ n q x xs le h. absurd (let z : _≡_ {A = ℕ} 0 1 = cc in omega arith)) p e i (headAt s p) refl
+    from-sound s ok zero (λ n q. bad) (λ n q. bad)
+    (λ n q x xs le h. absurd (let z : _≡_ {A = ℕ} 0 1 = cc in omega arith)) (λ n q x xs le h. absurd (let z : _≡_ {A = ℕ} 0 1 = cc in omega arith)) p e i (headAt s p) refl
 item-sound s ok (suc d) = λ p e i.
     from-sound s ok (suc d) (itemsAt (itemAt s d)) (λ n q. pairsAt s (itemAt s d) n 0 q)
     (λ n q x xs le h. let r = items-sound s d (itemAt s d) (item-sound s ok d) n q x xs le h in (r .0, r .1, λ b. (omega (arith, r .1), r .2)))

@@ -76,16 +76,28 @@ abbrev pub From : ℕ → ℕ → ℕ → Type 0
 From least v i = (v < least → infoOf v ≡ i → ⊥) × (least ≤ v → infoOf v ≡ i)
 
 pub from-24 : (v : ℕ) → v < 256 → From 24 v 24
-from-24 v b = by-width (λ i w. (v < 24 → i ≡ 24 → ⊥) × (24 ≤ v → i ≡ 24)) v (λ h. (λ l e. omega arith, λ l. omega arith)) (λ g h. (λ l e. omega arith, λ l. omega arith)) (λ g h. (λ l e. omega arith, λ l. omega arith)) (λ g h. (λ l e. omega arith, λ l. omega arith)) (λ g. (λ l e. omega arith, λ l. omega arith))
+from-24 v b = by-width (λ i w. (v < 24 → i ≡ 24 → ⊥) × (24 ≤ v → i ≡ 24)) v (λ h. (λ l e. omega arith, λ l. omega arith)) (λ g h. (
+  λ l e. omega arith,
+  λ l. omega arith,
+)) (λ g h. (λ l e. omega arith, λ l. omega arith)) (λ g h. (λ l e. omega arith, λ l. omega arith)) (λ g. (λ l e. omega arith, λ l. omega arith))
 
 pub from-25 : (v : ℕ) → v < 65536 → From 256 v 25
-from-25 v b = by-width (λ i w. (v < 256 → i ≡ 25 → ⊥) × (256 ≤ v → i ≡ 25)) v (λ h. (λ l e. omega arith, λ l. omega arith)) (λ g h. (λ l e. omega arith, λ l. omega arith)) (λ g h. (λ l e. omega arith, λ l. omega arith)) (λ g h. (λ l e. omega arith, λ l. omega arith)) (λ g. (λ l e. omega arith, λ l. omega arith))
+from-25 v b = by-width (λ i w. (v < 256 → i ≡ 25 → ⊥) × (256 ≤ v → i ≡ 25)) v (λ h. (λ l e. omega arith, λ l. omega arith)) (λ g h. (
+  λ l e. omega arith,
+  λ l. omega arith,
+)) (λ g h. (λ l e. omega arith, λ l. omega arith)) (λ g h. (λ l e. omega arith, λ l. omega arith)) (λ g. (λ l e. omega arith, λ l. omega arith))
 
 pub from-26 : (v : ℕ) → v < 4294967296 → From 65536 v 26
-from-26 v b = by-width (λ i w. (v < 65536 → i ≡ 26 → ⊥) × (65536 ≤ v → i ≡ 26)) v (λ h. (λ l e. omega arith, λ l. omega arith)) (λ g h. (λ l e. omega arith, λ l. omega arith)) (λ g h. (λ l e. omega arith, λ l. omega arith)) (λ g h. (λ l e. omega arith, λ l. omega arith)) (λ g. (λ l e. omega arith, λ l. omega arith))
+from-26 v b = by-width (λ i w. (v < 65536 → i ≡ 26 → ⊥) × (65536 ≤ v → i ≡ 26)) v (λ h. (λ l e. omega arith, λ l. omega arith)) (λ g h. (
+  λ l e. omega arith,
+  λ l. omega arith,
+)) (λ g h. (λ l e. omega arith, λ l. omega arith)) (λ g h. (λ l e. omega arith, λ l. omega arith)) (λ g. (λ l e. omega arith, λ l. omega arith))
 
 pub from-27 : (v : ℕ) → From 4294967296 v 27
-from-27 v = by-width (λ i w. (v < 4294967296 → i ≡ 27 → ⊥) × (4294967296 ≤ v → i ≡ 27)) v (λ h. (λ l e. omega arith, λ l. omega arith)) (λ g h. (λ l e. omega arith, λ l. omega arith)) (λ g h. (λ l e. omega arith, λ l. omega arith)) (λ g h. (λ l e. omega arith, λ l. omega arith)) (λ g. (λ l e. omega arith, λ l. omega arith))
+from-27 v = by-width (λ i w. (v < 4294967296 → i ≡ 27 → ⊥) × (4294967296 ≤ v → i ≡ 27)) v (λ h. (λ l e. omega arith, λ l. omega arith)) (λ g h. (
+  λ l e. omega arith,
+  λ l. omega arith,
+)) (λ g h. (λ l e. omega arith, λ l. omega arith)) (λ g h. (λ l e. omega arith, λ l. omega arith)) (λ g. (λ l e. omega arith, λ l. omega arith))
 
 -- the width of an argument, by its size
 pub arg-width-0 : (v : ℕ) → v < 24 → 0 ≡ widthOf (infoOf v)

@@ -35,7 +35,8 @@ whole a b p = omega (arith, length-append a b)
 unfoldable Complete : List ℕ → ℕ → (ℕ → Got Item) → Type 0
 Complete s d f = (i : Item) (p : ℕ) (t : List ℕ) → Ok i d → drop p s ≡ encode i ++ t → f p ≡ got i (p + length (encode i))
 
-items-complete : (s : List ℕ) (d : ℕ) (f : ℕ → Got Item) → Complete s d f → (is : Items) (p : ℕ) (t : List ℕ) → OkItems is d → drop p s ≡ encodeItems is ++ t → itemsAt f (count is) p ≡ got is (p + length (encodeItems is))
+items-complete : (s : List ℕ) (d : ℕ) (f : ℕ → Got Item) → Complete s d f → (is : Items) (p : ℕ) (t : List ℕ) → OkItems is d → drop p s ≡ encodeItems is ++ t
+    → itemsAt f (count is) p ≡ got is (p + length (encodeItems is))
 unfolding itemsAt Complete encode count Ok
 items-complete s d f hf Items.none p t ok e = ap (got Items.none) (omega arith)
 items-complete s d f hf (Items.more i is) p t ok e =
@@ -44,7 +45,8 @@ items-complete s d f hf (Items.more i is) p t ok e =
     let y = items-complete s d f hf is (p + length (encode i)) t (ok .1) (past (encode i) (encodeItems is ++ t) s p e1) in
     rw (x, y) (ap (got (Items.more i is)) (whole (encode i) (encodeItems is) p))
 
-pairs-complete : (s : List ℕ) (d : ℕ) (f : ℕ → Got Item) → Complete s d f → (ps : Pairs) (lo p : ℕ) (t : List ℕ) → OkPairs ps lo d → drop p s ≡ encodePairs ps ++ t → pairsAt s f (countPairs ps) lo p ≡ got ps (p + length (encodePairs ps))
+pairs-complete : (s : List ℕ) (d : ℕ) (f : ℕ → Got Item) → Complete s d f → (ps : Pairs) (lo p : ℕ) (t : List ℕ) → OkPairs ps lo d → drop p s ≡ encodePairs ps ++ t
+    → pairsAt s f (countPairs ps) lo p ≡ got ps (p + length (encodePairs ps))
 unfolding pairsAt keyAt Complete encode countPairs Ok
 pairs-complete s d f hf Pairs.empty lo p t ok e = ap (got Pairs.empty) (omega arith)
 pairs-complete s d f hf (Pairs.pair k i ps) lo p t ok e =

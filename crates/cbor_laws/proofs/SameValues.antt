@@ -21,7 +21,8 @@ first-key j k i l ps qs d ok h = ⊎-elim
     (λ le. le)
     (below j k)
 
-tails : (j k : ℕ) (i l : Item) (ps qs : Pairs) (d : ℕ) → j ≡ k → OkPairs ps (j + 1) d → OkPairs qs (k + 1) d → ((n : ℕ) → valueOf (Pairs.pair j i ps) n ≡ valueOf (Pairs.pair k l qs) n) → (n : ℕ) → valueOf ps n ≡ valueOf qs n
+tails : (j k : ℕ) (i l : Item) (ps qs : Pairs) (d : ℕ) → j ≡ k → OkPairs ps (j + 1) d → OkPairs qs (k + 1) d → ((n : ℕ) → valueOf (Pairs.pair j i ps) n ≡ valueOf (Pairs.pair k l qs) n)
+    → (n : ℕ) → valueOf ps n ≡ valueOf qs n
 tails j k i l ps qs d e a b h n = ⊎-elim
     (λ lt. none-below ps (j + 1) d n a lt ∙ sym (none-below qs (k + 1) d n b (omega arith)))
     (λ le. sym (value-there j n i ps (λ z. omega arith)) ∙ h n ∙ value-there k n l qs (λ z. omega arith))

@@ -54,18 +54,34 @@ module _ (s : List ℕ) (d key : ℕ) (all : Pairs) where
       let o = t .order in
       let a = key-again s 0 p (t .key) (t .at) (t .head) (omega arith) in
       let w : valueOf all key ≡ valueOf (Pairs.pair (t .key) (t .item) (t .rest)) key = sym (same key le) ∙ ap (λ (x : Pairs). valueOf x key) (t .whole) in
-      let behind : ((k : ℕ) → t .key + 1 ≤ k → valueOf (t .rest) k ≡ valueOf all k) = λ k g. sym (value-there (t .key) k (t .item) (t .rest) (λ z. omega arith)) ∙ ap (λ (x : Pairs). valueOf x k) (sym (t .whole)) ∙ same k (omega arith) in
+      let behind : ((k : ℕ) → t .key + 1 ≤ k → valueOf (t .rest) k ≡ valueOf all k) = λ k g. sym (value-there (t .key) k (t .item) (t .rest) (λ z. omega arith))
+      ∙ ap (λ (x : Pairs). valueOf x k) (sym (t .whole)) ∙ same k (omega arith) in
       ⊎-elim
-      (λ (lt : t .key < key). rw (a, ne-eqb (t .key) key (λ z. omega arith), le-ltb key (t .key) (omega arith), t .value) (sought n (t .key + 1) (t .next) end (t .rest) (t .behind) behind (omega arith)))
+      (λ (lt : t .key < key). rw (
+        a,
+        ne-eqb (t .key) key (λ z. omega arith),
+        le-ltb key (t .key) (omega arith),
+        t .value,
+      ) (sought n (t .key + 1) (t .next) end (t .rest) (t .behind) behind (omega arith)))
       (λ (ge : key ≤ t .key). ⊎-elim
       (λ (gt : key < t .key).
-      let v : valueOf all key ≡ none = w ∙ value-there (t .key) key (t .item) (t .rest) (λ z. omega arith) ∙ none-below s (itemAt s d) n (t .key + 1) (t .next) end key (t .rest) (t .behind) (omega arith) in
-      let again : pairsAt s (itemAt s d) (suc n) (key + 1) p ≡ got rest end = rw (key-again s (key + 1) p (t .key) (t .at) (t .head) (omega arith), t .value, t .behind) (ap (λ (x : Pairs). got x end) (sym (t .whole))) in
+      let v : valueOf all key ≡ none = w ∙ value-there (t .key) key (t .item) (t .rest) (λ z. omega arith)
+      ∙ none-below s (itemAt s d) n (t .key + 1) (t .next) end key (t .rest) (t .behind) (omega arith) in
+      let again : pairsAt s (itemAt s d) (suc n) (key + 1) p ≡ got rest end = rw (
+        key-again s (key + 1) p (t .key) (t .at) (t .head) (omega arith),
+        t .value,
+        t .behind,
+      ) (ap (λ (x : Pairs). got x end) (sym (t .whole))) in
       rw (v, a, ne-eqb (t .key) key (λ z. omega arith), lt-ltb key (t .key) gt) (refl, record { rest = rest; end = end; reads = again; same = λ k g. same k (omega arith) }))
       (λ (eq : t .key ≤ key).
       let z : t .key ≡ key = omega arith in
       let v : valueOf all key ≡ some (t .item) = w ∙ value-here (t .key) key (t .item) (t .rest) z in
-      rw (v, a, eq-eqb (t .key) key z) (refl, t .next, t .value, record { rest = t .rest; end = end; reads = ap (λ (j : ℕ). pairsAt s (itemAt s d) n (j + 1) (t .next)) (sym z) ∙ t .behind; same = λ k g. behind k (omega arith) }))
+      rw (v, a, eq-eqb (t .key) key z) (
+        refl,
+        t .next,
+        t .value,
+        record { rest = t .rest; end = end; reads = ap (λ (j : ℕ). pairsAt s (itemAt s d) n (j + 1) (t .next)) (sym z) ∙ t .behind; same = λ k g. behind k (omega arith) },
+      ))
       (below key (t .key)))
       (below (t .key) key)
 

@@ -147,7 +147,8 @@ value-simple null v f false x e = absurd (no-value e)
 field-is : (z : ℤ) (f : Field) → some (Field.Value z) ≡ some f → Field.Value z ≡ f
 field-is z f e = cc
 
-number-value : (i : Item) (z : ℤ) (b : Bool) (null : Bool) (f : Field) → some i ≡ valueItem (Field.Value z) → (b ≡ true → Field64 (Field.Value z)) → cond b (some (Field.Value z)) none ≡ some f → (some i ≡ valueItem f) × Field64 f × Allowed null f
+number-value : (i : Item) (z : ℤ) (b : Bool) (null : Bool) (f : Field) → some i ≡ valueItem (Field.Value z) → (b ≡ true → Field64 (Field.Value z))
+    → cond b (some (Field.Value z)) none ≡ some f → (some i ≡ valueItem f) × Field64 f × Allowed null f
 number-value i z true null f h g e = rw (← field-is z f e) (h, g refl, tt)
 number-value i z false null f h g e = absurd (no-value e)
 

@@ -152,11 +152,11 @@ request-longest r e =
     let at : (r .endpoint ≡ 1) × (r .feature ≡ 5) = (eqb-true (r .endpoint) 1 (and-left _ _ s), eqb-true (r .feature) 5 (and-right (eqb (r .endpoint) 1) _ s)) in
     let c = wire-served (r .command) (is-served r e) in
     let m = map-long (requestFields r) 43 (omega arith)
-        (pairs-more 1 _ _ 6 37 (uint-long 1 (omega arith) (r .id) 5 (len-5 (r .id) (omega (arith, g .0))))
-        (pairs-more 2 _ _ 2 35 (uint-long 2 (omega arith) (r .endpoint) 1 (len-1 (r .endpoint) (omega (arith, at .0))))
-        (pairs-more 3 _ _ 2 33 (uint-long 3 (omega arith) (r .feature) 1 (len-1 (r .feature) (omega (arith, at .1))))
-        (pairs-more 4 _ _ 2 31 (uint-long 4 (omega arith) (wireNumber (r .command)) 1 (len-1 (wireNumber (r .command)) (omega (arith, c .0))))
-        (pairs-more 5 _ _ 31 0 (below-long 5 (omega arith) (commandFields (r .command)) 29 (omega (arith, command-few (r .command))) (command-long (r .command) (g .3))) pairs-none))))) in
+    (pairs-more 1 _ _ 6 37 (uint-long 1 (omega arith) (r .id) 5 (len-5 (r .id) (omega (arith, g .0))))
+    (pairs-more 2 _ _ 2 35 (uint-long 2 (omega arith) (r .endpoint) 1 (len-1 (r .endpoint) (omega (arith, at .0))))
+    (pairs-more 3 _ _ 2 33 (uint-long 3 (omega arith) (r .feature) 1 (len-1 (r .feature) (omega (arith, at .1))))
+    (pairs-more 4 _ _ 2 31 (uint-long 4 (omega arith) (wireNumber (r .command)) 1 (len-1 (wireNumber (r .command)) (omega (arith, c .0))))
+    (pairs-more 5 _ _ 31 0 (below-long 5 (omega arith) (commandFields (r .command)) 29 (omega (arith, command-few (r .command))) (command-long (r .command) (g .3))) pairs-none))))) in
     omega (arith, frame-length (Item.map (present (requestFields r))), m)
 
 -- RESPONSES
@@ -173,11 +173,11 @@ limit-long l h =
 setpoint-long : (l : SetpointResult) → length (encodePairs (present (setpointFields l))) ≤ 26
 unfolding setpointFields
 setpoint-long l = omega (
-    arith,
-    pairs-more 1 (some (truthItem true)) _ 2 20 (truth-long 1 (omega arith) true)
-    (pairs-more 2 (amountItem (l .consumption)) _ 10 10 (amount-long 2 (omega arith) (l .consumption))
-    (pairs-more 3 (amountItem (l .production)) [] 10 0 (amount-long 3 (omega arith) (l .production)) pairs-none)),
-  )
+  arith,
+  pairs-more 1 (some (truthItem true)) _ 2 20 (truth-long 1 (omega arith) true)
+      (pairs-more 2 (amountItem (l .consumption)) _ 10 10 (amount-long 2 (omega arith) (l .consumption))
+      (pairs-more 3 (amountItem (l .production)) [] 10 0 (amount-long 3 (omega arith) (l .production)) pairs-none)),
+)
 
 clear-long : length (encodePairs (present clearFields)) ≤ 26
 unfolding clearFields
@@ -213,9 +213,9 @@ response-long : (r : Response) → r .id ≤ most32 → r .status ≤ 14 → len
 unfolding responseItem responseFields
 response-long r a b o =
     let m = map-long (responseFields r) 36 (omega arith)
-        (pairs-more 1 _ _ 6 30 (uint-long 1 (omega arith) (r .id) 5 (len-5 (r .id) (omega arith)))
-        (pairs-more 2 _ _ 2 28 (uint-long 2 (omega arith) (r .status) 1 (len-1 (r .status) (omega arith)))
-        (pairs-more 3 _ _ 28 0 o pairs-none))) in
+    (pairs-more 1 _ _ 6 30 (uint-long 1 (omega arith) (r .id) 5 (len-5 (r .id) (omega arith)))
+    (pairs-more 2 _ _ 2 28 (uint-long 2 (omega arith) (r .status) 1 (len-1 (r .status) (omega arith)))
+    (pairs-more 3 _ _ 28 0 o pairs-none))) in
     omega (arith, frame-length (Item.map (present (responseFields r))), m)
 
 pub response-longest : ResponseLongest

@@ -117,7 +117,8 @@ held : (ps : Pairs) (fs : Fields) (k : ℕ) → Holds ps fs → (hasKey fs k ≡
 held ps [] k h n = n refl
 held ps (f ∷ fs) k h n = go (eqb (f .0) k) refl n (λ m. held ps fs k (h .1) m)
   where
-    go : (b : Bool) → eqb (f .0) k ≡ b → ((b || hasKey fs k) ≡ false → valueOf ps k ≡ none) → ((hasKey fs k ≡ false → valueOf ps k ≡ none) → valueOf ps k ≡ fieldAt fs k) → valueOf ps k ≡ cond b (f .1) (fieldAt fs k)
+    go : (b : Bool) → eqb (f .0) k ≡ b → ((b || hasKey fs k) ≡ false → valueOf ps k ≡ none) → ((hasKey fs k ≡ false → valueOf ps k ≡ none) → valueOf ps k ≡ fieldAt fs k)
+        → valueOf ps k ≡ cond b (f .1) (fieldAt fs k)
     go true x n rest = ap (valueOf ps) (sym (eqb-true (f .0) k x)) ∙ h .0
     go false x n rest = rest n
 

@@ -154,21 +154,25 @@ module _ (ps : Pairs) where
   again-clear-limit x e =
       let p = map-part Command.ClearLimit (aimIn (valueOf ps 1)) x e in
       let a = aim-again (valueOf ps 1) (p .0) (p .1) in
-      subst (λ (y : Command). Again 2 ps y) (p .2) (record { number = refl; served = refl; range = a .1; bits = tt; same = λ lo d ok keys z. clear-same ps (p .0) (a .0) lo d ok keys (command-ok (Command.ClearLimit (p .0)) d (a .1) tt) })
+      subst (λ (y : Command). Again 2 ps y) (p .2)
+      (record { number = refl; served = refl; range = a .1; bits = tt; same = λ lo d ok keys z. clear-same ps (p .0) (a .0) lo d ok keys (command-ok (Command.ClearLimit (p .0)) d (a .1) tt) })
 
   again-clear-setpoint : (x : Command) → Option·map Command.ClearSetpoint (aimIn (valueOf ps 1)) ≡ some x → Again 4 ps x
   unfolding commandFields commandWide
   again-clear-setpoint x e =
       let p = map-part Command.ClearSetpoint (aimIn (valueOf ps 1)) x e in
       let a = aim-again (valueOf ps 1) (p .0) (p .1) in
-      subst (λ (y : Command). Again 4 ps y) (p .2) (record { number = refl; served = refl; range = a .1; bits = tt; same = λ lo d ok keys z. clear-same ps (p .0) (a .0) lo d ok keys (command-ok (Command.ClearSetpoint (p .0)) d (a .1) tt) })
+      subst (λ (y : Command). Again 4 ps y) (p .2)
+      (record { number = refl; served = refl; range = a .1; bits = tt; same = λ lo d ok keys z. clear-same ps (p .0) (a .0) lo d ok keys (command-ok (Command.ClearSetpoint (p .0)) d (a .1) tt) })
 
   pub command-again : (c : ℕ) (x : Command) → servedCommand c ≡ true → commandIn c ps ≡ some x → Again c ps x
   unfolding servedCommand commandIn
   command-again c x s e = go (eqb c 1) (eqb c 2) (eqb c 3) refl refl refl e
     where
       go : (p q r : Bool) → eqb c 1 ≡ p → eqb c 2 ≡ q → eqb c 3 ≡ r
-          → cond p (Option·map (λ s. Command.SetLimit (limitsFrom s)) (settingIn true ps)) (cond q (Option·map Command.ClearLimit (aimIn (valueOf ps 1))) (cond r (Option·map (λ s. Command.SetSetpoint (setpointsFrom s)) (settingIn false ps)) (Option·map Command.ClearSetpoint (aimIn (valueOf ps 1))))) ≡ some x
+          → cond p (Option·map (λ s. Command.SetLimit (limitsFrom s)) (settingIn true ps))
+          (cond q (Option·map Command.ClearLimit (aimIn (valueOf ps 1))) (cond r (Option·map (λ s. Command.SetSetpoint (setpointsFrom s)) (settingIn false ps))
+          (Option·map Command.ClearSetpoint (aimIn (valueOf ps 1))))) ≡ some x
           → Again c ps x
       go true q r a b d h = subst (λ (n : ℕ). Again n ps x) (sym (eqb-true c 1 a)) (again-limit x h)
       go false true r a b d h = subst (λ (n : ℕ). Again n ps x) (sym (eqb-true c 2 b)) (again-clear-limit x h)
@@ -222,12 +226,21 @@ message-again : (ps : Pairs) (r : Request) → fromEnvelope (envelopeIn ps) ≡ 
 unfolding fromEnvelope
 message-again ps r h = go (envelopeIn ps) refl h
   where
-    with-one : (e : Envelope) → envelopeIn ps ≡ some e → (servedAt (e .endpoint) (e .feature) && servedCommand (e .command)) ≡ true → (o : Option Command) → commandIn (e .command) (e .parameters) ≡ o → withCommand e o ≡ Reading.Is r → ReadFrom ps r
+    with-one : (e : Envelope) → envelopeIn ps ≡ some e → (servedAt (e .endpoint) (e .feature) && servedCommand (e .command)) ≡ true → (o : Option Command)
+        → commandIn (e .command) (e .parameters) ≡ o → withCommand e o ≡ Reading.Is r → ReadFrom ps r
     with-one e q s (some c) x y =
-        record { env = e; command = c; parts = envelope-again ps e q; at = and-left _ _ s; again = command-again (e .parameters) (e .command) c (and-right (servedAt (e .endpoint) (e .feature)) _ s) x; is = cc }
+        record {
+          env = e;
+          command = c;
+          parts = envelope-again ps e q;
+          at = and-left _ _ s;
+          again = command-again (e .parameters) (e .command) c (and-right (servedAt (e .endpoint) (e .feature)) _ s) x;
+          is = cc;
+        }
     with-one e q s none x y = absurd (no-reading _ y 3 refl)
 
-    served-one : (e : Envelope) → envelopeIn ps ≡ some e → (b : Bool) → (servedAt (e .endpoint) (e .feature) && servedCommand (e .command)) ≡ b → cond b (withCommand e (commandIn (e .command) (e .parameters))) (Reading.Unserved (e .id)) ≡ Reading.Is r → ReadFrom ps r
+    served-one : (e : Envelope) → envelopeIn ps ≡ some e → (b : Bool) → (servedAt (e .endpoint) (e .feature) && servedCommand (e .command)) ≡ b
+        → cond b (withCommand e (commandIn (e .command) (e .parameters))) (Reading.Unserved (e .id)) ≡ Reading.Is r → ReadFrom ps r
     served-one e q true s y = with-one e q s (commandIn (e .command) (e .parameters)) refl y
     served-one e q false s y = absurd (let z : _≡_ {A = ℕ} 0 1 = cc in omega arith)
 
@@ -264,8 +277,17 @@ writable : (ps : Pairs) (r : Request) → ReadFrom ps r → Command64 (r .comman
 unfolding requestNumber requestWide requestUnserved firstOf
 writable ps r f =
     let p = f .parts in
-    subst (λ (x : Request). Command64 (x .command) × (requestNumber x ≡ 0)) (f .is)
-    (f .again .bits, rw (le-ltb most32 (f .env .id) (p .first .1), le-ltb 255 (f .env .endpoint) (p .second .1), le-ltb 65535 (f .env .feature) (p .third .1), f .again .range, f .at, f .again .served))
+    subst (λ (x : Request). Command64 (x .command) × (requestNumber x ≡ 0)) (f .is) (
+      f .again .bits,
+      rw (
+        le-ltb most32 (f .env .id) (p .first .1),
+        le-ltb 255 (f .env .endpoint) (p .second .1),
+        le-ltb 65535 (f .env .feature) (p .third .1),
+        f .again .range,
+        f .at,
+        f .again .served,
+      ),
+    )
 
 pub request-writable : RequestWritable
 request-writable frame r h = let x = request-read frame r h in writable (x .pairs) r (x .from)

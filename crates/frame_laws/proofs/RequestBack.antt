@@ -42,9 +42,15 @@ module _ (s : Setting) where
 
   pub setting-ok : (d : ℕ) → Field64 (s .consumption) → Field64 (s .production) → amountUpTo most32 (s .duration) ≡ true → s .cause ≤ 255 → OkFields (settingFields s) d
   unfolding settingFields
-  setting-ok d a b x y =
-      (omega arith, ok-value (s .consumption) d a, (omega arith, ok-value (s .production) d b,
-      (omega arith, ok-amount most32 (s .duration) d (omega arith) x, (omega arith, ok-uint (s .cause) d (omega arith), tt))))
+  setting-ok d a b x y = (
+    omega arith,
+    ok-value (s .consumption) d a,
+    (
+      omega arith,
+      ok-value (s .production) d b,
+      (omega arith, ok-amount most32 (s .duration) d (omega arith) x, (omega arith, ok-uint (s .cause) d (omega arith), tt)),
+    ),
+  )
 
   setting-short : ShortFields (settingFields s) 18
   unfolding settingFields
@@ -146,7 +152,8 @@ command-back (Command.ClearLimit a) s w h = rw (values ((1, aimItem a) ∷ []) 0
 command-back (Command.SetSetpoint l) s w h =
     let x = wide-parts (l .duration) (l .cause) w in
     rw (
-      setting-back (settingOfSetpoints l) false (allowed-target (l .consumption)) (allowed-target (l .production)) (field-64 (l .consumption) (h .0)) (field-64 (l .production) (h .1)) (duration-range (l .duration) (x .0)) (x .1),
+      setting-back (settingOfSetpoints l) false (allowed-target (l .consumption)) (allowed-target (l .production))
+          (field-64 (l .consumption) (h .0)) (field-64 (l .production) (h .1)) (duration-range (l .duration) (x .0)) (x .1),
       same-setpoints l,
     )
 command-back (Command.ClearSetpoint a) s w h = rw (values ((1, aimItem a) ∷ []) 0 1 (omega arith, tt), aim-back a w)
@@ -174,8 +181,23 @@ module _ (r : Request) where
 
   pub request-ok : r .id ≤ most32 → r .endpoint ≤ 255 → r .feature ≤ 65535 → wireNumber (r .command) ≤ 65535 → commandWide (r .command) ≡ false → Command64 (r .command) → OkFields (requestFields r) 7
   unfolding requestFields
-  request-ok a b c d w h =
-      (omega arith, ok-uint (r .id) 7 (omega arith), (omega arith, ok-uint (r .endpoint) 7 (omega arith), (omega arith, ok-uint (r .feature) 7 (omega arith), (omega arith, ok-uint (wireNumber (r .command)) 7 (omega arith), (omega arith, ok-map (commandFields (r .command)) 6 (omega (arith, command-few (r .command))) (command-ascend (r .command)) (command-ok (r .command) 6 w h), tt)))))
+  request-ok a b c d w h = (
+    omega arith,
+    ok-uint (r .id) 7 (omega arith),
+    (
+      omega arith,
+      ok-uint (r .endpoint) 7 (omega arith),
+      (
+        omega arith,
+        ok-uint (r .feature) 7 (omega arith),
+        (
+          omega arith,
+          ok-uint (wireNumber (r .command)) 7 (omega arith),
+          (omega arith, ok-map (commandFields (r .command)) 6 (omega (arith, command-few (r .command))) (command-ascend (r .command)) (command-ok (r .command) 6 w h), tt),
+        ),
+      ),
+    ),
+  )
 
   pub request-few : length (requestFields r) < 2 ^ 64
   unfolding requestFields
@@ -190,7 +212,10 @@ module _ (r : Request) where
   request-short : (1 ≤ length (encode (requestItem r))) × (length (encode (requestItem r)) ≤ 459)
   unfolding requestItem requestFields
   request-short =
-      let h : ShortFields (requestFields r) 90 = (omega (arith, short-uint 1 (r .id)), (omega (arith, short-uint 2 (r .endpoint)), (omega (arith, short-uint 3 (r .feature)), (omega (arith, short-uint 4 (wireNumber (r .command))), (inner-short, tt))))) in
+      let h : ShortFields (requestFields r) 90 = (
+        omega (arith, short-uint 1 (r .id)),
+        (omega (arith, short-uint 2 (r .endpoint)), (omega (arith, short-uint 3 (r .feature)), (omega (arith, short-uint 4 (wireNumber (r .command))), (inner-short, tt)))),
+      ) in
       map-short (requestFields r) 90 h
 
   module _ (e : requestNumber r ≡ 0) where
@@ -201,8 +226,12 @@ module _ (r : Request) where
     pub request-ranges : (r .id ≤ most32) × (r .endpoint ≤ 255) × (r .feature ≤ 65535) × (commandWide (r .command) ≡ false)
     unfolding requestWide
     request-ranges =
-        let w = parts .0 in
-        (ltb-false most32 (r .id) (or-left _ _ (or-left _ _ (or-left _ _ w))), ltb-false 255 (r .endpoint) (or-right (ltb most32 (r .id)) _ (or-left _ _ (or-left _ _ w))), ltb-false 65535 (r .feature) (or-right (ltb most32 (r .id) || ltb 255 (r .endpoint)) _ (or-left _ _ w)), or-right (ltb most32 (r .id) || ltb 255 (r .endpoint) || ltb 65535 (r .feature)) _ w)
+        let w = parts .0 in (
+          ltb-false most32 (r .id) (or-left _ _ (or-left _ _ (or-left _ _ w))),
+          ltb-false 255 (r .endpoint) (or-right (ltb most32 (r .id)) _ (or-left _ _ (or-left _ _ w))),
+          ltb-false 65535 (r .feature) (or-right (ltb most32 (r .id) || ltb 255 (r .endpoint)) _ (or-left _ _ w)),
+          or-right (ltb most32 (r .id) || ltb 255 (r .endpoint) || ltb 65535 (r .feature)) _ w,
+        )
 
     pub request-served : (servedAt (r .endpoint) (r .feature) && isServed (r .command)) ≡ true
     unfolding requestUnserved
@@ -215,17 +244,36 @@ module _ (r : Request) where
     item-ok : Ok (requestItem r) levels
     unfolding requestItem
     item-ok =
-        ok-map (requestFields r) 7 request-few request-ascend (request-ok (request-ranges e .0) (request-ranges e .1) (request-ranges e .2) (omega (arith, wire-served (r .command) (is-served e) .0)) (request-ranges e .3) h)
+        ok-map (requestFields r) 7 request-few request-ascend (request-ok (request-ranges e .0) (request-ranges e .1) (request-ranges e .2) (omega (
+          arith,
+          wire-served (r .command) (is-served e) .0,
+        )) (request-ranges e .3) h)
 
-    envelope-back : envelopeIn (present (requestFields r)) ≡ some (record { id = r .id; endpoint = r .endpoint; feature = r .feature; command = wireNumber (r .command); parameters = present (commandFields (r .command)) })
+    envelope-back : envelopeIn (present (requestFields r))
+        ≡ some (record { id = r .id; endpoint = r .endpoint; feature = r .feature; command = wireNumber (r .command); parameters = present (commandFields (r .command)) })
     unfolding envelopeIn bind requestFields needed mapIn
     envelope-back =
         let v : (k : ℕ) → _ = λ (k : ℕ). values (requestFields r) 0 k request-ascend in
-        rw (v 1, v 2, v 3, v 4, v 5, uint-back most32 (r .id) (request-ranges e .0), uint-back 255 (r .endpoint) (request-ranges e .1), uint-back 65535 (r .feature) (request-ranges e .2), uint-back 65535 (wireNumber (r .command)) (omega (arith, wire-served (r .command) (is-served e) .0)))
+        rw (
+          v 1,
+          v 2,
+          v 3,
+          v 4,
+          v 5,
+          uint-back most32 (r .id) (request-ranges e .0),
+          uint-back 255 (r .endpoint) (request-ranges e .1),
+          uint-back 65535 (r .feature) (request-ranges e .2),
+          uint-back 65535 (wireNumber (r .command)) (omega (arith, wire-served (r .command) (is-served e) .0)),
+        )
 
     message-back : fromEnvelope (envelopeIn (present (requestFields r))) ≡ Reading.Is r
     unfolding fromEnvelope
-    message-back = rw (envelope-back, and-left (servedAt (r .endpoint) (r .feature)) (isServed (r .command)) (request-served e), wire-served (r .command) (is-served e) .1, command-back (r .command) (is-served e) (request-ranges e .3) h)
+    message-back = rw (
+      envelope-back,
+      and-left (servedAt (r .endpoint) (r .feature)) (isServed (r .command)) (request-served e),
+      wire-served (r .command) (is-served e) .1,
+      command-back (r .command) (is-served e) (request-ranges e .3) h,
+    )
 
 pub request-reads-back : RequestReadsBack
 unfolding mapIn requestItem

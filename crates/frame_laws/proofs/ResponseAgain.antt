@@ -35,7 +35,8 @@ pub record Again (c : ℕ) (ps : Pairs) (o : Outcome) : Type 0 where
   pub same : (lo d : ℕ) → OkPairs ps lo d → KeysTo (resultKeys c) ps → outcomeItem o ≡ some (Item.map ps)
 
 module _ (ps : Pairs) where
-  limit-made : (a : Bool) (s : ℕ) (c p r : Amount) → needed truth (valueOf ps 1) ≡ some a → needed (upTo 4) (valueOf ps 2) ≡ some s → amountIn mostValue (valueOf ps 3) ≡ some c → amountIn mostValue (valueOf ps 4) ≡ some p → amountIn 4 (valueOf ps 5) ≡ some r
+  limit-made : (a : Bool) (s : ℕ) (c p r : Amount) → needed truth (valueOf ps 1) ≡ some a → needed (upTo 4) (valueOf ps 2) ≡ some s → amountIn mostValue (valueOf ps 3) ≡ some c
+      → amountIn mostValue (valueOf ps 4) ≡ some p → amountIn 4 (valueOf ps 5) ≡ some r
       → Again 1 ps (Outcome.Limit (record { applied = a; state = s; consumption = c; production = p; reason = r }))
   unfolding goesWith outcomeItem limitInRange limitFields
   limit-made a s c p r ea es ec ep er =
@@ -47,7 +48,10 @@ module _ (ps : Pairs) where
       let g : limitInRange l ≡ true = rw (le-leb s 4 (y .1), u .1, v .1, w .1) in
       record {
         goes = g;
-        same = λ lo d ok keys. ap (λ (m : Pairs). some (Item.map m)) (same-map ps (limitFields l) lo d ok (limit-ascend l) (limit-ok l g d) (truth-again (valueOf ps 1) a ea, (y .0, (u .0, (v .0, (w .0, tt))))) (λ j h. keys j (no-known (limitFields l) j (refl, (refl, (refl, (refl, (refl, tt))))) h)));
+        same = λ lo d ok keys. ap (λ (m : Pairs). some (Item.map m)) (same-map ps (limitFields l) lo d ok (limit-ascend l) (limit-ok l g d) (
+          truth-again (valueOf ps 1) a ea,
+          (y .0, (u .0, (v .0, (w .0, tt)))),
+        ) (λ j h. keys j (no-known (limitFields l) j (refl, (refl, (refl, (refl, (refl, tt))))) h)));
       }
 
   again-limit : (l : LimitResult) → limitResultIn ps ≡ some l → Again 1 ps (Outcome.Limit l)
@@ -60,7 +64,8 @@ module _ (ps : Pairs) where
       let f = bind-parts (amountIn 4 (valueOf ps 5)) _ l (d .2) in
       subst (λ (x : LimitResult). Again 1 ps (Outcome.Limit x)) (same-inside (f .2)) (limit-made (a .0) (b .0) (c .0) (d .0) (f .0) (a .1) (b .1) (c .1) (d .1) (f .1))
 
-  setpoint-made : (t : Bool) (c p : Amount) → successIn (valueOf ps 1) ≡ some t → amountIn mostValue (valueOf ps 2) ≡ some c → amountIn mostValue (valueOf ps 3) ≡ some p → Again 3 ps (Outcome.Setpoint (record { consumption = c; production = p }))
+  setpoint-made : (t : Bool) (c p : Amount) → successIn (valueOf ps 1) ≡ some t → amountIn mostValue (valueOf ps 2) ≡ some c → amountIn mostValue (valueOf ps 3) ≡ some p
+      → Again 3 ps (Outcome.Setpoint (record { consumption = c; production = p }))
   unfolding goesWith outcomeItem setpointInRange setpointFields
   setpoint-made t c p et ec ep =
       let u = amount-again mostValue (valueOf ps 2) c ec in
@@ -69,7 +74,10 @@ module _ (ps : Pairs) where
       let g : setpointInRange l ≡ true = rw (u .1, v .1) in
       record {
         goes = g;
-        same = λ lo d ok keys. ap (λ (m : Pairs). some (Item.map m)) (same-map ps (setpointFields l) lo d ok (setpoint-ascend l) (setpoint-ok l g d) (success-again (valueOf ps 1) t et, (u .0, (v .0, tt))) (λ j h. keys j (no-known (setpointFields l) j (refl, (refl, (refl, tt))) h)));
+        same = λ lo d ok keys. ap (λ (m : Pairs). some (Item.map m)) (same-map ps (setpointFields l) lo d ok (setpoint-ascend l) (setpoint-ok l g d) (
+          success-again (valueOf ps 1) t et,
+          (u .0, (v .0, tt)),
+        ) (λ j h. keys j (no-known (setpointFields l) j (refl, (refl, (refl, tt))) h)));
       }
 
   again-setpoint : (l : SetpointResult) → setpointResultIn ps ≡ some l → Again 3 ps (Outcome.Setpoint l)
@@ -107,7 +115,8 @@ module _ (ps : Pairs) where
       one-key : eqb c 1 ≡ false → eqb c 3 ≡ false → resultKeys c ≡ 1
       one-key a b = rw (a, b)
 
-      go : (p q : Bool) → eqb c 1 ≡ p → eqb c 3 ≡ q → cond p (Option·map Outcome.Limit (limitResultIn ps)) (cond q (Option·map Outcome.Setpoint (setpointResultIn ps)) (clearResultIn ps)) ≡ some o → Again c ps o
+      go : (p q : Bool) → eqb c 1 ≡ p → eqb c 3 ≡ q
+          → cond p (Option·map Outcome.Limit (limitResultIn ps)) (cond q (Option·map Outcome.Setpoint (setpointResultIn ps)) (clearResultIn ps)) ≡ some o → Again c ps o
       go true q a b h =
           let p = map-part Outcome.Limit (limitResultIn ps) o h in
           subst (λ (n : ℕ). Again n ps o) (sym (eqb-true c 1 a)) (subst (λ (x : Outcome). Again 1 ps x) (p .2) (again-limit (p .0) (p .1)))
@@ -181,14 +190,16 @@ response-read : (c : ℕ) (frame : List ℕ) (r : Response) → readResponse c f
 unfolding readResponse answerFrom answerIn bind
 response-read c frame r h = go (servedCommand c) refl h
   where
-    in-map : (i : Item) → payloadOf (payloadIn frame) ≡ some i → framed frame ≡ true → servedCommand c ≡ true → (m : Pairs) → mapIn i ≡ some m → (o : Option Response) → responseIn c m ≡ o → answerOf o ≡ Answer.Is r → Read c frame r
+    in-map : (i : Item) → payloadOf (payloadIn frame) ≡ some i → framed frame ≡ true → servedCommand c ≡ true → (m : Pairs) → mapIn i ≡ some m → (o : Option Response) → responseIn c m ≡ o
+        → answerOf o ≡ Answer.Is r → Read c frame r
     in-map i q f s m x (some p) y z = record { served = s; prefix = f; item = i; pairs = m; payload = q; map = x; from = body-again c m r s (y ∙ ap some (is z)) }
       where
         is : Answer.Is p ≡ Answer.Is r → p ≡ r
         is e = cc
     in-map i q f s m x none y z = absurd (no-answer _ z 3 refl)
 
-    in-item : (i : Item) → payloadOf (payloadIn frame) ≡ some i → framed frame ≡ true → servedCommand c ≡ true → (o : Option Pairs) → mapIn i ≡ o → answerOf (bind o (responseIn c)) ≡ Answer.Is r → Read c frame r
+    in-item : (i : Item) → payloadOf (payloadIn frame) ≡ some i → framed frame ≡ true → servedCommand c ≡ true → (o : Option Pairs) → mapIn i ≡ o
+        → answerOf (bind o (responseIn c)) ≡ Answer.Is r → Read c frame r
     in-item i q f s (some m) x y = in-map i q f s m x (responseIn c m) refl y
     in-item i q f s none x y = absurd (no-answer _ y 3 refl)
 

@@ -48,14 +48,36 @@ module _ (l : LimitResult) where
 
     pub limit-ok : (d : ℕ) → OkFields (limitFields l) d
     unfolding limitFields
-    limit-ok d =
-        (omega arith, ok-truth (l .applied) d, (omega arith, ok-uint (l .state) d (omega (arith, limit-range .0)), (omega arith, ok-amount mostValue (l .consumption) d (omega arith) (limit-range .1), (omega arith, ok-amount mostValue (l .production) d (omega arith) (limit-range .2), (omega arith, ok-amount 4 (l .reason) d (omega arith) (limit-range .3), tt)))))
+    limit-ok d = (
+      omega arith,
+      ok-truth (l .applied) d,
+      (
+        omega arith,
+        ok-uint (l .state) d (omega (arith, limit-range .0)),
+        (
+          omega arith,
+          ok-amount mostValue (l .consumption) d (omega arith) (limit-range .1),
+          (omega arith, ok-amount mostValue (l .production) d (omega arith) (limit-range .2), (omega arith, ok-amount 4 (l .reason) d (omega arith) (limit-range .3), tt)),
+        ),
+      ),
+    )
 
     limit-back : limitResultIn (present (limitFields l)) ≡ some l
     unfolding limitResultIn bind limitFields
     limit-back =
         let v : (k : ℕ) → _ = λ (k : ℕ). values (limitFields l) 0 k limit-ascend in
-        rw (v 1, v 2, v 3, v 4, v 5, truth-back (l .applied), uint-back 4 (l .state) (limit-range .0), amount-back mostValue (l .consumption) (limit-range .1), amount-back mostValue (l .production) (limit-range .2), amount-back 4 (l .reason) (limit-range .3))
+        rw (
+          v 1,
+          v 2,
+          v 3,
+          v 4,
+          v 5,
+          truth-back (l .applied),
+          uint-back 4 (l .state) (limit-range .0),
+          amount-back mostValue (l .consumption) (limit-range .1),
+          amount-back mostValue (l .production) (limit-range .2),
+          amount-back 4 (l .reason) (limit-range .3),
+        )
 
 module _ (l : SetpointResult) where
   pub setpoint-ascend : Ascending (setpointFields l) 0
@@ -73,7 +95,11 @@ module _ (l : SetpointResult) where
 
     pub setpoint-ok : (d : ℕ) → OkFields (setpointFields l) d
     unfolding setpointFields
-    setpoint-ok d = (omega arith, ok-truth true d, (omega arith, ok-amount mostValue (l .consumption) d (omega arith) (setpoint-range .0), (omega arith, ok-amount mostValue (l .production) d (omega arith) (setpoint-range .1), tt)))
+    setpoint-ok d = (
+      omega arith,
+      ok-truth true d,
+      (omega arith, ok-amount mostValue (l .consumption) d (omega arith) (setpoint-range .0), (omega arith, ok-amount mostValue (l .production) d (omega arith) (setpoint-range .1), tt)),
+    )
 
     setpoint-back : setpointResultIn (present (setpointFields l)) ≡ some l
     unfolding setpointResultIn bind setpointFields
@@ -228,14 +254,17 @@ module _ (r : Response) where
     unfolding responseFields
     body-back =
         let v : (k : ℕ) → _ = λ (k : ℕ). values (responseFields r) 0 k response-ascend in
-        all-parts c (present (responseFields r)) (r .id) (rw (v 1) (uint-back most32 (r .id) (response-ranges .0))) (r .status) (rw (v 2) (status-back (r .status) (response-ranges .1))) (r .outcome) (rw (v 3) (result-back c (r .status) (r .outcome) (response-ranges .2)))
+        all-parts c (present (responseFields r)) (r .id) (rw (v 1) (uint-back most32 (r .id) (response-ranges .0)))
+        (r .status) (rw (v 2) (status-back (r .status) (response-ranges .1)))
+        (r .outcome) (rw (v 3) (result-back c (r .status) (r .outcome) (response-ranges .2)))
 
     pub answer-back : servedCommand c ≡ true → readResponse c (itemFrame (responseItem r)) ≡ Answer.Is r
     unfolding readResponse mapIn responseItem
     answer-back s =
         let x = response-short in
         rw s
-        (answer-map-of c (itemFrame (responseItem r)) (responseItem r) (present (responseFields r)) (frame-framed (responseItem r) (x .0) (omega (arith, x .1))) (frame-payload (responseItem r) item-ok) refl
+        (answer-map-of c (itemFrame (responseItem r)) (responseItem r) (present (responseFields r))
+        (frame-framed (responseItem r) (x .0) (omega (arith, x .1))) (frame-payload (responseItem r) item-ok) refl
         ∙ ap answerOf body-back)
 
 pub no-test : (a b : Bool) → firstOf ((not a, 4) ∷ (not b, 3) ∷ []) ≡ 0 → (a ≡ true) × (b ≡ true)

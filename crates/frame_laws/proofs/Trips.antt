@@ -44,8 +44,11 @@ module _ (p : List ℕ) where
 
 pub framed-parts : (frame : List ℕ) → framed frame ≡ true → (5 ≤ length frame) × (length frame - 4 ≤ mostPayload) × (numberAt frame 0 4 ≡ length frame - 4)
 unfolding framed
-framed-parts frame e =
-    (leb-true 5 (length frame) (and-left _ _ (and-left _ _ e)), leb-true (length frame - 4) 2048 (and-right (leb 5 (length frame)) _ (and-left _ _ e)), eqb-true _ _ (and-right (leb 5 (length frame) && leb (length frame - 4) 2048) _ e))
+framed-parts frame e = (
+  leb-true 5 (length frame) (and-left _ _ (and-left _ _ e)),
+  leb-true (length frame - 4) 2048 (and-right (leb 5 (length frame)) _ (and-left _ _ e)),
+  eqb-true _ _ (and-right (leb 5 (length frame) && leb (length frame - 4) 2048) _ e),
+)
 
 module _ (frame : List ℕ) (ok : Bytes frame) where
   pub frame-of-payload : framed frame ≡ true → frameOf (payloadIn frame) ≡ frame

@@ -78,7 +78,8 @@ module _ (ws : List ℕ) where
       unfolding CommandReads Inside commandIn
       setpoint-wrong y path ps h = rw (ne-eqb c 1 (λ z. omega arith), ne-eqb c 2 (λ z. omega arith), eq-eqb c 3 e, r path ps h, y) refl
 
-    by-two : (b : Bool) (o : Option Aim) → parametersFrom (Option·map (cond b Command.ClearLimit Command.ClearSetpoint) o) ≡ parametersFrom (cond b (Option·map Command.ClearLimit o) (Option·map Command.ClearSetpoint o))
+    by-two : (b : Bool) (o : Option Aim)
+        → parametersFrom (Option·map (cond b Command.ClearLimit Command.ClearSetpoint) o) ≡ parametersFrom (cond b (Option·map Command.ClearLimit o) (Option·map Command.ClearSetpoint o))
     by-two true o = refl
     by-two false o = refl
 

@@ -43,7 +43,8 @@ module _ (pl out : List ℕ) (n : ℕ) (le : n ≤ length pl) where
   pub send-refused : length out < n + 4 → (w : Written) → w ≡ refusedWith 15 → Writes 0 (frameOf (take n pl)) out w out
   send-refused h w e = writes-long (frameOf (take n pl)) out (omega (arith, frame-length)) w e
 
-  pub send-whole : n + 4 ≤ length out → (t left : List ℕ) → t ≡ putWhole out 0 (bytesOf 4 n) → left ≡ putWhole t 4 (take n pl) → (w : Written) → w ≡ record { number = 0; length = n + 4 } → Writes 0 (frameOf (take n pl)) out w left
+  pub send-whole : n + 4 ≤ length out → (t left : List ℕ) → t ≡ putWhole out 0 (bytesOf 4 n) → left ≡ putWhole t 4 (take n pl) → (w : Written) → w ≡ record { number = 0; length = n + 4 }
+      → Writes 0 (frameOf (take n pl)) out w left
   unfolding frameOf
   send-whole h t left e f w x =
       let b = bytes-length 4 n in
@@ -59,7 +60,8 @@ pub send-room : {s t a : List ℕ} {q : ℕ} → payloadRoom ≤ length s → Pu
 send-room h x = let a = puts-fit h x in (omega (arith, a .moved, a .short, a .kept), omega (arith, a .moved, a .short))
 
 -- a payload that was written from the front of a local buffer
-pub send-item : (i : Item) (buf local out left : List ℕ) (n : ℕ) (w : Written) → Adds buf 0 (encode i) payloadRoom local n → Writes 0 (frameOf (take n local)) out w left → Writes 0 (itemFrame i) out w left
+pub send-item : (i : Item) (buf local out left : List ℕ) (n : ℕ) (w : Written) → Adds buf 0 (encode i) payloadRoom local n → Writes 0 (frameOf (take n local)) out w left
+    → Writes 0 (itemFrame i) out w left
 unfolding itemFrame
 send-item i buf local out left n w a h = rw (← a .grows) h
 

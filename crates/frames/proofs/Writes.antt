@@ -30,11 +30,14 @@ unfolding pairBytes fieldBytes
 under-key k n fs e = rw (e, map-bytes fs) (append-assoc (headBytes 0 k) (headBytes 5 (countPairs (present fs))) (encodePairs (present fs)))
 
 module _ (s : Setting) where
-  pub setting-count : (x y z : ℕ) → x ≡ pairsOf (valueItem (s .consumption)) → y ≡ pairsOf (valueItem (s .production)) → z ≡ pairsOf (amountItem (s .duration)) → x + y + z + 1 ≡ countPairs (present (settingFields s))
+  pub setting-count : (x y z : ℕ) → x ≡ pairsOf (valueItem (s .consumption)) → y ≡ pairsOf (valueItem (s .production)) → z ≡ pairsOf (amountItem (s .duration))
+      → x + y + z + 1 ≡ countPairs (present (settingFields s))
   unfolding settingFields
   setting-count x y z a b c = rw (count-more, count-more, count-more, count-more, count-none) (omega arith)
 
-  pub setting-bytes : ((fieldBytes 1 (valueItem (s .consumption)) ++ fieldBytes 2 (valueItem (s .production))) ++ fieldBytes 3 (amountItem (s .duration))) ++ fieldBytes 4 (some (Item.uint (s .cause))) ≡ encodePairs (present (settingFields s))
+  pub setting-bytes :
+      ((fieldBytes 1 (valueItem (s .consumption)) ++ fieldBytes 2 (valueItem (s .production))) ++ fieldBytes 3 (amountItem (s .duration))) ++ fieldBytes 4 (some (Item.uint (s .cause)))
+      ≡ encodePairs (present (settingFields s))
   unfolding settingFields
   setting-bytes = rw (fields-more, fields-more, fields-more, fields-one) (simp append-assoc)
 
@@ -43,11 +46,28 @@ one-count k n o e = rw (count-more, count-none) (omega arith)
 
 module _ (r : Request) where
   pub request-bytes : (n k : ℕ) → k ≡ wireNumber (r .command) → n ≡ countPairs (present (commandFields (r .command)))
-      → (((((headBytes 5 5 ++ fieldBytes 1 (some (Item.uint (r .id)))) ++ fieldBytes 2 (some (Item.uint (r .endpoint)))) ++ fieldBytes 3 (some (Item.uint (r .feature)))) ++ fieldBytes 4 (some (Item.uint k))) ++ pairBytes 5 5 n) ++ encodePairs (present (commandFields (r .command)))
+      → (((((headBytes 5 5 ++ fieldBytes 1 (some (Item.uint (r .id)))) ++ fieldBytes 2 (some (Item.uint (r .endpoint)))) ++ fieldBytes 3 (some (Item.uint (r .feature))))
+      ++ fieldBytes 4 (some (Item.uint k))) ++ pairBytes 5 5 n)
+      ++ encodePairs (present (commandFields (r .command)))
       ≡ encode (requestItem r)
   unfolding requestItem requestFields
   request-bytes n k e f =
-      rw (map-bytes, count-more, count-more, count-more, count-more, count-more, count-none, fields-more, fields-more, fields-more, fields-more, fields-one, ← under-key 5 n (commandFields (r .command)) f, e) (simp append-assoc)
+      rw (
+        map-bytes,
+        count-more,
+        count-more,
+        count-more,
+        count-more,
+        count-more,
+        count-none,
+        fields-more,
+        fields-more,
+        fields-more,
+        fields-more,
+        fields-one,
+        ← under-key 5 n (commandFields (r .command)) f,
+        e,
+      ) (simp append-assoc)
 
 module _ (r : Response) where
   pub response-bytes : (n : ℕ) → n ≡ pairsOf (outcomeItem (r .outcome))
@@ -58,16 +78,20 @@ module _ (r : Response) where
       rw (map-bytes, c, fields-more, fields-more, fields-one) (simp append-assoc)
 
 module _ (l : LimitResult) where
-  pub limit-count : (x y z : ℕ) → x ≡ pairsOf (amountItem (l .consumption)) → y ≡ pairsOf (amountItem (l .production)) → z ≡ pairsOf (amountItem (l .reason)) → 2 + x + y + z ≡ countPairs (present (limitFields l))
+  pub limit-count : (x y z : ℕ) → x ≡ pairsOf (amountItem (l .consumption)) → y ≡ pairsOf (amountItem (l .production)) → z ≡ pairsOf (amountItem (l .reason))
+      → 2 + x + y + z ≡ countPairs (present (limitFields l))
   unfolding limitFields
   limit-count x y z a b c = rw (count-more, count-more, count-more, count-more, count-more, count-none) (omega arith)
 
-  limit-pairs : encodePairs (present (limitFields l)) ≡ fieldBytes 1 (some (truthItem (l .applied))) ++ (fieldBytes 2 (some (Item.uint (l .state))) ++ (fieldBytes 3 (amountItem (l .consumption)) ++ (fieldBytes 4 (amountItem (l .production)) ++ fieldBytes 5 (amountItem (l .reason)))))
+  limit-pairs : encodePairs (present (limitFields l))
+      ≡ fieldBytes 1 (some (truthItem (l .applied))) ++ (fieldBytes 2 (some (Item.uint (l .state)))
+      ++ (fieldBytes 3 (amountItem (l .consumption)) ++ (fieldBytes 4 (amountItem (l .production)) ++ fieldBytes 5 (amountItem (l .reason)))))
   unfolding limitFields
   limit-pairs = rw (fields-more, fields-more, fields-more, fields-more, fields-one) refl
 
   pub limit-bytes : (n : ℕ) → n ≡ countPairs (present (limitFields l))
-      → ((((pairBytes 3 5 n ++ fieldBytes 1 (some (truthItem (l .applied)))) ++ fieldBytes 2 (some (Item.uint (l .state)))) ++ fieldBytes 3 (amountItem (l .consumption))) ++ fieldBytes 4 (amountItem (l .production))) ++ fieldBytes 5 (amountItem (l .reason)) ≡ fieldBytes 3 (mapItem (limitFields l))
+      → ((((pairBytes 3 5 n ++ fieldBytes 1 (some (truthItem (l .applied)))) ++ fieldBytes 2 (some (Item.uint (l .state)))) ++ fieldBytes 3 (amountItem (l .consumption)))
+      ++ fieldBytes 4 (amountItem (l .production))) ++ fieldBytes 5 (amountItem (l .reason)) ≡ fieldBytes 3 (mapItem (limitFields l))
   limit-bytes n e = rw (← under-key 3 n (limitFields l) e, limit-pairs) (simp append-assoc)
 
 module _ (l : SetpointResult) where
@@ -80,7 +104,8 @@ module _ (l : SetpointResult) where
   setpoint-pairs = rw (fields-more, fields-more, fields-one) refl
 
   pub setpoint-bytes : (n : ℕ) → n ≡ countPairs (present (setpointFields l))
-      → ((pairBytes 3 5 n ++ fieldBytes 1 (some (truthItem true))) ++ fieldBytes 2 (amountItem (l .consumption))) ++ fieldBytes 3 (amountItem (l .production)) ≡ fieldBytes 3 (mapItem (setpointFields l))
+      → ((pairBytes 3 5 n ++ fieldBytes 1 (some (truthItem true))) ++ fieldBytes 2 (amountItem (l .consumption))) ++ fieldBytes 3 (amountItem (l .production))
+      ≡ fieldBytes 3 (mapItem (setpointFields l))
   setpoint-bytes n e = rw (← under-key 3 n (setpointFields l) e, setpoint-pairs) (simp append-assoc)
 
 pub clear-bytes : pairBytes 3 5 1 ++ fieldBytes 1 (some (truthItem true)) ≡ fieldBytes 3 (mapItem clearFields)

@@ -1,18 +1,18 @@
 // Requests, read.
+use crate::settings::Setting;
+use crate::settings::limits_from;
+use crate::settings::setpoints_from;
+use cbor::Sights;
+use cbor::sight_of;
+use map_fields::all4;
+use map_fields::all5;
 use map_fields::amount_of;
+use map_fields::both;
 use map_fields::is_map;
 use map_fields::is_uint;
 use map_fields::read_value;
 use prefix::PREFIX;
 use prefix::is_framed;
-use crate::settings::Setting;
-use crate::settings::limits_from;
-use crate::settings::setpoints_from;
-use map_fields::all4;
-use map_fields::all5;
-use map_fields::both;
-use cbor::Sights;
-use cbor::sight_of;
 use messages::Aim;
 use messages::Amount;
 use messages::Command;
@@ -45,7 +45,9 @@ pub enum Parameters {
 
 // The levels that are looked into: the payload's map, and the parameters under its key 5.
 const ENVELOPE: usize = 0;
+
 const PARAMETERS: usize = 1;
+
 const PATH: u64 = 5;
 
 // The largest number of 32 bits.

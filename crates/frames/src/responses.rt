@@ -1,20 +1,18 @@
 // Responses, read.
+use crate::requests::MOST32;
+use crate::requests::is_command;
+use cbor::Sight;
+use cbor::Sights;
+use cbor::sight_of;
+use map_fields::all3;
+use map_fields::all5;
 use map_fields::amount_of;
+use map_fields::both;
+use map_fields::either;
 use map_fields::is_map;
 use map_fields::is_success;
 use map_fields::is_truth;
 use map_fields::is_uint;
-use prefix::PREFIX;
-use prefix::is_framed;
-use crate::requests::MOST32;
-use crate::requests::is_command;
-use map_fields::all3;
-use map_fields::all5;
-use map_fields::both;
-use map_fields::either;
-use cbor::Sight;
-use cbor::Sights;
-use cbor::sight_of;
 use messages::LimitResult;
 use messages::Outcome;
 use messages::Response;
@@ -51,7 +49,9 @@ pub enum Result {
 
 // The levels that are looked into: the payload's map, and the result under its key 3.
 const ANSWER: usize = 0;
+
 const RESULT: usize = 1;
+
 const PATH: u64 = 3;
 
 // Limits and setpoints are 0 to 2^63 - 1.

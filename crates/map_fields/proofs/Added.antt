@@ -37,7 +37,8 @@ adds-same {s} {t} {a} {b} {p} {q} {n} e x = subst (λ (l : List ℕ). Adds s p l
 adds-put : (s bs t : List ℕ) (p q n : ℕ) → p + length bs ≤ length s → length bs ≤ n → q ≡ p + length bs → t ≡ put s p bs → Adds s p bs n t q
 unfolding put
 adds-put s bs t p q n h l e z = record {
-  grows = rw (e, z, sets-eq bs s p h) (take-at (take p s ++ bs) (drop (p + length bs) s) (p + length bs) (length-append (take p s) bs ∙ ap (λ (k : ℕ). k + length bs) (length-take-le p s (omega arith))));
+  grows = rw (e, z, sets-eq bs s p h) (take-at (take p s ++ bs) (drop (p + length bs) s) (p + length bs) (length-append (take p s) bs
+      ∙ ap (λ (k : ℕ). k + length bs) (length-take-le p s (omega arith))));
   moved = e;
   short = l;
   kept = ap length z ∙ length-put s bs p;

@@ -1,4 +1,4 @@
--- `info_of` and `width_of` are the parts of the definition; a width is at most 8, so 1 + it does not overflow.
+-- One byte and the width of the argument.
 use native.Mathlib.Omega.{arith}
 use mathlib.Core.Path.{ap, _∙_}
 use Prim.Native.Nat.{ℕ, _+_}

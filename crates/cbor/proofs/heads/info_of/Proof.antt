@@ -1,4 +1,4 @@
--- The tests are those of the definition, from the shortest form to the longest.
+-- The tests are those of the definition.
 use borrow.Author.Tests.{le-ltb, lt-ltb}
 use Rattle.cbor.specs.Head.{infoOf}
 use Rattle.cbor.proofs.heads.info_of.Statement.{statement}
@@ -11,6 +11,14 @@ info-of-spec =
     (tie.spec
     (λ c. simp (lt-ltb _ _ (c .if1 .taken)))
     (λ c. simp (le-ltb _ _ (c .before .if1 .left), lt-ltb _ _ (c .if2 .taken)))
-    (λ c. simp (le-ltb _ _ (c .before .before .if1 .left), le-ltb _ _ (c .before .if2 .left), lt-ltb _ _ (c .if3 .taken)))
-    (λ c. simp (le-ltb _ _ (c .before .before .before .if1 .left), le-ltb _ _ (c .before .before .if2 .left), le-ltb _ _ (c .before .if3 .left), lt-ltb _ _ (c .if4 .taken)))
-    (λ c. simp (le-ltb _ _ (c .before .before .before .if1 .left), le-ltb _ _ (c .before .before .if2 .left), le-ltb _ _ (c .before .if3 .left), le-ltb _ _ (c .if4 .left))))
+    (λ c.
+    let at-if1 = c .before .before .if1 in
+    simp (le-ltb _ _ (at-if1 .left), le-ltb _ _ (c .before .if2 .left), lt-ltb _ _ (c .if3 .taken)))
+    (λ c.
+    let at-if2 = c .before .before .if2 in
+    let at-if1 = c .before .before .before .if1 in
+    simp (le-ltb _ _ (at-if1 .left), le-ltb _ _ (at-if2 .left), le-ltb _ _ (c .before .if3 .left), lt-ltb _ _ (c .if4 .taken)))
+    (λ c.
+    let at-if2 = c .before .before .if2 in
+    let at-if1 = c .before .before .before .if1 in
+    simp (le-ltb _ _ (at-if1 .left), le-ltb _ _ (at-if2 .left), le-ltb _ _ (c .before .if3 .left), le-ltb _ _ (c .if4 .left))))

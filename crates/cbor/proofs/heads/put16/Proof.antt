@@ -1,4 +1,4 @@
--- The quotient and the rest by 256 are the two bytes, and both places are in the room that is asked for.
+-- Two stores are the two low bytes.
 use borrow.Author.Needs.{needs}
 use native.Mathlib.Omega.{arith}
 use lib.ListN.{length-set}

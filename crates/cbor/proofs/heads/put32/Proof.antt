@@ -1,4 +1,4 @@
--- The high half and then the low half, by `put16`, are the four bytes.
+-- Two halves of two bytes are four.
 use borrow.Author.Needs.{needs}
 use Rattle.bytes.proofs.PutLaws.{put-halves}
 use Rattle.cbor.proofs.heads.put32.Statement.{statement}
@@ -9,4 +9,9 @@ put32-spec =
     tie.close
     (tie.spec
     (λ c κs. search needs) (λ c. search needs) (λ c κs. search needs) (λ c. search needs)
-    (λ c. put-halves (c .before .before .before .before .before .before .before .before .before .args .out .now) _ _ (c .before .before .before .before .before .before .before .before .before .args .at) 2 (c .before .before .before .before .before .before .before .before .before .args .v) (c .before .before .before .before .before .before .put16 .ensures) (c .before .before .put162 .ensures)))
+    (λ c.
+    let at-put162 = c .before .before .put162 in
+    let at-put16 = c .before .before .before .before .before .before .put16 in
+    let back-8 = c .before .before .before .before .before .before .before .before in
+    let at-args = back-8 .before .args in
+    put-halves (at-args .out .now) _ _ (at-args .at) 2 (at-args .v) (at-put16 .ensures) (at-put162 .ensures)))

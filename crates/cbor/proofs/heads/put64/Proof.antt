@@ -1,4 +1,4 @@
--- The high half and then the low half, by `put32`, are the eight bytes.
+-- Two halves of four bytes are eight.
 use borrow.Author.Needs.{needs}
 use Rattle.bytes.proofs.PutLaws.{put-halves}
 use Rattle.cbor.proofs.heads.put64.Statement.{statement}
@@ -9,4 +9,9 @@ put64-spec =
     tie.close
     (tie.spec
     (λ c κs. search needs) (λ c. search needs) (λ c κs. search needs) (λ c. search needs)
-    (λ c. put-halves (c .before .before .before .before .before .before .before .before .before .args .out .now) _ _ (c .before .before .before .before .before .before .before .before .before .args .at) 4 (c .before .before .before .before .before .before .before .before .before .args .v) (c .before .before .before .before .before .before .put32 .ensures) (c .before .before .put322 .ensures)))
+    (λ c.
+    let at-put322 = c .before .before .put322 in
+    let at-put32 = c .before .before .before .before .before .before .put32 in
+    let back-8 = c .before .before .before .before .before .before .before .before in
+    let at-args = back-8 .before .args in
+    put-halves (at-args .out .now) _ _ (at-args .at) 4 (at-args .v) (at-put32 .ensures) (at-put322 .ensures)))

@@ -1,4 +1,4 @@
--- The argument's range says its width, 0, 1, 2, 4 or 8, and with it how many bytes are put and that they have room.
+-- By the width of the argument.
 use borrow.Author.Needs.{needs}
 use native.Mathlib.Omega.{arith}
 use Rattle.bytes.proofs.PutLaws.{put-width, put-nothing, put-one}
@@ -10,17 +10,53 @@ pub put-argument-spec : {M : Type 1} → statement M
 put-argument-spec =
     tie.close
     (tie.spec
-    (λ c. put-width (c .before .before .args .out .now) _ (c .before .before .args .at) (c .before .before .args .arg) 0 _ (arg-width-0 (c .before .before .args .arg) (c .if1 .taken)) (put-nothing (c .before .before .args .out .now) (c .before .before .args .at) (c .before .before .args .arg)))
+    (λ c.
+    let at-args = c .before .before .args in
+    put-width (at-args .out .now) _ (at-args .at) (at-args .arg) 0 _ (arg-width-0 (at-args .arg) (c .if1 .taken))
+    (put-nothing (at-args .out .now) (at-args .at) (at-args .arg)))
     (λ c. search needs)
-    (λ c. omega (arith, arg-width-1 (c .before .before .before .args .arg) (c .before .if1 .left) (c .if2 .taken), c .before .before .before .pre))
+    (λ c.
+    let at-args = c .before .before .before .args in
+    let at-pre = c .before .before .before .pre in
+    omega (arith, arg-width-1 (at-args .arg) (c .before .if1 .left) (c .if2 .taken), at-pre))
     (λ c. search needs)
-    (λ c. put-width (c .before .before .before .args .out .now) _ (c .before .before .before .args .at) (c .before .before .before .args .arg) 1 _ (arg-width-1 (c .before .before .before .args .arg) (c .before .if1 .left) (c .if2 .taken)) (put-one (c .before .before .before .args .out .now) (c .before .before .before .args .at) (c .before .before .before .args .arg)))
-    (λ c κs. omega (arith, arg-width-2 (c .before .before .before .before .before .args .arg) (c .before .before .if2 .left) (c .before .if3 .taken), c .before .before .before .before .before .pre))
+    (λ c.
+    let at-args = c .before .before .before .args in
+    put-width (at-args .out .now) _ (at-args .at) (at-args .arg) 1 _ (arg-width-1 (at-args .arg) (c .before .if1 .left) (c .if2 .taken))
+    (put-one (at-args .out .now) (at-args .at) (at-args .arg)))
+    (λ c κs.
+    let at-if2 = c .before .before .if2 in
+    let at-args = c .before .before .before .before .before .args in
+    let at-pre = c .before .before .before .before .before .pre in
+    omega (arith, arg-width-2 (at-args .arg) (at-if2 .left) (c .before .if3 .taken), at-pre))
     (λ c. search needs)
-    (λ c. put-width (c .before .before .before .before .before .before .before .before .args .out .now) _ (c .before .before .before .before .before .before .before .before .args .at) (c .before .before .before .before .before .before .before .before .args .arg) 2 _ (arg-width-2 (c .before .before .before .before .before .before .before .before .args .arg) (c .before .before .before .before .before .if2 .left) (c .before .before .before .before .if3 .taken)) (c .before .before .put16 .ensures))
-    (λ c κs. omega (arith, arg-width-4 (c .before .before .before .before .before .before .args .arg) (c .before .before .if3 .left) (c .before .if4 .taken), c .before .before .before .before .before .before .pre))
+    (λ c.
+    let at-put16 = c .before .before .put16 in
+    let at-if3 = c .before .before .before .before .if3 in
+    let at-if2 = c .before .before .before .before .before .if2 in
+    let at-args = c .before .before .before .before .before .before .before .before .args in
+    put-width (at-args .out .now) _ (at-args .at) (at-args .arg) 2 _ (arg-width-2 (at-args .arg) (at-if2 .left) (at-if3 .taken)) (at-put16 .ensures))
+    (λ c κs.
+    let at-if3 = c .before .before .if3 in
+    let at-args = c .before .before .before .before .before .before .args in
+    let at-pre = c .before .before .before .before .before .before .pre in
+    omega (arith, arg-width-4 (at-args .arg) (at-if3 .left) (c .before .if4 .taken), at-pre))
     (λ c. search needs)
-    (λ c. put-width (c .before .before .before .before .before .before .before .before .before .args .out .now) _ (c .before .before .before .before .before .before .before .before .before .args .at) (c .before .before .before .before .before .before .before .before .before .args .arg) 4 _ (arg-width-4 (c .before .before .before .before .before .before .before .before .before .args .arg) (c .before .before .before .before .before .if3 .left) (c .before .before .before .before .if4 .taken)) (c .before .before .put32 .ensures))
-    (λ c κs. omega (arith, arg-width-8 (c .before .before .before .before .before .before .args .arg) (c .before .if4 .left), c .before .before .before .before .before .before .pre))
+    (λ c.
+    let at-put32 = c .before .before .put32 in
+    let at-if4 = c .before .before .before .before .if4 in
+    let at-if3 = c .before .before .before .before .before .if3 in
+    let back-8 = c .before .before .before .before .before .before .before .before in
+    let at-args = back-8 .before .args in
+    put-width (at-args .out .now) _ (at-args .at) (at-args .arg) 4 _ (arg-width-4 (at-args .arg) (at-if3 .left) (at-if4 .taken)) (at-put32 .ensures))
+    (λ c κs.
+    let at-args = c .before .before .before .before .before .before .args in
+    let at-pre = c .before .before .before .before .before .before .pre in
+    omega (arith, arg-width-8 (at-args .arg) (c .before .if4 .left), at-pre))
     (λ c. search needs)
-    (λ c. put-width (c .before .before .before .before .before .before .before .before .before .args .out .now) _ (c .before .before .before .before .before .before .before .before .before .args .at) (c .before .before .before .before .before .before .before .before .before .args .arg) 8 _ (arg-width-8 (c .before .before .before .before .before .before .before .before .before .args .arg) (c .before .before .before .before .if4 .left)) (c .before .before .put64 .ensures)))
+    (λ c.
+    let at-put64 = c .before .before .put64 in
+    let at-if4 = c .before .before .before .before .if4 in
+    let back-8 = c .before .before .before .before .before .before .before .before in
+    let at-args = back-8 .before .args in
+    put-width (at-args .out .now) _ (at-args .at) (at-args .arg) 8 _ (arg-width-8 (at-args .arg) (at-if4 .left)) (at-put64 .ensures)))

@@ -1,4 +1,4 @@
--- Where the major type is below 8 and the head fits, its first byte and its argument are put; elsewhere nothing is.
+-- The test for room is the one that `putWhole` makes; the first byte and the argument behind it are the head.
 use borrow.Author.Needs.{needs}
 use mathlib.Core.Path.{ap, _∙_}
 use native.Mathlib.Omega.{arith}
@@ -14,13 +14,61 @@ put-head-spec =
     tie.close
     (tie.spec
     (λ c κs. search needs) (λ c κs. search needs) (λ c κs. search needs) (λ c. search needs)
-    (λ c. omega (arith, c .info-of .ensures, info-small (c .before .before .before .before .before .before .args .arg)))
-    (λ c. omega (arith, c .info-of .ensures, info-small (c .before .before .before .before .before .before .args .arg), c .before .before .before .if1 .taken))
-    (λ c. omega (arith, fits (c .before .before .before .before .before .before .args .out .now) (c .before .before .before .before .before .before .args .at) (c .before .before .before .before .before .before .args .arg) _ _ (c .before .before .before .before .head-len .ensures) (c .before .before .has-room .ensures) (c .before .if2 .taken)))
-    (λ c. omega (arith, fits (c .before .before .before .before .before .before .before .args .out .now) (c .before .before .before .before .before .before .before .args .at) (c .before .before .before .before .before .before .before .args .arg) _ _ (c .before .before .before .before .before .head-len .ensures) (c .before .before .before .has-room .ensures) (c .before .before .if2 .taken)))
-    (λ c κs. simp length-set (omega (arith, fits (c .before .before .before .before .before .before .before .args .out .now) (c .before .before .before .before .before .before .before .args .at) (c .before .before .before .before .before .before .before .args .arg) _ _ (c .before .before .before .before .before .head-len .ensures) (c .before .before .before .has-room .ensures) (c .before .before .if2 .taken))))
-    (λ c. omega (arith, has-room (c .before .before .before .before .before .before .before .before .before .before .args .at) (c .before .before .before .before .before .before .before .before .head-len .result) (length (c .before .before .before .before .before .before .before .before .before .before .args .out .now)) _ (c .before .before .before .before .before .before .has-room .ensures) (c .before .before .before .before .before .if2 .taken)))
-    (λ c. ap length (c .before .before .put-argument .ensures) ∙ simp (length-put, length-set))
-    (λ c. head-stored (c .before .before .before .before .before .before .before .before .before .before .args .out .now) (c .before .before .before .before .before .before .before .before .before .before .args .at) (c .before .before .before .before .before .before .before .before .before .before .args .major) (c .before .before .before .before .before .before .before .before .before .before .args .arg) _ _ (c .before .before .before .before .before .before .before .before .head-len .ensures) (c .before .before .before .before .before .before .before .if1 .taken) _ (c .before .before .before .before .before .before .has-room .ensures) (c .before .before .before .before .before .if2 .taken) (c .before .before .before .before .info-of .ensures) _ (c .before .before .put-argument .ensures))
-    (λ c. head-not-stored (c .before .before .before .before .before .args .out .now) (c .before .before .before .before .before .args .at) (c .before .before .before .before .before .args .major) (c .before .before .before .before .before .args .arg) _ 0 (c .before .before .before .head-len .ensures) (c .before .before .if1 .taken) _ (c .before .has-room .ensures) (c .if2 .left))
-    (λ c. no-major (c .before .before .before .args .out .now) (c .before .before .before .args .at) (c .before .before .before .args .major) (c .before .before .before .args .arg) (c .if1 .left)))
+    (λ c.
+    let at-args = c .before .before .before .before .before .before .args in
+    omega (arith, c .info-of .ensures, info-small (at-args .arg)))
+    (λ c.
+    let at-if1 = c .before .before .before .if1 in
+    let at-args = c .before .before .before .before .before .before .args in
+    omega (arith, c .info-of .ensures, info-small (at-args .arg), at-if1 .taken))
+    (λ c.
+    let at-has-room = c .before .before .has-room in
+    let at-head-len = c .before .before .before .before .head-len in
+    let at-args = c .before .before .before .before .before .before .args in
+    omega (arith, fits (at-args .out .now) (at-args .at) (at-args .arg) _ _ (at-head-len .ensures) (at-has-room .ensures) (c .before .if2 .taken)))
+    (λ c.
+    let at-if2 = c .before .before .if2 in
+    let at-has-room = c .before .before .before .has-room in
+    let at-head-len = c .before .before .before .before .before .head-len in
+    let at-args = c .before .before .before .before .before .before .before .args in
+    omega (arith, fits (at-args .out .now) (at-args .at) (at-args .arg) _ _ (at-head-len .ensures) (at-has-room .ensures) (at-if2 .taken)))
+    (λ c κs.
+    let at-if2 = c .before .before .if2 in
+    let at-has-room = c .before .before .before .has-room in
+    let at-head-len = c .before .before .before .before .before .head-len in
+    let at-args = c .before .before .before .before .before .before .before .args in
+    simp length-set (omega (
+      arith,
+      fits (at-args .out .now) (at-args .at) (at-args .arg) _ _ (at-head-len .ensures) (at-has-room .ensures)
+          (at-if2 .taken),
+    )))
+    (λ c.
+    let at-if2 = c .before .before .before .before .before .if2 in
+    let at-has-room = c .before .before .before .before .before .before .has-room in
+    let at-head-len = c .before .before .before .before .before .before .before .before .head-len in
+    let back-8 = c .before .before .before .before .before .before .before .before in
+    let at-args = back-8 .before .before .args in
+    omega (arith, has-room (at-args .at) (at-head-len .result) (length (at-args .out .now)) _ (at-has-room .ensures) (at-if2 .taken)))
+    (λ c.
+    let at-put-argument = c .before .before .put-argument in
+    ap length (at-put-argument .ensures) ∙ simp (length-put, length-set))
+    (λ c.
+    let at-put-argument = c .before .before .put-argument in
+    let at-info-of = c .before .before .before .before .info-of in
+    let at-if2 = c .before .before .before .before .before .if2 in
+    let at-has-room = c .before .before .before .before .before .before .has-room in
+    let at-if1 = c .before .before .before .before .before .before .before .if1 in
+    let at-head-len = c .before .before .before .before .before .before .before .before .head-len in
+    let back-8 = c .before .before .before .before .before .before .before .before in
+    let at-args = back-8 .before .before .args in
+    head-stored (at-args .out .now) (at-args .at) (at-args .major) (at-args .arg) _ _ (at-head-len .ensures) (at-if1 .taken) _ (at-has-room .ensures)
+    (at-if2 .taken) (at-info-of .ensures) _ (at-put-argument .ensures))
+    (λ c.
+    let at-if1 = c .before .before .if1 in
+    let at-head-len = c .before .before .before .head-len in
+    let at-args = c .before .before .before .before .before .args in
+    head-not-stored (at-args .out .now) (at-args .at) (at-args .major) (at-args .arg) _ 0 (at-head-len .ensures) (at-if1 .taken) _
+    (c .before .has-room .ensures) (c .if2 .left))
+    (λ c.
+    let at-args = c .before .before .before .args in
+    no-major (at-args .out .now) (at-args .at) (at-args .major) (at-args .arg) (c .if1 .left)))

@@ -1,4 +1,4 @@
--- The comparison is the definition's.
+-- The test is the one of the definition.
 use borrow.Author.Tests.{lt-ltb, le-ltb}
 use Rattle.cbor.proofs.heads.unless_below.Statement.{statement}
 use Rattle.cbor.proofs.heads.unless_below.Tie as tie

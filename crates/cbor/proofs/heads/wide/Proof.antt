@@ -1,4 +1,4 @@
--- An argument is in shortest form where it is not below its width's least; short slices and longer forms say 0, as `argOrZero` does.
+-- By the additional information: the bytes are too few, or the number they say is the argument where it needs them all.
 use mathlib.Core.Path.{_≡_}
 use native.Mathlib.Omega.{arith}
 use Rattle.bytes.proofs.NumberLaws.{all-bytes, number-small, number-one}
@@ -13,11 +13,36 @@ wide-spec =
     tie.close
     (tie.spec
     (λ c κs. search needs) (λ c. search needs) (λ c. search needs)
-    (λ c. wide-short (c .before .before .before .before .args .s .now) (c .before .before .before .before .args .at) (c .before .before .before .before .args .info) (omega arith) 1 (width-24 _ (c .before .if2 .taken)) (c .if3 .taken))
+    (λ c.
+    let at-args = c .before .before .before .before .args in
+    wide-short (at-args .s .now) (at-args .at) (at-args .info) (omega arith) 1 (width-24 _ (c .before .if2 .taken)) (c .if3 .taken))
     (λ c. search needs)
-    (λ c. omega (arith, c .before .before .before .before .shared-slice-known .given (c .before .before .before .before .before .args .at)))
+    (λ c.
+    let at-shared-slice-known = c .before .before .before .before .shared-slice-known in
+    let at-args = c .before .before .before .before .before .args in
+    omega (arith, at-shared-slice-known .given (at-args .at)))
     (λ c κs. search needs)
-    (λ c. wide-is (c .before .before .before .before .before .before .args .s .now) (c .before .before .before .before .before .before .args .at) (c .before .before .before .before .before .before .args .info) (omega arith) 1 (width-24 _ (c .before .before .before .if2 .taken)) (c .before .before .if3 .left) _ 24 _ (number-one (c .before .before .before .before .before .before .args .s .now) (c .before .before .before .before .before .before .args .at)) (rw (c .before .before .before .if2 .taken) (from-24 _ (omega (arith, c .before .before .before .before .before .shared-slice-known .given (c .before .before .before .before .before .before .args .at))))) (c .unless-below .ensures))
-    (λ c. wide-short (c .before .before .before .before .args .s .now) (c .before .before .before .before .args .at) (c .before .before .before .before .args .info) (omega arith) 2 (width-25 _ (omega arith)) (c .if4 .taken))
+    (λ c.
+    let at-if3 = c .before .before .if3 in
+    let at-if2 = c .before .before .before .if2 in
+    let at-shared-slice-known = c .before .before .before .before .before .shared-slice-known in
+    let at-args = c .before .before .before .before .before .before .args in
+    wide-is (at-args .s .now) (at-args .at) (at-args .info) (omega arith) 1 (width-24 _ (at-if2 .taken)) (at-if3 .left) _ 24 _
+    (number-one (at-args .s .now) (at-args .at)) (rw (at-if2 .taken) (from-24 _ (omega (arith, at-shared-slice-known .given (at-args .at)))))
+    (c .unless-below .ensures))
+    (λ c.
+    let at-args = c .before .before .before .before .args in
+    wide-short (at-args .s .now) (at-args .at) (at-args .info) (omega arith) 2 (width-25 _ (omega arith)) (c .if4 .taken))
     (λ c κs. search needs) (λ c κs. search needs)
-    (λ c. let z : c .before .before .before .before .before .before .args .info ≡ 25 = omega arith in wide-is (c .before .before .before .before .before .before .args .s .now) (c .before .before .before .before .before .before .args .at) (c .before .before .before .before .before .before .args .info) (omega arith) 2 (width-25 _ z) (c .before .before .if4 .left) _ 256 _ (c .before .get-u16 .ensures) (rw z (from-25 _ (omega (arith, c .before .get-u16 .ensures, number-small (c .before .before .before .before .before .before .args .s .now) (all-bytes (c .before .before .before .before .before .before .args .s .now) (c .before .before .before .before .before .shared-slice-known .given)) 2 (c .before .before .before .before .before .before .args .at))))) (c .unless-below2 .ensures)))
+    (λ c.
+    let at-if4 = c .before .before .if4 in
+    let at-shared-slice-known = c .before .before .before .before .before .shared-slice-known in
+    let at-args = c .before .before .before .before .before .before .args in
+    let z : at-args .info ≡ 25 = omega arith in
+    wide-is (at-args .s .now) (at-args .at) (at-args .info) (omega arith) 2 (width-25 _ z) (at-if4 .left) _ 256 _ (c .before .get-u16 .ensures)
+    (rw z (from-25 _ (omega (
+      arith,
+      c .before .get-u16 .ensures,
+      number-small (at-args .s .now)
+          (all-bytes (at-args .s .now) (at-shared-slice-known .given)) 2 (at-args .at),
+    )))) (c .unless-below2 .ensures)))

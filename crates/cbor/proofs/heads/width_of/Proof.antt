@@ -1,4 +1,4 @@
--- Each test finds one of the four widths of the definition, and all of them are at most 8.
+-- The tests are those of the definition.
 use mathlib.Core.Path.{refl}
 use native.Mathlib.Omega.{arith}
 use borrow.Author.Tests.{ne-eqb}
@@ -15,4 +15,7 @@ width-of-spec =
     (λ c. rw (c .if2 .taken) (refl, omega arith))
     (λ c. rw (c .if3 .taken) (refl, omega arith))
     (λ c. rw (c .if4 .taken) (refl, omega arith))
-    (λ c. (simp (ne-eqb _ _ (c .before .before .before .if1 .left), ne-eqb _ _ (c .before .before .if2 .left), ne-eqb _ _ (c .before .if3 .left), ne-eqb _ _ (c .if4 .left)), omega arith)))
+    (λ c.
+    let at-if2 = c .before .before .if2 in
+    let at-if1 = c .before .before .before .if1 in
+    (simp (ne-eqb _ _ (at-if1 .left), ne-eqb _ _ (at-if2 .left), ne-eqb _ _ (c .before .if3 .left), ne-eqb _ _ (c .if4 .left)), omega arith)))

@@ -77,7 +77,8 @@ abbrev past-array-μ-loop : past-array-lts.MeasureT-loop
 past-array-μ-loop s at n depth p₀ left₀ p left = left
 
 abbrev past-pairs-Inv-loop : past-pairs-lts.InvT-loop
-past-pairs-Inv-loop s at n first last depth p₀ left₀ start₀ before₀ p left start before = (pastOf (pairsAt s (itemAt s depth) left (least start before) p) ≡ pastOf (pairsAt s (itemAt s depth) n (least first last) at)) × (at ≤ p)
+past-pairs-Inv-loop s at n first last depth p₀ left₀ start₀ before₀ p left start before = (pastOf
+    (pairsAt s (itemAt s depth) left (least start before) p) ≡ pastOf (pairsAt s (itemAt s depth) n (least first last) at)) × (at ≤ p)
 
 abbrev past-pairs-μ-loop : past-pairs-lts.MeasureT-loop
 past-pairs-μ-loop s at n first last depth p₀ left₀ start₀ before₀ p left start before = left
@@ -87,38 +88,165 @@ pub +past-array+past-item+past-pairs+past-rest-spec : {M : Type 1} → statement
     close μ-past-array μ-past-item μ-past-pairs μ-past-rest (λ t. past-array-lts.spec
     (past-item-below t, past-item.Post) (past-array-at t) past-array.Post past-array-Inv-loop
     past-array-μ-loop (λ c. (refl, omega arith))
-    (λ c κs. (omega (arith, c .before .loop .inv .1, c .before .before .before .pre .0), tt))
-    (λ c. items-bad (itemAt (c .before .before .before .before .before .args .s .now) (c .before .before .before .before .before .args .depth)) (c .before .before .before .loop .p) (c .before .before .before .loop .left) (c .before .before .loop-test .taken) (item-bad (c .before .before .before .before .before .args .s .now) (all-bytes (c .before .before .before .before .before .args .s .now) (c .before .before .before .before .shared-slice-known .given)) (c .before .before .before .loop .p) (c .before .before .before .before .before .args .depth) _ (c .before .past-item .ensures) (c .if1 .taken)) ∙ c .before .before .before .loop .inv .0)
+    (λ c κs.
+    let at-pre = c .before .before .before .pre in
+    (omega (arith, c .before .loop .inv .1, at-pre .0), tt))
+    (λ c.
+    let at-loop-test = c .before .before .loop-test in
+    let at-loop = c .before .before .before .loop in
+    let at-shared-slice-known = c .before .before .before .before .shared-slice-known in
+    let at-args = c .before .before .before .before .before .args in
+    items-bad (itemAt (at-args .s .now) (at-args .depth)) (at-loop .p) (at-loop .left) (at-loop-test .taken)
+    (item-bad (at-args .s .now) (all-bytes (at-args .s .now) (at-shared-slice-known .given)) (at-loop .p) (at-args .depth) _
+    (c .before .past-item .ensures) (c .if1 .taken)) ∙ at-loop .inv .0)
     (λ c. search needs) (λ c. search needs)
-    (λ c. let g = item-got (c .before .before .before .before .before .args .s .now) (all-bytes (c .before .before .before .before .before .args .s .now) (c .before .before .before .before .shared-slice-known .given)) (c .before .before .before .loop .p) (c .before .before .before .before .before .args .depth) _ (c .before .past-item .ensures) (c .if1 .left) in (items-next (itemAt (c .before .before .before .before .before .args .s .now) (c .before .before .before .before .before .args .depth)) (c .before .before .before .loop .p) (c .before .before .before .loop .left) (c .before .before .loop-test .taken) (g .0) _ (g .1) ∙ c .before .before .before .loop .inv .0, omega (arith, item-ends (c .before .before .before .before .before .args .s .now) (all-bytes (c .before .before .before .before .before .args .s .now) (c .before .before .before .before .shared-slice-known .given)) (c .before .before .before .loop .p) (c .before .before .before .before .before .args .depth) _ (g .0) (g .1) .0, c .before .before .before .loop .inv .1)))
-    (λ c. items-none (itemAt (c .before .before .before .args .s .now) (c .before .before .before .args .depth)) (c .before .loop .p) (c .before .loop .left) (c .loop-test .left) ∙ c .before .loop .inv .0))
+    (λ c.
+    let at-loop-test = c .before .before .loop-test in
+    let at-loop = c .before .before .before .loop in
+    let at-shared-slice-known = c .before .before .before .before .shared-slice-known in
+    let at-args = c .before .before .before .before .before .args in
+    let g = item-got (at-args .s .now) (all-bytes (at-args .s .now) (at-shared-slice-known .given)) (at-loop .p) (at-args .depth) _
+    (c .before .past-item .ensures) (c .if1 .left) in (
+      items-next (itemAt (at-args .s .now) (at-args .depth)) (at-loop .p) (at-loop .left) (at-loop-test .taken) (g .0) _ (g .1) ∙ at-loop .inv .0,
+      omega (
+        arith,
+        item-ends (at-args .s .now) (all-bytes (at-args .s .now) (at-shared-slice-known .given)) (at-loop .p) (at-args .depth) _ (g .0)
+            (g .1) .0,
+        at-loop .inv .1,
+      ),
+    ))
+    (λ c.
+    let at-args = c .before .before .before .args in
+    items-none (itemAt (at-args .s .now) (at-args .depth)) (c .before .loop .p) (c .before .loop .left)
+    (c .loop-test .left) ∙ c .before .loop .inv .0))
     (λ t. past-item-lts.spec
     (read-head-reads.Asked, read-head-reads.Learnt, past-rest-below t, past-rest.Post)
     (past-item-at t) past-item.Post (λ c κs. search needs) (λ c. search needs) (λ c. search needs)
-    (λ c. item-rest (c .before .before .before .before .before .before .args .s .now) (c .before .before .before .before .before .before .args .depth) (c .before .before .before .before .before .before .args .at) _ (c .before .before .before .before .read-head .ensures) _ _ _ (c .before .before .major .given .1) _ (rest-flat (c .before .before .before .before .before .before .args .s .now) _ _ _ (c .before .before .before .before .before .before .args .depth) (λ g l. omega arith)))
-    (λ c. item-rest (c .before .before .before .before .before .before .before .args .s .now) (c .before .before .before .before .before .before .before .args .depth) (c .before .before .before .before .before .before .before .args .at) _ (c .before .before .before .before .before .read-head .ensures) _ _ _ (c .before .before .before .major .given .1) _ (rest-flat (c .before .before .before .before .before .before .before .args .s .now) _ _ _ (c .before .before .before .before .before .before .before .args .depth) (λ g l. omega arith)))
-    (λ c κs. let h = head-ends (c .before .before .before .before .before .before .before .args .s .now) (all-bytes (c .before .before .before .before .before .before .before .args .s .now) (c .before .before .before .before .before .before .shared-slice-known .given)) (c .before .before .before .before .before .before .before .args .at) _ _ _ _ (c .before .before .before .before .before .read-head .ensures) (c .before .before .before .major .given .1) in (omega (arith, h .0, h .1, c .before .before .before .before .before .before .before .pre .0), (omega arith, head-rest (c .before .before .before .before .before .before .before .args .s .now) (all-bytes (c .before .before .before .before .before .before .before .args .s .now) (c .before .before .before .before .before .before .shared-slice-known .given)) (c .before .before .before .before .before .before .before .args .at) _ _ _ _ (c .before .before .before .before .before .read-head .ensures) (c .before .before .before .major .given .1) (c .if2 .left), h .1)))
-    (λ c. ap pastOf (item-no-head (c .before .before .before .before .args .s .now) (c .before .before .before .before .args .depth) (c .before .before .before .before .args .at) _ (c .before .before .read-head .ensures) (c .enum-told .given .1)))
-    (λ c. item-rest (c .before .before .before .before .before .before .before .before .args .s .now) (c .before .before .before .before .before .before .before .before .args .depth) (c .before .before .before .before .before .before .before .before .args .at) _ (c .before .before .before .before .before .before .read-head .ensures) _ _ _ (c .before .before .before .before .major .given .1) _ (c .past-rest .ensures)))
+    (λ c.
+    let at-major = c .before .before .major in
+    let at-read-head = c .before .before .before .before .read-head in
+    let at-args = c .before .before .before .before .before .before .args in
+    item-rest (at-args .s .now) (at-args .depth) (at-args .at) _ (at-read-head .ensures) _ _ _ (at-major .given .1) _
+    (rest-flat (at-args .s .now) _ _ _ (at-args .depth) (λ g l. omega arith)))
+    (λ c.
+    let at-major = c .before .before .before .major in
+    let at-read-head = c .before .before .before .before .before .read-head in
+    let at-args = c .before .before .before .before .before .before .before .args in
+    item-rest (at-args .s .now) (at-args .depth) (at-args .at) _ (at-read-head .ensures) _ _ _ (at-major .given .1) _
+    (rest-flat (at-args .s .now) _ _ _ (at-args .depth) (λ g l. omega arith)))
+    (λ c κs.
+    let at-major = c .before .before .before .major in
+    let at-read-head = c .before .before .before .before .before .read-head in
+    let at-shared-slice-known = c .before .before .before .before .before .before .shared-slice-known in
+    let at-args = c .before .before .before .before .before .before .before .args in
+    let at-pre = c .before .before .before .before .before .before .before .pre in
+    let h = head-ends (at-args .s .now) (all-bytes (at-args .s .now) (at-shared-slice-known .given)) (at-args .at) _ _ _ _ (at-read-head .ensures)
+    (at-major .given .1) in (
+      omega (arith, h .0, h .1, at-pre .0),
+      (
+        omega arith,
+        head-rest (at-args .s .now) (all-bytes (at-args .s .now) (at-shared-slice-known .given))
+            (at-args .at) _ _ _ _ (at-read-head .ensures) (at-major .given .1) (c .if2 .left),
+        h .1,
+      ),
+    ))
+    (λ c.
+    let at-read-head = c .before .before .read-head in
+    let at-args = c .before .before .before .before .args in
+    ap pastOf (item-no-head (at-args .s .now) (at-args .depth) (at-args .at) _ (at-read-head .ensures) (c .enum-told .given .1)))
+    (λ c.
+    let at-major = c .before .before .before .before .major in
+    let at-read-head = c .before .before .before .before .before .before .read-head in
+    let at-args = c .before .before .before .before .before .before .before .before .args in
+    item-rest (at-args .s .now) (at-args .depth) (at-args .at) _ (at-read-head .ensures) _ _ _ (at-major .given .1) _ (c .past-rest .ensures)))
     (λ t. past-pairs-lts.spec
     (read-key-reads.Asked, read-key-reads.Learnt, past-item-below t, past-item.Post)
     (past-pairs-at t) past-pairs.Post past-pairs-Inv-loop past-pairs-μ-loop (λ c. (refl, omega arith))
     (λ c κs. search needs) (λ c. search needs)
-    (λ c. ap pastOf (pairs-key (c .before .before .before .before .before .before .args .s .now) (itemAt (c .before .before .before .before .before .before .args .s .now) (c .before .before .before .before .before .before .args .depth)) (least (c .before .before .before .before .loop .start) (c .before .before .before .before .loop .before)) (c .before .before .before .before .loop .p) (c .before .before .before .before .loop .left) (c .before .before .before .loop-test .taken) _ (c .before .before .read-key .ensures) (c .enum-told .given .1)) ∙ c .before .before .before .before .loop .inv .0)
+    (λ c.
+    let at-read-key = c .before .before .read-key in
+    let at-loop-test = c .before .before .before .loop-test in
+    let at-loop = c .before .before .before .before .loop in
+    let at-args = c .before .before .before .before .before .before .args in
+    ap pastOf (pairs-key (at-args .s .now) (itemAt (at-args .s .now) (at-args .depth)) (least (at-loop .start) (at-loop .before)) (at-loop .p)
+    (at-loop .left) (at-loop-test .taken) _ (at-read-key .ensures) (c .enum-told .given .1)) ∙ at-loop .inv .0)
     (λ c. search needs)
-    (λ c κs. let h = key-ends (c .before .before .before .before .before .before .before .args .s .now) (all-bytes (c .before .before .before .before .before .before .before .args .s .now) (c .before .before .before .before .before .before .shared-slice-known .given)) (c .before .before .before .before .before .loop .p) (least (c .before .before .before .before .before .loop .start) (c .before .before .before .before .before .loop .before)) _ _ _ (c .before .before .before .read-key .ensures) (c .before .key .given .1) in (omega (arith, h .0, h .1, c .before .before .before .before .before .loop .inv .1, c .before .before .before .before .before .before .before .pre .0), tt))
-    (λ c. ap pastOf (pairs-bad (c .before .before .before .before .before .before .before .before .before .args .s .now) (itemAt (c .before .before .before .before .before .before .before .before .before .args .s .now) (c .before .before .before .before .before .before .before .before .before .args .depth)) (least (c .before .before .before .before .before .before .before .loop .start) (c .before .before .before .before .before .before .before .loop .before)) (c .before .before .before .before .before .before .before .loop .p) (c .before .before .before .before .before .before .before .loop .left) (c .before .before .before .before .before .before .loop-test .taken) _ (c .before .before .before .before .before .read-key .ensures) _ _ (c .before .before .before .key .given .1) (item-bad (c .before .before .before .before .before .before .before .before .before .args .s .now) (all-bytes (c .before .before .before .before .before .before .before .before .before .args .s .now) (c .before .before .before .before .before .before .before .before .shared-slice-known .given)) _ (c .before .before .before .before .before .before .before .before .before .args .depth) _ (c .before .past-item .ensures) (c .if1 .taken))) ∙ c .before .before .before .before .before .before .before .loop .inv .0)
+    (λ c κs.
+    let at-read-key = c .before .before .before .read-key in
+    let at-loop = c .before .before .before .before .before .loop in
+    let at-shared-slice-known = c .before .before .before .before .before .before .shared-slice-known in
+    let at-args = c .before .before .before .before .before .before .before .args in
+    let at-pre = c .before .before .before .before .before .before .before .pre in
+    let h = key-ends (at-args .s .now) (all-bytes (at-args .s .now) (at-shared-slice-known .given)) (at-loop .p)
+    (least (at-loop .start) (at-loop .before)) _ _ _ (at-read-key .ensures) (c .before .key .given .1) in
+    (omega (arith, h .0, h .1, at-loop .inv .1, at-pre .0), tt))
+    (λ c.
+    let at-key = c .before .before .before .key in
+    let at-read-key = c .before .before .before .before .before .read-key in
+    let at-loop-test = c .before .before .before .before .before .before .loop-test in
+    let at-loop = c .before .before .before .before .before .before .before .loop in
+    let at-shared-slice-known = c .before .before .before .before .before .before .before .before .shared-slice-known in
+    let back-8 = c .before .before .before .before .before .before .before .before in
+    let at-args = back-8 .before .args in
+    ap pastOf (pairs-bad (at-args .s .now) (itemAt (at-args .s .now) (at-args .depth)) (least (at-loop .start) (at-loop .before)) (at-loop .p)
+    (at-loop .left) (at-loop-test .taken) _ (at-read-key .ensures) _ _ (at-key .given .1)
+    (item-bad (at-args .s .now) (all-bytes (at-args .s .now) (at-shared-slice-known .given)) _ (at-args .depth) _ (c .before .past-item .ensures)
+    (c .if1 .taken))) ∙ at-loop .inv .0)
     (λ c. search needs) (λ c. search needs)
-    (λ c. let h = key-ends (c .before .before .before .before .before .before .before .before .before .args .s .now) (all-bytes (c .before .before .before .before .before .before .before .before .before .args .s .now) (c .before .before .before .before .before .before .before .before .shared-slice-known .given)) (c .before .before .before .before .before .before .before .loop .p) (least (c .before .before .before .before .before .before .before .loop .start) (c .before .before .before .before .before .before .before .loop .before)) _ _ _ (c .before .before .before .before .before .read-key .ensures) (c .before .before .before .key .given .1) in let g = item-got (c .before .before .before .before .before .before .before .before .before .args .s .now) (all-bytes (c .before .before .before .before .before .before .before .before .before .args .s .now) (c .before .before .before .before .before .before .before .before .shared-slice-known .given)) _ (c .before .before .before .before .before .before .before .before .before .args .depth) _ (c .before .past-item .ensures) (c .if1 .left) in (pairs-next (c .before .before .before .before .before .before .before .before .before .args .s .now) (itemAt (c .before .before .before .before .before .before .before .before .before .args .s .now) (c .before .before .before .before .before .before .before .before .before .args .depth)) (least (c .before .before .before .before .before .before .before .loop .start) (c .before .before .before .before .before .before .before .loop .before)) (c .before .before .before .before .before .before .before .loop .p) (c .before .before .before .before .before .before .before .loop .left) (c .before .before .before .before .before .before .loop-test .taken) _ (c .before .before .before .before .before .read-key .ensures) _ _ (c .before .before .before .key .given .1) (g .0) _ (g .1) ∙ c .before .before .before .before .before .before .before .loop .inv .0, omega (arith, h .0, item-ends (c .before .before .before .before .before .before .before .before .before .args .s .now) (all-bytes (c .before .before .before .before .before .before .before .before .before .args .s .now) (c .before .before .before .before .before .before .before .before .shared-slice-known .given)) _ (c .before .before .before .before .before .before .before .before .before .args .depth) _ (g .0) (g .1) .0, c .before .before .before .before .before .before .before .loop .inv .1)))
-    (λ c. ap pastOf (pairs-none (c .before .before .before .args .s .now) (itemAt (c .before .before .before .args .s .now) (c .before .before .before .args .depth)) (least (c .before .loop .start) (c .before .loop .before)) (c .before .loop .p) (c .before .loop .left) (c .loop-test .left)) ∙ c .before .loop .inv .0))
+    (λ c.
+    let at-key = c .before .before .before .key in
+    let at-read-key = c .before .before .before .before .before .read-key in
+    let at-loop-test = c .before .before .before .before .before .before .loop-test in
+    let at-loop = c .before .before .before .before .before .before .before .loop in
+    let at-shared-slice-known = c .before .before .before .before .before .before .before .before .shared-slice-known in
+    let back-8 = c .before .before .before .before .before .before .before .before in
+    let at-args = back-8 .before .args in
+    let h = key-ends (at-args .s .now) (all-bytes (at-args .s .now) (at-shared-slice-known .given)) (at-loop .p)
+    (least (at-loop .start) (at-loop .before)) _ _ _ (at-read-key .ensures) (at-key .given .1) in
+    let g = item-got (at-args .s .now) (all-bytes (at-args .s .now) (at-shared-slice-known .given)) _ (at-args .depth) _
+    (c .before .past-item .ensures) (c .if1 .left) in (
+      pairs-next (at-args .s .now) (itemAt (at-args .s .now) (at-args .depth)) (least (at-loop .start) (at-loop .before)) (at-loop .p) (at-loop .left)
+          (at-loop-test .taken) _ (at-read-key .ensures) _ _ (at-key .given .1) (g .0) _ (g .1) ∙ at-loop .inv .0,
+      omega (
+        arith,
+        h .0,
+        item-ends (at-args .s .now) (all-bytes (at-args .s .now) (at-shared-slice-known .given)) _ (at-args .depth) _ (g .0) (g .1) .0,
+        at-loop .inv .1,
+      ),
+    ))
+    (λ c.
+    let at-args = c .before .before .before .args in
+    ap pastOf (pairs-none (at-args .s .now) (itemAt (at-args .s .now) (at-args .depth)) (least (c .before .loop .start) (c .before .loop .before))
+    (c .before .loop .p) (c .before .loop .left) (c .loop-test .left)) ∙ c .before .loop .inv .0))
     λ t. past-rest-lts.spec
     (past-string-reads.Asked, past-string-reads.Learnt, past-array-below t, past-array.Post, past-pairs-below t, past-pairs.Post)
     (past-rest-at t) past-rest.Post (λ c κs. search needs)
-    (λ c. rest-string (c .before .before .before .args .s .now) _ _ _ (c .before .before .before .args .depth) (c .before .before .before .pre .1 .0) (c .before .if1 .taken) _ (c .past-string .ensures))
-    (λ c. rest-deep (c .before .before .before .args .s .now) _ _ _ (c .before .before .before .args .depth) (c .before .if1 .left) (c .before .before .before .pre .1 .1) (c .if2 .taken))
+    (λ c.
+    let at-args = c .before .before .before .args in
+    let at-pre = c .before .before .before .pre in
+    rest-string (at-args .s .now) _ _ _ (at-args .depth) (at-pre .1 .0) (c .before .if1 .taken) _ (c .past-string .ensures))
+    (λ c.
+    let at-args = c .before .before .before .args in
+    let at-pre = c .before .before .before .pre in
+    rest-deep (at-args .s .now) _ _ _ (at-args .depth) (c .before .if1 .left) (at-pre .1 .1) (c .if2 .taken))
     (λ c. search needs)
-    (λ c κs. (omega (arith, c .before .before .before .before .pre .0), tt))
-    (λ c. rest-array (c .before .before .before .before .before .args .s .now) _ _ _ (c .before .before .before .before .before .args .depth) (c .before .before .before .if1 .left) (c .before .before .before .before .before .pre .1 .1) (c .before .before .if2 .left) (c .before .if3 .taken) _ (c .past-array .ensures))
+    (λ c κs.
+    let at-pre = c .before .before .before .before .pre in
+    (omega (arith, at-pre .0), tt))
+    (λ c.
+    let at-if2 = c .before .before .if2 in
+    let at-if1 = c .before .before .before .if1 in
+    let at-args = c .before .before .before .before .before .args in
+    let at-pre = c .before .before .before .before .before .pre in
+    rest-array (at-args .s .now) _ _ _ (at-args .depth) (at-if1 .left) (at-pre .1 .1) (at-if2 .left) (c .before .if3 .taken) _
+    (c .past-array .ensures))
     (λ c. search needs)
-    (λ c κs. (omega (arith, c .before .before .before .before .pre .0), tt))
-    (λ c. rest-pairs (c .before .before .before .before .before .args .s .now) _ _ _ (c .before .before .before .before .before .args .depth) (c .before .before .before .if1 .left) (c .before .before .before .before .before .pre .1 .1) (c .before .before .if2 .left) (omega arith) _ (c .past-pairs .ensures))
+    (λ c κs.
+    let at-pre = c .before .before .before .before .pre in
+    (omega (arith, at-pre .0), tt))
+    (λ c.
+    let at-if2 = c .before .before .if2 in
+    let at-if1 = c .before .before .before .if1 in
+    let at-args = c .before .before .before .before .before .args in
+    let at-pre = c .before .before .before .before .before .pre in
+    rest-pairs (at-args .s .now) _ _ _ (at-args .depth) (at-if1 .left) (at-pre .1 .1) (at-if2 .left) (omega arith) _ (c .past-pairs .ensures))

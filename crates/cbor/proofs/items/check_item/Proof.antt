@@ -1,4 +1,4 @@
--- `past_item` says 0 just where the item is bad, since no item ends at 0.
+-- No item ends at 0, so 0 says that there is none.
 use Rattle.bytes.proofs.NumberLaws.{all-bytes}
 use Rattle.cbor.proofs.ItemSteps.{item-bad, item-got, end-bad, end-at}
 use borrow.Author.Needs.{needs}
@@ -10,5 +10,15 @@ check-item-spec =
     tie.close
     (tie.spec
     (λ c κs. search needs)
-    (λ c. end-bad (c .before .before .before .args .s .now) (c .before .before .before .args .depth) (c .before .before .before .args .at) 0 (item-bad (c .before .before .before .args .s .now) (all-bytes (c .before .before .before .args .s .now) (c .before .before .shared-slice-known .given)) (c .before .before .before .args .at) (c .before .before .before .args .depth) _ (c .before .past-item .ensures) (c .if1 .taken)))
-    (λ c. let g = item-got (c .before .before .before .args .s .now) (all-bytes (c .before .before .before .args .s .now) (c .before .before .shared-slice-known .given)) (c .before .before .before .args .at) (c .before .before .before .args .depth) _ (c .before .past-item .ensures) (c .if1 .left) in end-at (c .before .before .before .args .s .now) (c .before .before .before .args .depth) (c .before .before .before .args .at) _ (g .0) (g .1)))
+    (λ c.
+    let at-shared-slice-known = c .before .before .shared-slice-known in
+    let at-args = c .before .before .before .args in
+    end-bad (at-args .s .now) (at-args .depth) (at-args .at) 0
+    (item-bad (at-args .s .now) (all-bytes (at-args .s .now) (at-shared-slice-known .given)) (at-args .at) (at-args .depth) _
+    (c .before .past-item .ensures) (c .if1 .taken)))
+    (λ c.
+    let at-shared-slice-known = c .before .before .shared-slice-known in
+    let at-args = c .before .before .before .args in
+    let g = item-got (at-args .s .now) (all-bytes (at-args .s .now) (at-shared-slice-known .given)) (at-args .at) (at-args .depth) _
+    (c .before .past-item .ensures) (c .if1 .left) in
+    end-at (at-args .s .now) (at-args .depth) (at-args .at) _ (g .0) (g .1)))

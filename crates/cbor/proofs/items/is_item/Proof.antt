@@ -1,4 +1,4 @@
--- `check_item` says where the item ends; it is the whole payload where that is the slice's end.
+-- The item that starts the slice is all of it where it ends with it.
 use Rattle.cbor.proofs.ItemSteps.{whole-bad, whole-ends}
 use borrow.Author.Needs.{needs}
 use Rattle.cbor.proofs.items.is_item.Statement.{statement}
@@ -9,5 +9,11 @@ is-item-spec =
     tie.close
     (tie.spec
     (λ c κs. search needs) (λ c. search needs) (λ c. search needs)
-    (λ c. whole-bad (c .before .before .before .before .args .s .now) _ (c .before .before .check-item .ensures) (c .enum-told .given .1))
-    (λ c. whole-ends (c .before .before .before .before .before .args .s .now) _ (c .before .before .before .check-item .ensures) _ (c .before .e .given .1)))
+    (λ c.
+    let at-check-item = c .before .before .check-item in
+    let at-args = c .before .before .before .before .args in
+    whole-bad (at-args .s .now) _ (at-check-item .ensures) (c .enum-told .given .1))
+    (λ c.
+    let at-check-item = c .before .before .before .check-item in
+    let at-args = c .before .before .before .before .before .args in
+    whole-ends (at-args .s .now) _ (at-check-item .ensures) _ (c .before .e .given .1)))

@@ -1,4 +1,4 @@
--- The first key may be any, and a later one must be above the last: that is `least` and the test of `keyFrom`.
+-- Any key may come first, else it is above the last.
 use Rattle.cbor.proofs.KeySteps.{later-first, later-next, later-not}
 use Rattle.cbor.proofs.items.later.Statement.{statement}
 use Rattle.cbor.proofs.items.later.Tie as tie
@@ -8,5 +8,9 @@ later-spec =
     tie.close
     (tie.spec
     (λ c. later-first _ _ (c .before .args .last) _ (c .if1 .taken))
-    (λ c. later-next _ _ (c .before .before .args .last) _ (c .before .if1 .left) (c .if2 .taken))
-    (λ c. later-not _ _ (c .before .before .args .last) _ (c .before .if1 .left) (c .if2 .left)))
+    (λ c.
+    let at-args = c .before .before .args in
+    later-next _ _ (at-args .last) _ (c .before .if1 .left) (c .if2 .taken))
+    (λ c.
+    let at-args = c .before .before .args in
+    later-not _ _ (at-args .last) _ (c .before .if1 .left) (c .if2 .left)))

@@ -1,4 +1,4 @@
--- The comparison with what is left is the definition's; where n fits in it, at + n is at most the length.
+-- The test is the one of the definition, without a sum that could overflow.
 use borrow.Author.Tests.{le-leb, lt-leb}
 use borrow.Author.Needs.{needs}
 use Rattle.cbor.proofs.items.past_string.Statement.{statement}

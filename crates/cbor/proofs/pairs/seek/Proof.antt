@@ -1,4 +1,4 @@
--- From here with the pairs left, the walk stops where the whole walk does; each turn passes one pair.
+-- What is left to walk finds what the whole walk finds. The measure is how many pairs are left.
 use mathlib.Core.Path.{_≡_, refl, _∙_}
 use borrow.Author.Needs.{needs}
 use Rattle.cbor.specs.Find.{seekAt}
@@ -17,10 +17,33 @@ seek-spec =
     tie.close
     (tie.spec
     Inv-loop μ-loop (λ c. refl) (λ c κs. search needs) (λ c. search needs) (λ c κs. search needs)
-    (λ c. c .stopping .ensures ∙ walk-halt (c .before .before .before .before .before .before .before .args .s .now) (c .before .before .before .before .before .before .before .args .depth) (c .before .before .before .before .before .before .before .args .key) (c .before .before .before .before .before .loop .p) (c .before .before .before .before .before .loop .n) (c .before .before .before .before .loop-test .taken) _ (c .before .before .before .look .ensures) (c .before .enum-told .given .1) ∙ c .before .before .before .before .before .loop .inv)
+    (λ c.
+    let at-look = c .before .before .before .look in
+    let at-loop-test = c .before .before .before .before .loop-test in
+    let at-loop = c .before .before .before .before .before .loop in
+    let at-args = c .before .before .before .before .before .before .before .args in
+    c .stopping .ensures ∙ walk-halt (at-args .s .now) (at-args .depth) (at-args .key) (at-loop .p) (at-loop .n) (at-loop-test .taken) _
+    (at-look .ensures) (c .before .enum-told .given .1) ∙ at-loop .inv)
     (λ c. search needs) (λ c. search needs) (λ c κs. search needs)
-    (λ c. c .stopping2 .ensures ∙ walk-there (c .before .before .before .before .before .before .before .before .args .s .now) (c .before .before .before .before .before .before .before .before .args .depth) (c .before .before .before .before .before .before .before .before .args .key) (c .before .before .before .before .before .before .loop .p) (c .before .before .before .before .before .before .loop .n) (c .before .before .before .before .before .loop-test .taken) _ (c .before .before .before .before .look .ensures) _ (c .before .before .value .given .1) ∙ c .before .before .before .before .before .before .loop .inv)
+    (λ c.
+    let at-value = c .before .before .value in
+    let at-look = c .before .before .before .before .look in
+    let at-loop-test = c .before .before .before .before .before .loop-test in
+    let at-loop = c .before .before .before .before .before .before .loop in
+    let at-args = c .before .before .before .before .before .before .before .before .args in
+    c .stopping2 .ensures ∙ walk-there (at-args .s .now) (at-args .depth) (at-args .key) (at-loop .p) (at-loop .n) (at-loop-test .taken) _
+    (at-look .ensures) _ (at-value .given .1) ∙ at-loop .inv)
     (λ c. search needs) (λ c. search needs) (λ c. search needs)
-    (λ c. walk-past (c .before .before .before .before .before .before .before .args .s .now) (c .before .before .before .before .before .before .before .args .depth) (c .before .before .before .before .before .before .before .args .key) (c .before .before .before .before .before .loop .p) (c .before .before .before .before .before .loop .n) (c .before .before .before .before .loop-test .taken) _ (c .before .before .before .look .ensures) _ (c .before .e .given .1) ∙ c .before .before .before .before .before .loop .inv)
+    (λ c.
+    let at-look = c .before .before .before .look in
+    let at-loop-test = c .before .before .before .before .loop-test in
+    let at-loop = c .before .before .before .before .before .loop in
+    let at-args = c .before .before .before .before .before .before .before .args in
+    walk-past (at-args .s .now) (at-args .depth) (at-args .key) (at-loop .p) (at-loop .n) (at-loop-test .taken) _ (at-look .ensures) _
+    (c .before .e .given .1) ∙ at-loop .inv)
     (λ c κs. search needs)
-    (λ c. c .stopping3 .ensures ∙ walk-end (c .before .before .before .before .args .s .now) (c .before .before .before .before .args .depth) (c .before .before .before .before .args .key) (c .before .before .loop .p) (c .before .before .loop .n) (c .before .loop-test .left) ∙ c .before .before .loop .inv))
+    (λ c.
+    let at-loop = c .before .before .loop in
+    let at-args = c .before .before .before .before .args in
+    c .stopping3 .ensures ∙ walk-end (at-args .s .now) (at-args .depth) (at-args .key) (at-loop .p) (at-loop .n)
+    (c .before .loop-test .left) ∙ at-loop .inv))

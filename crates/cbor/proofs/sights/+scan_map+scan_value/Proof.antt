@@ -49,7 +49,8 @@ scan-value-below t =
     and 2 scan-value-kinds.ps (falls 2 scan-value-kinds.ps _<_ μ-scan-value t) scan-value.Pre
 
 abbrev scan-map-Inv-loop : scan-map-lts.InvT-loop
-scan-map-Inv-loop s at n depth path level sights₀ p₀ left₀ first₀ last₀ sights p left first last = Onward (noteFrom path level) (pairsAt s (itemAt s depth) left (least first last) p) sights (pairsAt s (itemAt s depth) n 0 at) sights₀ × (at ≤ p)
+scan-map-Inv-loop s at n depth path level sights₀ p₀ left₀ first₀ last₀ sights p left first last = Onward (noteFrom path level)
+    (pairsAt s (itemAt s depth) left (least first last) p) sights (pairsAt s (itemAt s depth) n 0 at) sights₀ × (at ≤ p)
 
 abbrev scan-map-μ-loop : scan-map-lts.MeasureT-loop
 scan-map-μ-loop s at n depth path level sights₀ p₀ left₀ first₀ last₀ sights p left first last = left
@@ -59,24 +60,210 @@ pub +scan-map+scan-value-spec : {M : Type 1} → statement M
     (read-key-reads.Asked, read-key-reads.Learnt, past-pairs-reads.Asked, past-pairs-reads.Learnt, scan-value-below t, scan-value.Post)
     (scan-map-at t) scan-map.Post scan-map-Inv-loop scan-map-μ-loop (λ c. (λ r m x. x, omega arith))
     (λ c κs. search needs) (λ c. search needs)
-    (λ c. c .before .before .before .before .loop .inv .0 0 _ (ends-bad (noteFrom (c .before .before .before .before .before .before .args .path) (c .before .before .before .before .before .before .args .level)) (c .before .before .before .before .before .before .args .s .now) (itemAt (c .before .before .before .before .before .before .args .s .now) (c .before .before .before .before .before .before .args .depth)) (least (c .before .before .before .before .loop .first) (c .before .before .before .before .loop .last)) (c .before .before .before .before .loop .p) (c .before .before .before .before .loop .left) (c .before .before .before .before .loop .sights) (pairs-key (c .before .before .before .before .before .before .args .s .now) (itemAt (c .before .before .before .before .before .before .args .s .now) (c .before .before .before .before .before .before .args .depth)) (least (c .before .before .before .before .loop .first) (c .before .before .before .before .loop .last)) (c .before .before .before .before .loop .p) (c .before .before .before .before .loop .left) (c .before .before .before .loop-test .taken) _ (c .before .before .read-key .ensures) (c .enum-told .given .1)) _))
+    (λ c.
+    let at-read-key = c .before .before .read-key in
+    let at-loop-test = c .before .before .before .loop-test in
+    let at-loop = c .before .before .before .before .loop in
+    let at-args = c .before .before .before .before .before .before .args in
+    at-loop .inv .0 0 _ (ends-bad (noteFrom (at-args .path) (at-args .level)) (at-args .s .now) (itemAt (at-args .s .now) (at-args .depth))
+    (least (at-loop .first) (at-loop .last)) (at-loop .p) (at-loop .left) (at-loop .sights)
+    (pairs-key (at-args .s .now) (itemAt (at-args .s .now) (at-args .depth)) (least (at-loop .first) (at-loop .last)) (at-loop .p) (at-loop .left)
+    (at-loop-test .taken) _ (at-read-key .ensures) (c .enum-told .given .1)) _))
     (λ c. search needs) (λ c κs. search needs)
-    (λ c. c .before .before .before .before .before .before .before .loop .inv .0 _ _ (ends-large (noteFrom (c .before .before .before .before .before .before .before .before .before .args .path) (c .before .before .before .before .before .before .before .before .before .args .level)) (c .before .before .before .before .before .before .before .before .before .args .s .now) (itemAt (c .before .before .before .before .before .before .before .before .before .args .s .now) (c .before .before .before .before .before .before .before .before .before .args .depth)) (least (c .before .before .before .before .before .before .before .loop .first) (c .before .before .before .before .before .before .before .loop .last)) (c .before .before .before .before .before .before .before .loop .p) (c .before .before .before .before .before .before .before .loop .left) (c .before .before .before .before .before .before .before .loop .sights) (c .before .before .before .before .before .before .loop-test .taken) _ (c .before .before .before .before .before .read-key .ensures) _ _ (c .before .before .before .key .given .1) (c .before .if1 .taken) _ (c .past-pairs .ensures)))
-    (λ c κs. let h = key-ends (c .before .before .before .before .before .before .before .before .before .args .s .now) (all-bytes (c .before .before .before .before .before .before .before .before .before .args .s .now) (c .before .before .before .before .before .before .before .before .shared-slice-known .given)) (c .before .before .before .before .before .before .before .loop .p) (least (c .before .before .before .before .before .before .before .loop .first) (c .before .before .before .before .before .before .before .loop .last)) _ _ _ (c .before .before .before .before .before .read-key .ensures) (c .before .before .before .key .given .1) in (omega (arith, h .0, h .1, c .before .before .before .before .before .before .before .loop .inv .1, c .before .before .before .before .before .before .before .before .before .pre .0), (omega arith, c .before .before .before .before .before .before .before .before .before .pre .1)))
-    (λ c. c .before .before .before .before .before .before .before .before .before .loop .inv .0 0 _ (ends-bad (noteFrom (c .before .before .before .before .before .before .before .before .before .before .before .args .path) (c .before .before .before .before .before .before .before .before .before .before .before .args .level)) (c .before .before .before .before .before .before .before .before .before .before .before .args .s .now) (itemAt (c .before .before .before .before .before .before .before .before .before .before .before .args .s .now) (c .before .before .before .before .before .before .before .before .before .before .before .args .depth)) (least (c .before .before .before .before .before .before .before .before .before .loop .first) (c .before .before .before .before .before .before .before .before .before .loop .last)) (c .before .before .before .before .before .before .before .before .before .loop .p) (c .before .before .before .before .before .before .before .before .before .loop .left) (c .before .before .before .before .before .before .before .before .before .loop .sights) (pairs-bad (c .before .before .before .before .before .before .before .before .before .before .before .args .s .now) (itemAt (c .before .before .before .before .before .before .before .before .before .before .before .args .s .now) (c .before .before .before .before .before .before .before .before .before .before .before .args .depth)) (least (c .before .before .before .before .before .before .before .before .before .loop .first) (c .before .before .before .before .before .before .before .before .before .loop .last)) (c .before .before .before .before .before .before .before .before .before .loop .p) (c .before .before .before .before .before .before .before .before .before .loop .left) (c .before .before .before .before .before .before .before .before .loop-test .taken) _ (c .before .before .before .before .before .before .before .read-key .ensures) _ _ (c .before .before .before .before .before .key .given .1) (item-bad (c .before .before .before .before .before .before .before .before .before .before .before .args .s .now) (all-bytes (c .before .before .before .before .before .before .before .before .before .before .before .args .s .now) (c .before .before .before .before .before .before .before .before .before .before .shared-slice-known .given)) _ (c .before .before .before .before .before .before .before .before .before .before .before .args .depth) _ (c .before .scan-value .ensures .0) (c .if2 .taken))) _))
+    (λ c.
+    let at-key = c .before .before .before .key in
+    let at-read-key = c .before .before .before .before .before .read-key in
+    let at-loop-test = c .before .before .before .before .before .before .loop-test in
+    let at-loop = c .before .before .before .before .before .before .before .loop in
+    let back-8 = c .before .before .before .before .before .before .before .before in
+    let at-args = back-8 .before .args in
+    at-loop .inv .0 _ _ (ends-large (noteFrom (at-args .path) (at-args .level)) (at-args .s .now) (itemAt (at-args .s .now) (at-args .depth))
+    (least (at-loop .first) (at-loop .last)) (at-loop .p) (at-loop .left) (at-loop .sights) (at-loop-test .taken) _ (at-read-key .ensures) _ _
+    (at-key .given .1) (c .before .if1 .taken) _ (c .past-pairs .ensures)))
+    (λ c κs.
+    let at-key = c .before .before .before .key in
+    let at-read-key = c .before .before .before .before .before .read-key in
+    let at-loop = c .before .before .before .before .before .before .before .loop in
+    let at-shared-slice-known = c .before .before .before .before .before .before .before .before .shared-slice-known in
+    let back-8 = c .before .before .before .before .before .before .before .before in
+    let at-args = back-8 .before .args in
+    let at-pre = back-8 .before .pre in
+    let h = key-ends (at-args .s .now) (all-bytes (at-args .s .now) (at-shared-slice-known .given)) (at-loop .p)
+    (least (at-loop .first) (at-loop .last)) _ _ _ (at-read-key .ensures) (at-key .given .1) in
+    (omega (arith, h .0, h .1, at-loop .inv .1, at-pre .0), (omega arith, at-pre .1)))
+    (λ c.
+    let at-key = c .before .before .before .before .before .key in
+    let at-read-key = c .before .before .before .before .before .before .before .read-key in
+    let at-loop-test = c .before .before .before .before .before .before .before .before .loop-test in
+    let back-8 = c .before .before .before .before .before .before .before .before in
+    let at-loop = back-8 .before .loop in
+    let at-shared-slice-known = back-8 .before .before .shared-slice-known in
+    let at-args = back-8 .before .before .before .args in
+    at-loop .inv .0 0 _ (ends-bad (noteFrom (at-args .path) (at-args .level)) (at-args .s .now) (itemAt (at-args .s .now) (at-args .depth))
+    (least (at-loop .first) (at-loop .last)) (at-loop .p) (at-loop .left) (at-loop .sights)
+    (pairs-bad (at-args .s .now) (itemAt (at-args .s .now) (at-args .depth)) (least (at-loop .first) (at-loop .last)) (at-loop .p) (at-loop .left)
+    (at-loop-test .taken) _ (at-read-key .ensures) _ _ (at-key .given .1)
+    (item-bad (at-args .s .now) (all-bytes (at-args .s .now) (at-shared-slice-known .given)) _ (at-args .depth) _ (c .before .scan-value .ensures .0)
+    (c .if2 .taken))) _))
     (λ c. search needs) (λ c. search needs)
-    (λ c. let h = key-ends (c .before .before .before .before .before .before .before .before .before .before .before .args .s .now) (all-bytes (c .before .before .before .before .before .before .before .before .before .before .before .args .s .now) (c .before .before .before .before .before .before .before .before .before .before .shared-slice-known .given)) (c .before .before .before .before .before .before .before .before .before .loop .p) (least (c .before .before .before .before .before .before .before .before .before .loop .first) (c .before .before .before .before .before .before .before .before .before .loop .last)) _ _ _ (c .before .before .before .before .before .before .before .read-key .ensures) (c .before .before .before .before .before .key .given .1) in let g = item-got (c .before .before .before .before .before .before .before .before .before .before .before .args .s .now) (all-bytes (c .before .before .before .before .before .before .before .before .before .before .before .args .s .now) (c .before .before .before .before .before .before .before .before .before .before .shared-slice-known .given)) _ (c .before .before .before .before .before .before .before .before .before .before .before .args .depth) _ (c .before .scan-value .ensures .0) (c .if2 .left) in (λ r m x. c .before .before .before .before .before .before .before .before .before .loop .inv .0 r m (ends-next (noteFrom (c .before .before .before .before .before .before .before .before .before .before .before .args .path) (c .before .before .before .before .before .before .before .before .before .before .before .args .level)) (c .before .before .before .before .before .before .before .before .before .before .before .args .s .now) (itemAt (c .before .before .before .before .before .before .before .before .before .before .before .args .s .now) (c .before .before .before .before .before .before .before .before .before .before .before .args .depth)) (least (c .before .before .before .before .before .before .before .before .before .loop .first) (c .before .before .before .before .before .before .before .before .before .loop .last)) (c .before .before .before .before .before .before .before .before .before .loop .p) (c .before .before .before .before .before .before .before .before .before .loop .left) (c .before .before .before .before .before .before .before .before .before .loop .sights) (c .before .before .before .before .before .before .before .before .loop-test .taken) _ (c .before .before .before .before .before .before .before .read-key .ensures) _ _ (c .before .before .before .before .before .key .given .1) (omega arith) (g .0) _ (g .1) _ (left-is _ _ _ (c .before .scan-value .ensures .1) (g .0) _ (g .1)) r m x), omega (arith, h .0, item-ends (c .before .before .before .before .before .before .before .before .before .before .before .args .s .now) (all-bytes (c .before .before .before .before .before .before .before .before .before .before .before .args .s .now) (c .before .before .before .before .before .before .before .before .before .before .shared-slice-known .given)) _ (c .before .before .before .before .before .before .before .before .before .before .before .args .depth) _ (g .0) (g .1) .0, c .before .before .before .before .before .before .before .before .before .loop .inv .1)))
-    (λ c. c .before .loop .inv .0 _ _ (ends-none (noteFrom (c .before .before .before .args .path) (c .before .before .before .args .level)) (c .before .before .before .args .s .now) (itemAt (c .before .before .before .args .s .now) (c .before .before .before .args .depth)) (least (c .before .loop .first) (c .before .loop .last)) (c .before .loop .p) (c .before .loop .left) (c .before .loop .sights) (c .loop-test .left))))
-    λ t. scan-value-lts.spec
-    (read-head-reads.Asked, read-head-reads.Learnt, note-reads.Asked, note-reads.Learnt, opens-reads.Asked, opens-reads.Learnt, scan-map-below t, scan-map.Post, past-rest-reads.Asked, past-rest-reads.Learnt)
+    (λ c.
+    let at-key = c .before .before .before .before .before .key in
+    let at-read-key = c .before .before .before .before .before .before .before .read-key in
+    let at-loop-test = c .before .before .before .before .before .before .before .before .loop-test in
+    let back-8 = c .before .before .before .before .before .before .before .before in
+    let at-loop = back-8 .before .loop in
+    let at-shared-slice-known = back-8 .before .before .shared-slice-known in
+    let at-args = back-8 .before .before .before .args in
+    let h = key-ends (at-args .s .now) (all-bytes (at-args .s .now) (at-shared-slice-known .given)) (at-loop .p)
+    (least (at-loop .first) (at-loop .last)) _ _ _ (at-read-key .ensures) (at-key .given .1) in
+    let g = item-got (at-args .s .now) (all-bytes (at-args .s .now) (at-shared-slice-known .given)) _ (at-args .depth) _
+    (c .before .scan-value .ensures .0) (c .if2 .left) in (
+      λ r m x. at-loop .inv .0 r m (ends-next (noteFrom (at-args .path) (at-args .level)) (at-args .s .now)
+          (itemAt (at-args .s .now) (at-args .depth)) (least (at-loop .first) (at-loop .last)) (at-loop .p) (at-loop .left) (at-loop .sights)
+          (at-loop-test .taken) _ (at-read-key .ensures) _ _ (at-key .given .1) (omega arith) (g .0) _ (g .1) _
+          (left-is _ _ _ (c .before .scan-value .ensures .1) (g .0) _ (g .1)) r m x),
+      omega (
+        arith,
+        h .0,
+        item-ends (at-args .s .now) (all-bytes (at-args .s .now) (at-shared-slice-known .given)) _ (at-args .depth) _ (g .0) (g .1) .0,
+        at-loop .inv .1,
+      ),
+    ))
+    (λ c.
+    let at-args = c .before .before .before .args in
+    c .before .loop .inv .0 _ _ (ends-none (noteFrom (at-args .path) (at-args .level)) (at-args .s .now) (itemAt (at-args .s .now) (at-args .depth))
+    (least (c .before .loop .first) (c .before .loop .last)) (c .before .loop .p) (c .before .loop .left) (c .before .loop .sights)
+    (c .loop-test .left))))
+    λ t. scan-value-lts.spec (
+      read-head-reads.Asked,
+      read-head-reads.Learnt,
+      note-reads.Asked,
+      note-reads.Learnt,
+      opens-reads.Asked,
+      opens-reads.Learnt,
+      scan-map-below t,
+      scan-map.Post,
+      past-rest-reads.Asked,
+      past-rest-reads.Learnt,
+    )
     (scan-value-at t) scan-value.Post (λ c κs. search needs) (λ c. search needs) (λ c. search needs) (λ c. search needs)
     (λ c. search needs) (λ c κs. search needs) (λ c κs. search needs)
-    (λ c. let k = value-under (c .before .before .before .before .before .before .before .before .before .before .args .s .now) (all-bytes (c .before .before .before .before .before .before .before .before .before .before .args .s .now) (c .before .before .before .before .before .before .before .before .before .shared-slice-known .given)) (c .before .before .before .before .before .before .before .before .before .before .args .depth) (c .before .before .before .before .before .before .before .before .before .before .args .at) _ (c .before .before .before .before .before .before .before .before .read-head .ensures) _ _ _ (c .before .before .before .before .before .before .major .given .1) (c .before .before .before .before .before .before .before .before .before .before .args .path) (c .before .before .before .before .before .before .before .before .before .before .args .level) (c .before .before .before .before .before .before .before .before .before .before .args .key) (c .before .before .before .before .before .before .before .before .before .before .args .sights .now) _ (c .before .before .before .note .ensures) _ (c .before .before .opens .ensures) (c .before .if1 .taken) in let z = item-rest (c .before .before .before .before .before .before .before .before .before .before .args .s .now) (c .before .before .before .before .before .before .before .before .before .before .args .depth) (c .before .before .before .before .before .before .before .before .before .before .args .at) _ (c .before .before .before .before .before .before .before .before .read-head .ensures) _ _ _ (c .before .before .before .before .before .before .major .given .1) _ (rest-deep (c .before .before .before .before .before .before .before .before .before .before .args .s .now) _ _ _ (c .before .before .before .before .before .before .before .before .before .before .args .depth) (omega (arith, k .0)) (omega (arith, k .0)) (c .if2 .taken)) in (z, left-bad _ _ _ (item-bad (c .before .before .before .before .before .before .before .before .before .before .args .s .now) (all-bytes (c .before .before .before .before .before .before .before .before .before .before .args .s .now) (c .before .before .before .before .before .before .before .before .before .shared-slice-known .given)) (c .before .before .before .before .before .before .before .before .before .before .args .at) (c .before .before .before .before .before .before .before .before .before .before .args .depth) 0 z refl)))
+    (λ c.
+    let at-opens = c .before .before .opens in
+    let at-note = c .before .before .before .note in
+    let at-major = c .before .before .before .before .before .before .major in
+    let at-read-head = c .before .before .before .before .before .before .before .before .read-head in
+    let back-8 = c .before .before .before .before .before .before .before .before in
+    let at-shared-slice-known = back-8 .before .shared-slice-known in
+    let at-args = back-8 .before .before .args in
+    let k = value-under (at-args .s .now) (all-bytes (at-args .s .now) (at-shared-slice-known .given)) (at-args .depth) (at-args .at) _
+    (at-read-head .ensures) _ _ _ (at-major .given .1) (at-args .path) (at-args .level) (at-args .key) (at-args .sights .now) _ (at-note .ensures) _
+    (at-opens .ensures) (c .before .if1 .taken) in
+    let z = item-rest (at-args .s .now) (at-args .depth) (at-args .at) _ (at-read-head .ensures) _ _ _ (at-major .given .1) _
+    (rest-deep (at-args .s .now) _ _ _ (at-args .depth) (omega (arith, k .0)) (omega (arith, k .0)) (c .if2 .taken)) in (
+      z,
+      left-bad _ _ _ (item-bad (at-args .s .now) (all-bytes (at-args .s .now) (at-shared-slice-known .given)) (at-args .at)
+          (at-args .depth) 0 z refl),
+    ))
     (λ c. search needs) (λ c. search needs)
-    (λ c κs. let h = head-ends (c .before .before .before .before .before .before .before .before .before .before .before .args .s .now) (all-bytes (c .before .before .before .before .before .before .before .before .before .before .before .args .s .now) (c .before .before .before .before .before .before .before .before .before .before .shared-slice-known .given)) (c .before .before .before .before .before .before .before .before .before .before .before .args .at) _ _ _ _ (c .before .before .before .before .before .before .before .before .before .read-head .ensures) (c .before .before .before .before .before .before .before .major .given .1) in (omega (arith, h .0, h .1, c .before .before .before .before .before .before .before .before .before .before .before .pre .0), omega (arith, value-under (c .before .before .before .before .before .before .before .before .before .before .before .args .s .now) (all-bytes (c .before .before .before .before .before .before .before .before .before .before .before .args .s .now) (c .before .before .before .before .before .before .before .before .before .before .shared-slice-known .given)) (c .before .before .before .before .before .before .before .before .before .before .before .args .depth) (c .before .before .before .before .before .before .before .before .before .before .before .args .at) _ (c .before .before .before .before .before .before .before .before .before .read-head .ensures) _ _ _ (c .before .before .before .before .before .before .before .major .given .1) (c .before .before .before .before .before .before .before .before .before .before .before .args .path) (c .before .before .before .before .before .before .before .before .before .before .before .args .level) (c .before .before .before .before .before .before .before .before .before .before .before .args .key) (c .before .before .before .before .before .before .before .before .before .before .before .args .sights .now) _ (c .before .before .before .before .note .ensures) _ (c .before .before .before .opens .ensures) (c .before .before .if1 .taken) .2)))
-    (λ c. let k = value-under (c .before .before .before .before .before .before .before .before .before .before .before .before .args .s .now) (all-bytes (c .before .before .before .before .before .before .before .before .before .before .before .before .args .s .now) (c .before .before .before .before .before .before .before .before .before .before .before .shared-slice-known .given)) (c .before .before .before .before .before .before .before .before .before .before .before .before .args .depth) (c .before .before .before .before .before .before .before .before .before .before .before .before .args .at) _ (c .before .before .before .before .before .before .before .before .before .before .read-head .ensures) _ _ _ (c .before .before .before .before .before .before .before .before .major .given .1) (c .before .before .before .before .before .before .before .before .before .before .before .before .args .path) (c .before .before .before .before .before .before .before .before .before .before .before .before .args .level) (c .before .before .before .before .before .before .before .before .before .before .before .before .args .key) (c .before .before .before .before .before .before .before .before .before .before .before .before .args .sights .now) _ (c .before .before .before .before .before .note .ensures) _ (c .before .before .before .before .opens .ensures) (c .before .before .before .if1 .taken) in (item-rest (c .before .before .before .before .before .before .before .before .before .before .before .before .args .s .now) (c .before .before .before .before .before .before .before .before .before .before .before .before .args .depth) (c .before .before .before .before .before .before .before .before .before .before .before .before .args .at) _ (c .before .before .before .before .before .before .before .before .before .before .read-head .ensures) _ _ _ (c .before .before .before .before .before .before .before .before .major .given .1) _ (rest-pairs (c .before .before .before .before .before .before .before .before .before .before .before .before .args .s .now) _ _ _ (c .before .before .before .before .before .before .before .before .before .before .before .before .args .depth) (omega (arith, k .0)) (omega (arith, k .0)) (c .before .before .if2 .left) (k .0) _ (c .scan-map .ensures .0)), value-map (c .before .before .before .before .before .before .before .before .before .before .before .before .args .s .now) (all-bytes (c .before .before .before .before .before .before .before .before .before .before .before .before .args .s .now) (c .before .before .before .before .before .before .before .before .before .before .before .shared-slice-known .given)) (c .before .before .before .before .before .before .before .before .before .before .before .before .args .depth) (c .before .before .before .before .before .before .before .before .before .before .before .before .args .at) _ (c .before .before .before .before .before .before .before .before .before .before .read-head .ensures) _ _ _ (c .before .before .before .before .before .before .before .before .major .given .1) (c .before .before .before .before .before .before .before .before .before .before .before .before .args .path) (c .before .before .before .before .before .before .before .before .before .before .before .before .args .level) (c .before .before .before .before .before .before .before .before .before .before .before .before .args .key) (c .before .before .before .before .before .before .before .before .before .before .before .before .args .sights .now) _ (c .before .before .before .before .before .note .ensures) _ (c .before .before .before .before .opens .ensures) (c .before .before .before .if1 .taken) (c .before .before .if2 .left) _ (c .scan-map .ensures .1)))
-    (λ c. (item-rest (c .before .before .before .before .before .before .before .before .before .before .args .s .now) (c .before .before .before .before .before .before .before .before .before .before .args .depth) (c .before .before .before .before .before .before .before .before .before .before .args .at) _ (c .before .before .before .before .before .before .before .before .read-head .ensures) _ _ _ (c .before .before .before .before .before .before .major .given .1) _ (rest-flat (c .before .before .before .before .before .before .before .before .before .before .args .s .now) _ _ _ (c .before .before .before .before .before .before .before .before .before .before .args .depth) (λ g l. omega arith)), value-plain (c .before .before .before .before .before .before .before .before .before .before .args .s .now) (all-bytes (c .before .before .before .before .before .before .before .before .before .before .args .s .now) (c .before .before .before .before .before .before .before .before .before .shared-slice-known .given)) (c .before .before .before .before .before .before .before .before .before .before .args .depth) (c .before .before .before .before .before .before .before .before .before .before .args .at) _ (c .before .before .before .before .before .before .before .before .read-head .ensures) _ _ _ (c .before .before .before .before .before .before .major .given .1) (c .before .before .before .before .before .before .before .before .before .before .args .path) (c .before .before .before .before .before .before .before .before .before .before .args .level) (c .before .before .before .before .before .before .before .before .before .before .args .key) (c .before .before .before .before .before .before .before .before .before .before .args .sights .now) _ (c .before .before .before .note .ensures) _ (c .before .before .opens .ensures) (c .before .if1 .left)))
-    (λ c. (item-rest (c .before .before .before .before .before .before .before .before .before .before .before .args .s .now) (c .before .before .before .before .before .before .before .before .before .before .before .args .depth) (c .before .before .before .before .before .before .before .before .before .before .before .args .at) _ (c .before .before .before .before .before .before .before .before .before .read-head .ensures) _ _ _ (c .before .before .before .before .before .before .before .major .given .1) _ (rest-flat (c .before .before .before .before .before .before .before .before .before .before .before .args .s .now) _ _ _ (c .before .before .before .before .before .before .before .before .before .before .before .args .depth) (λ g l. omega arith)), value-plain (c .before .before .before .before .before .before .before .before .before .before .before .args .s .now) (all-bytes (c .before .before .before .before .before .before .before .before .before .before .before .args .s .now) (c .before .before .before .before .before .before .before .before .before .before .shared-slice-known .given)) (c .before .before .before .before .before .before .before .before .before .before .before .args .depth) (c .before .before .before .before .before .before .before .before .before .before .before .args .at) _ (c .before .before .before .before .before .before .before .before .before .read-head .ensures) _ _ _ (c .before .before .before .before .before .before .before .major .given .1) (c .before .before .before .before .before .before .before .before .before .before .before .args .path) (c .before .before .before .before .before .before .before .before .before .before .before .args .level) (c .before .before .before .before .before .before .before .before .before .before .before .args .key) (c .before .before .before .before .before .before .before .before .before .before .before .args .sights .now) _ (c .before .before .before .before .note .ensures) _ (c .before .before .before .opens .ensures) (c .before .before .if1 .left)))
-    (λ c κs. let h = head-ends (c .before .before .before .before .before .before .before .before .before .before .before .args .s .now) (all-bytes (c .before .before .before .before .before .before .before .before .before .before .before .args .s .now) (c .before .before .before .before .before .before .before .before .before .before .shared-slice-known .given)) (c .before .before .before .before .before .before .before .before .before .before .before .args .at) _ _ _ _ (c .before .before .before .before .before .before .before .before .before .read-head .ensures) (c .before .before .before .before .before .before .before .major .given .1) in (omega arith, head-rest (c .before .before .before .before .before .before .before .before .before .before .before .args .s .now) (all-bytes (c .before .before .before .before .before .before .before .before .before .before .before .args .s .now) (c .before .before .before .before .before .before .before .before .before .before .shared-slice-known .given)) (c .before .before .before .before .before .before .before .before .before .before .before .args .at) _ _ _ _ (c .before .before .before .before .before .before .before .before .before .read-head .ensures) (c .before .before .before .before .before .before .before .major .given .1) (c .if4 .left), h .1))
-    (λ c. let z = item-no-head (c .before .before .before .before .args .s .now) (c .before .before .before .before .args .depth) (c .before .before .before .before .args .at) _ (c .before .before .read-head .ensures) (c .enum-told .given .1) in (ap pastOf z, left-bad _ _ _ (sym z)))
-    (λ c. (item-rest (c .before .before .before .before .before .before .before .before .before .before .before .before .args .s .now) (c .before .before .before .before .before .before .before .before .before .before .before .before .args .depth) (c .before .before .before .before .before .before .before .before .before .before .before .before .args .at) _ (c .before .before .before .before .before .before .before .before .before .before .read-head .ensures) _ _ _ (c .before .before .before .before .before .before .before .before .major .given .1) _ (c .past-rest .ensures), value-plain (c .before .before .before .before .before .before .before .before .before .before .before .before .args .s .now) (all-bytes (c .before .before .before .before .before .before .before .before .before .before .before .before .args .s .now) (c .before .before .before .before .before .before .before .before .before .before .before .shared-slice-known .given)) (c .before .before .before .before .before .before .before .before .before .before .before .before .args .depth) (c .before .before .before .before .before .before .before .before .before .before .before .before .args .at) _ (c .before .before .before .before .before .before .before .before .before .before .read-head .ensures) _ _ _ (c .before .before .before .before .before .before .before .before .major .given .1) (c .before .before .before .before .before .before .before .before .before .before .before .before .args .path) (c .before .before .before .before .before .before .before .before .before .before .before .before .args .level) (c .before .before .before .before .before .before .before .before .before .before .before .before .args .key) (c .before .before .before .before .before .before .before .before .before .before .before .before .args .sights .now) _ (c .before .before .before .before .before .note .ensures) _ (c .before .before .before .before .opens .ensures) (c .before .before .before .if1 .left)))
+    (λ c κs.
+    let at-if1 = c .before .before .if1 in
+    let at-opens = c .before .before .before .opens in
+    let at-note = c .before .before .before .before .note in
+    let at-major = c .before .before .before .before .before .before .before .major in
+    let back-8 = c .before .before .before .before .before .before .before .before in
+    let at-read-head = back-8 .before .read-head in
+    let at-shared-slice-known = back-8 .before .before .shared-slice-known in
+    let at-args = back-8 .before .before .before .args in
+    let at-pre = back-8 .before .before .before .pre in
+    let h = head-ends (at-args .s .now) (all-bytes (at-args .s .now) (at-shared-slice-known .given)) (at-args .at) _ _ _ _ (at-read-head .ensures)
+    (at-major .given .1) in (
+      omega (arith, h .0, h .1, at-pre .0),
+      omega (
+        arith,
+        value-under (at-args .s .now) (all-bytes (at-args .s .now) (at-shared-slice-known .given)) (at-args .depth) (at-args .at) _
+            (at-read-head .ensures) _ _ _ (at-major .given .1) (at-args .path) (at-args .level) (at-args .key) (at-args .sights .now) _ (at-note .ensures) _
+            (at-opens .ensures) (at-if1 .taken) .2,
+      ),
+    ))
+    (λ c.
+    let at-if2 = c .before .before .if2 in
+    let at-if1 = c .before .before .before .if1 in
+    let at-opens = c .before .before .before .before .opens in
+    let at-note = c .before .before .before .before .before .note in
+    let at-major = c .before .before .before .before .before .before .before .before .major in
+    let back-8 = c .before .before .before .before .before .before .before .before in
+    let at-read-head = back-8 .before .before .read-head in
+    let at-shared-slice-known = back-8 .before .before .before .shared-slice-known in
+    let at-args = back-8 .before .before .before .before .args in
+    let k = value-under (at-args .s .now) (all-bytes (at-args .s .now) (at-shared-slice-known .given)) (at-args .depth) (at-args .at) _
+    (at-read-head .ensures) _ _ _ (at-major .given .1) (at-args .path) (at-args .level) (at-args .key) (at-args .sights .now) _ (at-note .ensures) _
+    (at-opens .ensures) (at-if1 .taken) in (
+      item-rest (at-args .s .now) (at-args .depth) (at-args .at) _ (at-read-head .ensures) _ _ _ (at-major .given .1) _
+          (rest-pairs (at-args .s .now) _ _ _ (at-args .depth) (omega (arith, k .0)) (omega (arith, k .0)) (at-if2 .left) (k .0) _
+          (c .scan-map .ensures .0)),
+      value-map (at-args .s .now) (all-bytes (at-args .s .now) (at-shared-slice-known .given)) (at-args .depth)
+          (at-args .at) _ (at-read-head .ensures) _ _ _ (at-major .given .1) (at-args .path) (at-args .level) (at-args .key) (at-args .sights .now) _
+          (at-note .ensures) _ (at-opens .ensures) (at-if1 .taken) (at-if2 .left) _ (c .scan-map .ensures .1),
+    ))
+    (λ c.
+    let at-opens = c .before .before .opens in
+    let at-note = c .before .before .before .note in
+    let at-major = c .before .before .before .before .before .before .major in
+    let at-read-head = c .before .before .before .before .before .before .before .before .read-head in
+    let back-8 = c .before .before .before .before .before .before .before .before in
+    let at-shared-slice-known = back-8 .before .shared-slice-known in
+    let at-args = back-8 .before .before .args in (
+      item-rest (at-args .s .now) (at-args .depth) (at-args .at) _ (at-read-head .ensures) _ _ _ (at-major .given .1) _
+          (rest-flat (at-args .s .now) _ _ _ (at-args .depth) (λ g l. omega arith)),
+      value-plain (at-args .s .now)
+          (all-bytes (at-args .s .now) (at-shared-slice-known .given)) (at-args .depth) (at-args .at) _ (at-read-head .ensures) _ _ _ (at-major .given .1)
+          (at-args .path) (at-args .level) (at-args .key) (at-args .sights .now) _ (at-note .ensures) _ (at-opens .ensures) (c .before .if1 .left),
+    ))
+    (λ c.
+    let at-if1 = c .before .before .if1 in
+    let at-opens = c .before .before .before .opens in
+    let at-note = c .before .before .before .before .note in
+    let at-major = c .before .before .before .before .before .before .before .major in
+    let back-8 = c .before .before .before .before .before .before .before .before in
+    let at-read-head = back-8 .before .read-head in
+    let at-shared-slice-known = back-8 .before .before .shared-slice-known in
+    let at-args = back-8 .before .before .before .args in (
+      item-rest (at-args .s .now) (at-args .depth) (at-args .at) _ (at-read-head .ensures) _ _ _ (at-major .given .1) _
+          (rest-flat (at-args .s .now) _ _ _ (at-args .depth) (λ g l. omega arith)),
+      value-plain (at-args .s .now)
+          (all-bytes (at-args .s .now) (at-shared-slice-known .given)) (at-args .depth) (at-args .at) _ (at-read-head .ensures) _ _ _ (at-major .given .1)
+          (at-args .path) (at-args .level) (at-args .key) (at-args .sights .now) _ (at-note .ensures) _ (at-opens .ensures) (at-if1 .left),
+    ))
+    (λ c κs.
+    let at-major = c .before .before .before .before .before .before .before .major in
+    let back-8 = c .before .before .before .before .before .before .before .before in
+    let at-read-head = back-8 .before .read-head in
+    let at-shared-slice-known = back-8 .before .before .shared-slice-known in
+    let at-args = back-8 .before .before .before .args in
+    let h = head-ends (at-args .s .now) (all-bytes (at-args .s .now) (at-shared-slice-known .given)) (at-args .at) _ _ _ _ (at-read-head .ensures)
+    (at-major .given .1) in (
+      omega arith,
+      head-rest (at-args .s .now) (all-bytes (at-args .s .now) (at-shared-slice-known .given)) (at-args .at) _ _ _ _
+          (at-read-head .ensures) (at-major .given .1) (c .if4 .left),
+      h .1,
+    ))
+    (λ c.
+    let at-read-head = c .before .before .read-head in
+    let at-args = c .before .before .before .before .args in
+    let z = item-no-head (at-args .s .now) (at-args .depth) (at-args .at) _ (at-read-head .ensures) (c .enum-told .given .1) in
+    (ap pastOf z, left-bad _ _ _ (sym z)))
+    (λ c.
+    let at-if1 = c .before .before .before .if1 in
+    let at-opens = c .before .before .before .before .opens in
+    let at-note = c .before .before .before .before .before .note in
+    let at-major = c .before .before .before .before .before .before .before .before .major in
+    let back-8 = c .before .before .before .before .before .before .before .before in
+    let at-read-head = back-8 .before .before .read-head in
+    let at-shared-slice-known = back-8 .before .before .before .shared-slice-known in
+    let at-args = back-8 .before .before .before .before .args in (
+      item-rest (at-args .s .now) (at-args .depth) (at-args .at) _ (at-read-head .ensures) _ _ _ (at-major .given .1) _ (c .past-rest .ensures),
+      value-plain (at-args .s .now) (all-bytes (at-args .s .now) (at-shared-slice-known .given)) (at-args .depth) (at-args .at) _
+          (at-read-head .ensures) _ _ _ (at-major .given .1) (at-args .path) (at-args .level) (at-args .key) (at-args .sights .now) _ (at-note .ensures) _
+          (at-opens .ensures) (at-if1 .left),
+    ))

@@ -1,4 +1,4 @@
--- The tests are the definition's.
+-- The two tests one after the other.
 use borrow.Author.Tests.{eq-eqb, ne-eqb}
 use Rattle.cbor.proofs.sights.is_whole.Statement.{statement}
 use Rattle.cbor.proofs.sights.is_whole.Tie as tie

@@ -1,4 +1,4 @@
--- The two stores are those of `noteAt`; both places are within the words, as k is below SIGHTS.
+-- Two stores are the two that `noteAt` makes.
 use mathlib.Core.Path.{refl}
 use Rattle.cbor.specs.Pass.{noteAt}
 use borrow.Author.Needs.{needs}

@@ -12,5 +12,9 @@ opens-spec =
     tie.close
     (tie.spec
     (λ c. simp (ne-eqb _ _ (c .if1 .taken)))
-    (λ c. simp (eq-eqb _ _ (c .before .if1 .left), le-ltb (c .before .before .args .level + 1) LEVELS (omega (arith, c .if2 .taken))))
-    (λ c. simp (eq-eqb _ _ (c .before .if1 .left), lt-ltb (c .before .before .args .level + 1) LEVELS (omega (arith, c .if2 .left)))))
+    (λ c.
+    let at-args = c .before .before .args in
+    simp (eq-eqb _ _ (c .before .if1 .left), le-ltb (at-args .level + 1) LEVELS (omega (arith, c .if2 .taken))))
+    (λ c.
+    let at-args = c .before .before .args in
+    simp (eq-eqb _ _ (c .before .if1 .left), lt-ltb (at-args .level + 1) LEVELS (omega (arith, c .if2 .left)))))

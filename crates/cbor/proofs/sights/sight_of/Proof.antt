@@ -12,6 +12,9 @@ sight-of-spec =
     (tie.spec
     (λ c. search needs) (λ c. search needs) (λ c. search needs) (λ c. search needs) (λ c. search needs) (λ c. search needs)
     (λ c. search needs)
-    (λ c. rw (lt-ltb _ _ (c .before .before .before .if1 .taken), lt-ltb _ _ (c .before .before .if2 .taken)))
+    (λ c.
+    let at-if2 = c .before .before .if2 in
+    let at-if1 = c .before .before .before .if1 in
+    rw (lt-ltb _ _ (at-if1 .taken), lt-ltb _ _ (at-if2 .taken)))
     (λ c. simp (lt-ltb _ _ (c .before .if1 .taken), le-ltb _ _ (c .if2 .left)))
     (λ c. simp (le-ltb _ _ (c .if1 .left))))

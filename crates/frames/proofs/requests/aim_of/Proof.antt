@@ -1,4 +1,4 @@
--- Both cases of an amount are those of `aimOf`.
+-- By the case.
 use borrow.Author.Needs.{needs}
 use Rattle.frames.proofs.requests.aim_of.Statement.{statement}
 use Rattle.frames.proofs.requests.aim_of.Tie as tie

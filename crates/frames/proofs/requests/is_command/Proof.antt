@@ -1,4 +1,4 @@
--- `both` gives the conjunction that `servedCommand` is.
+-- Joined one after the other.
 use Rattle.frames.specs.Requests.{servedCommand}
 use borrow.Author.Needs.{needs}
 use Rattle.frames.proofs.requests.is_command.Statement.{statement}

@@ -1,4 +1,4 @@
--- Each key's sight is read by the reader of its field, and `all5` joins the five as `envelopeIn` does.
+-- Each field is judged by its sight, and all together are the envelope.
 use Rattle.frames.proofs.Requested.{envelope-reads}
 use borrow.Author.Needs.{needs}
 use Rattle.frames.proofs.requests.is_envelope.Statement.{statement}
@@ -11,4 +11,18 @@ is-envelope-spec =
     (λ c κs. search needs) (λ c κs. search needs) (λ c κs. search needs) (λ c κs. search needs) (λ c κs. search needs)
     (λ c κs. search needs) (λ c κs. search needs) (λ c κs. search needs) (λ c κs. search needs) (λ c κs. search needs)
     (λ c κs. search needs)
-    (λ c. envelope-reads (c .before .before .before .before .before .before .before .before .before .before .before .args .sights .now) _ _ _ _ _ (c .before .before .before .before .before .before .before .before .before .before .sight-of .ensures) (c .before .before .before .before .before .before .before .before .sight-of2 .ensures) (c .before .before .before .before .before .before .sight-of3 .ensures) (c .before .before .before .before .sight-of4 .ensures) (c .before .before .sight-of5 .ensures) _ _ _ _ _ (c .before .before .before .before .before .before .before .before .before .is-uint .ensures) (c .before .before .before .before .before .before .before .is-uint2 .ensures) (c .before .before .before .before .before .is-uint3 .ensures) (c .before .before .before .is-uint4 .ensures) (c .before .is-map .ensures) _ (c .all5 .ensures)))
+    (λ c.
+    let at-sight-of5 = c .before .before .sight-of5 in
+    let at-is-uint4 = c .before .before .before .is-uint4 in
+    let at-sight-of4 = c .before .before .before .before .sight-of4 in
+    let at-is-uint3 = c .before .before .before .before .before .is-uint3 in
+    let at-sight-of3 = c .before .before .before .before .before .before .sight-of3 in
+    let at-is-uint2 = c .before .before .before .before .before .before .before .is-uint2 in
+    let at-sight-of2 = c .before .before .before .before .before .before .before .before .sight-of2 in
+    let back-8 = c .before .before .before .before .before .before .before .before in
+    let at-is-uint = back-8 .before .is-uint in
+    let at-sight-of = back-8 .before .before .sight-of in
+    let at-args = back-8 .before .before .before .args in
+    envelope-reads (at-args .sights .now) _ _ _ _ _ (at-sight-of .ensures) (at-sight-of2 .ensures) (at-sight-of3 .ensures) (at-sight-of4 .ensures)
+    (at-sight-of5 .ensures) _ _ _ _ _ (at-is-uint .ensures) (at-is-uint2 .ensures) (at-is-uint3 .ensures) (at-is-uint4 .ensures)
+    (c .before .is-map .ensures) _ (c .all5 .ensures)))

@@ -1,4 +1,4 @@
--- `both` gives the conjunction that `servedAt` is.
+-- Joined one after the other.
 use Rattle.frames.specs.Requests.{servedAt}
 use borrow.Author.Needs.{needs}
 use Rattle.frames.proofs.requests.is_served.Statement.{statement}

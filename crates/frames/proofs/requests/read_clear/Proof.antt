@@ -1,4 +1,4 @@
--- `is_uint` says whether key 1 has an aim, `amount_of` gives it, and the command says which clear it is.
+-- The direction is judged by its sight.
 use Rattle.frames.proofs.Requested.{clear-limit, clear-setpoint, clear-wrong}
 use borrow.Author.Needs.{needs}
 use Rattle.frames.proofs.requests.read_clear.Statement.{statement}
@@ -9,6 +9,23 @@ read-clear-spec =
     tie.close
     (tie.spec
     (λ c κs. search needs) (λ c κs. search needs) (λ c κs. search needs) (λ c κs. search needs)
-    (λ c. clear-limit (c .before .before .before .before .before .before .args .sights .now) (c .before .before .before .before .before .before .args .command) _ (c .before .before .before .before .before .sight-of .ensures) _ (c .before .before .before .before .is-uint .ensures) (c .before .before .before .if1 .taken) _ (c .before .before .amount-of .ensures) _ (c .before .aim-of .ensures) (c .if2 .taken))
-    (λ c. clear-setpoint (c .before .before .before .before .before .before .args .sights .now) (c .before .before .before .before .before .before .args .command) _ (c .before .before .before .before .before .sight-of .ensures) _ (c .before .before .before .before .is-uint .ensures) (c .before .before .before .if1 .taken) _ (c .before .before .amount-of .ensures) _ (c .before .aim-of .ensures) (c .if2 .left))
-    (λ c. clear-wrong (c .before .before .before .args .sights .now) (c .before .before .before .args .command) _ (c .before .before .sight-of .ensures) _ (c .before .is-uint .ensures) (c .if1 .left)))
+    (λ c.
+    let at-amount-of = c .before .before .amount-of in
+    let at-if1 = c .before .before .before .if1 in
+    let at-is-uint = c .before .before .before .before .is-uint in
+    let at-sight-of = c .before .before .before .before .before .sight-of in
+    let at-args = c .before .before .before .before .before .before .args in
+    clear-limit (at-args .sights .now) (at-args .command) _ (at-sight-of .ensures) _ (at-is-uint .ensures) (at-if1 .taken) _
+    (at-amount-of .ensures) _ (c .before .aim-of .ensures) (c .if2 .taken))
+    (λ c.
+    let at-amount-of = c .before .before .amount-of in
+    let at-if1 = c .before .before .before .if1 in
+    let at-is-uint = c .before .before .before .before .is-uint in
+    let at-sight-of = c .before .before .before .before .before .sight-of in
+    let at-args = c .before .before .before .before .before .before .args in
+    clear-setpoint (at-args .sights .now) (at-args .command) _ (at-sight-of .ensures) _ (at-is-uint .ensures) (at-if1 .taken) _
+    (at-amount-of .ensures) _ (c .before .aim-of .ensures) (c .if2 .left))
+    (λ c.
+    let at-sight-of = c .before .before .sight-of in
+    let at-args = c .before .before .before .args in
+    clear-wrong (at-args .sights .now) (at-args .command) _ (at-sight-of .ensures) _ (c .before .is-uint .ensures) (c .if1 .left)))

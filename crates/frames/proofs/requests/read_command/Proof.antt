@@ -1,4 +1,4 @@
--- Commands 1 and 3 are read by `read_values`, with null and without it; a clear is what is left.
+-- By the number of the command.
 use Rattle.frames.proofs.Requested.{limit-is, limit-wrong, setpoint-is, setpoint-wrong, clear-is}
 use borrow.Author.Needs.{needs}
 use Rattle.frames.proofs.requests.read_command.Statement.{statement}
@@ -10,10 +10,30 @@ read-command-spec =
     (tie.spec
     (λ c κs. search needs)
     (λ c κs. search needs)
-    (λ c. limit-is (c .before .before .before .before .before .args .sights .now) (c .before .before .before .before .before .args .command) _ (c .before .before .before .read-setting .ensures) (c .before .before .before .before .if1 .taken) (c .before .before .if2 .taken) _ (c .limits-from .ensures))
-    (λ c. limit-wrong (c .before .before .before .args .sights .now) (c .before .before .before .args .command) _ (c .before .read-setting .ensures) (c .before .before .if1 .taken) (c .if2 .left))
+    (λ c.
+    let at-if2 = c .before .before .if2 in
+    let at-read-setting = c .before .before .before .read-setting in
+    let at-if1 = c .before .before .before .before .if1 in
+    let at-args = c .before .before .before .before .before .args in
+    limit-is (at-args .sights .now) (at-args .command) _ (at-read-setting .ensures) (at-if1 .taken) (at-if2 .taken) _ (c .limits-from .ensures))
+    (λ c.
+    let at-if1 = c .before .before .if1 in
+    let at-args = c .before .before .before .args in
+    limit-wrong (at-args .sights .now) (at-args .command) _ (c .before .read-setting .ensures) (at-if1 .taken) (c .if2 .left))
     (λ c κs. search needs) (λ c κs. search needs)
-    (λ c. setpoint-is (c .before .before .before .before .before .before .args .sights .now) (c .before .before .before .before .before .before .args .command) _ (c .before .before .before .read-setting2 .ensures) (c .before .before .before .before .if3 .taken) (c .before .before .if4 .taken) _ (c .setpoints-from .ensures))
-    (λ c. setpoint-wrong (c .before .before .before .before .args .sights .now) (c .before .before .before .before .args .command) _ (c .before .read-setting2 .ensures) (c .before .before .if3 .taken) (c .if4 .left))
+    (λ c.
+    let at-if4 = c .before .before .if4 in
+    let at-read-setting2 = c .before .before .before .read-setting2 in
+    let at-if3 = c .before .before .before .before .if3 in
+    let at-args = c .before .before .before .before .before .before .args in
+    setpoint-is (at-args .sights .now) (at-args .command) _ (at-read-setting2 .ensures) (at-if3 .taken) (at-if4 .taken) _
+    (c .setpoints-from .ensures))
+    (λ c.
+    let at-if3 = c .before .before .if3 in
+    let at-args = c .before .before .before .before .args in
+    setpoint-wrong (at-args .sights .now) (at-args .command) _ (c .before .read-setting2 .ensures) (at-if3 .taken) (c .if4 .left))
     (λ c κs. search needs)
-    (λ c. clear-is (c .before .before .before .args .sights .now) (c .before .before .before .args .command) _ (c .read-clear .ensures) (c .before .before .if1 .left) (c .before .if3 .left)))
+    (λ c.
+    let at-if1 = c .before .before .if1 in
+    let at-args = c .before .before .before .args in
+    clear-is (at-args .sights .now) (at-args .command) _ (c .read-clear .ensures) (at-if1 .left) (c .before .if3 .left)))

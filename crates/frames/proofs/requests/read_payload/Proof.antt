@@ -1,4 +1,4 @@
--- `scan` says whether the payload is one item and leaves its sights; of these `read_message` makes the reading.
+-- What is seen of a payload that is one item is what its map has.
 use Rattle.frames.proofs.Requested.{is-item, not-item}
 use borrow.Author.Needs.{needs}
 use Rattle.frames.proofs.requests.read_payload.Statement.{statement}
@@ -9,5 +9,11 @@ read-payload-spec =
     tie.close
     (tie.spec
     (λ c κs. search needs) (λ c κs. search needs)
-    (λ c. is-item (c .before .before .before .before .before .before .args .payload .now) _ (c .before .before .before .scan .ensures .0) _ (c .before .before .before .scan .ensures .1) _ (c .read-message .ensures) (c .before .before .if1 .taken))
-    (λ c. not-item (c .before .before .before .before .args .payload .now) _ (c .before .scan .ensures .0) (c .if1 .left)))
+    (λ c.
+    let at-if1 = c .before .before .if1 in
+    let at-scan = c .before .before .before .scan in
+    let at-args = c .before .before .before .before .before .before .args in
+    is-item (at-args .payload .now) _ (at-scan .ensures .0) _ (at-scan .ensures .1) _ (c .read-message .ensures) (at-if1 .taken))
+    (λ c.
+    let at-args = c .before .before .before .before .args in
+    not-item (at-args .payload .now) _ (c .before .scan .ensures .0) (c .if1 .left)))

@@ -1,4 +1,4 @@
--- A frame whose prefix is right has more than four bytes, and behind them stands the payload that `read_payload` reads.
+-- The payload stands behind the prefix.
 use Prim.Native.Nat.{ℕ}
 use mathlib.Core.List.{List}
 use mathlib.Core.Path.{ap, _∙_}
@@ -16,8 +16,19 @@ read-request-spec =
     tie.close
     (tie.spec
     (λ c κs. search needs)
-    (λ c. omega (arith, long-enough (c .before .before .before .args .frame .now) _ (c .before .is-framed .ensures) (c .if1 .taken)))
-    (λ c. omega (arith, long-enough (c .before .before .before .args .frame .now) _ (c .before .is-framed .ensures) (c .if1 .taken)))
+    (λ c.
+    let at-args = c .before .before .before .args in
+    omega (arith, long-enough (at-args .frame .now) _ (c .before .is-framed .ensures) (c .if1 .taken)))
+    (λ c.
+    let at-args = c .before .before .before .args in
+    omega (arith, long-enough (at-args .frame .now) _ (c .before .is-framed .ensures) (c .if1 .taken)))
     (λ c. search needs) (λ c κs. search needs)
-    (λ c. c .read-payload .ensures ∙ ap (λ (p : List ℕ). fromPayload (payloadOf p)) (rest-all (c .before .before .before .before .before .args .frame .now)) ∙ is-framed (c .before .before .before .before .before .args .frame .now) _ (c .before .before .before .is-framed .ensures) (c .before .before .if1 .taken))
-    (λ c. not-framed (c .before .before .before .args .frame .now) _ (c .before .is-framed .ensures) (c .if1 .left)))
+    (λ c.
+    let at-if1 = c .before .before .if1 in
+    let at-is-framed = c .before .before .before .is-framed in
+    let at-args = c .before .before .before .before .before .args in
+    c .read-payload .ensures ∙ ap (λ (p : List ℕ). fromPayload (payloadOf p)) (rest-all (at-args .frame .now)) ∙ is-framed (at-args .frame .now) _
+    (at-is-framed .ensures) (at-if1 .taken))
+    (λ c.
+    let at-args = c .before .before .before .args in
+    not-framed (at-args .frame .now) _ (c .before .is-framed .ensures) (c .if1 .left)))

@@ -1,3 +1,4 @@
+-- Each field is judged by its sight, and all together are the setting.
 use Rattle.frames.proofs.Requested.{setting-read}
 use borrow.Author.Needs.{needs}
 use Rattle.frames.proofs.requests.read_setting.Statement.{statement}
@@ -9,4 +10,17 @@ read-setting-spec =
     (tie.spec
     (λ c κs. search needs) (λ c κs. search needs) (λ c κs. search needs) (λ c κs. search needs) (λ c κs. search needs)
     (λ c κs. search needs) (λ c κs. search needs) (λ c κs. search needs) (λ c κs. search needs) (λ c κs. search needs)
-    (λ c. setting-read (c .before .before .before .before .before .before .before .before .before .before .args .sights .now) (c .before .before .before .before .before .before .before .before .before .before .args .null) _ _ _ _ (c .before .before .before .before .before .before .before .before .before .sight-of .ensures) (c .before .before .before .before .before .before .before .sight-of2 .ensures) (c .before .before .before .before .before .sight-of3 .ensures) (c .before .before .before .before .sight-of4 .ensures) _ _ _ _ (c .before .before .before .before .before .before .before .before .read-value .ensures) (c .before .before .before .before .before .before .read-value2 .ensures) (c .before .before .before .is-uint .ensures) (c .before .before .is-uint2 .ensures) _ (c .before .all4 .ensures) _ (c .amount-of .ensures)))
+    (λ c.
+    let at-is-uint2 = c .before .before .is-uint2 in
+    let at-is-uint = c .before .before .before .is-uint in
+    let at-sight-of4 = c .before .before .before .before .sight-of4 in
+    let at-sight-of3 = c .before .before .before .before .before .sight-of3 in
+    let at-read-value2 = c .before .before .before .before .before .before .read-value2 in
+    let at-sight-of2 = c .before .before .before .before .before .before .before .sight-of2 in
+    let at-read-value = c .before .before .before .before .before .before .before .before .read-value in
+    let back-8 = c .before .before .before .before .before .before .before .before in
+    let at-sight-of = back-8 .before .sight-of in
+    let at-args = back-8 .before .before .args in
+    setting-read (at-args .sights .now) (at-args .null) _ _ _ _ (at-sight-of .ensures) (at-sight-of2 .ensures) (at-sight-of3 .ensures)
+    (at-sight-of4 .ensures) _ _ _ _ (at-read-value .ensures) (at-read-value2 .ensures) (at-is-uint .ensures) (at-is-uint2 .ensures) _
+    (c .before .all4 .ensures) _ (c .amount-of .ensures)))

@@ -1,4 +1,4 @@
--- `either` and `all3` give the test that `stands` is.
+-- Joined one after the other.
 use Rattle.frames.specs.Responses.{stands}
 use borrow.Author.Needs.{needs}
 use Rattle.frames.proofs.responses.has_result.Statement.{statement}

@@ -1,4 +1,4 @@
--- Major type 8 is the sight of nothing, and of nothing else.
+-- Major type 8 is seen where nothing is there, and nowhere else.
 use Rattle.frames.proofs.Answered.{absent-reads}
 use Rattle.frames.proofs.responses.is_absent.Statement.{statement}
 use Rattle.frames.proofs.responses.is_absent.Tie as tie

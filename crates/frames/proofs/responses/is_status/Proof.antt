@@ -1,4 +1,4 @@
--- The joined tests are those of `isStatus`: 0, 4, 5, and 9 to 14.
+-- Joined one after the other.
 use Rattle.frames.specs.Responses.{isStatus}
 use borrow.Author.Needs.{needs}
 use Rattle.frames.proofs.responses.is_status.Statement.{statement}
@@ -10,4 +10,7 @@ is-status-spec =
     tie.close
     (tie.spec
     (λ c κs. search needs) (λ c κs. search needs) (λ c κs. search needs) (λ c κs. search needs)
-    (λ c. rw (c .either3 .ensures, c .before .before .either2 .ensures, c .before .before .before .either .ensures, c .before .both .ensures)))
+    (λ c.
+    let at-either2 = c .before .before .either2 in
+    let at-either = c .before .before .before .either in
+    rw (c .either3 .ensures, at-either2 .ensures, at-either .ensures, c .before .both .ensures)))

@@ -1,4 +1,4 @@
--- The command says which result stands there: `read_effect`'s, `read_targets`'s, or success alone.
+-- By the number of the command.
 use Rattle.frames.proofs.Answered.{effect-is, effect-wrong, targets-are, targets-wrong, success-is, success-wrong}
 use borrow.Author.Needs.{needs}
 use Rattle.frames.proofs.responses.read_outcome.Statement.{statement}
@@ -9,11 +9,37 @@ read-outcome-spec =
     tie.close
     (tie.spec
     (λ c κs. search needs)
-    (λ c. effect-is (c .before .before .before .before .args .sights .now) (c .before .before .before .before .args .command) _ (c .before .before .read-effect .ensures) (c .before .before .before .if1 .taken) (c .before .if2 .taken))
-    (λ c. effect-wrong (c .before .before .before .args .sights .now) (c .before .before .before .args .command) _ (c .before .read-effect .ensures) (c .before .before .if1 .taken) (c .if2 .left))
+    (λ c.
+    let at-read-effect = c .before .before .read-effect in
+    let at-if1 = c .before .before .before .if1 in
+    let at-args = c .before .before .before .before .args in
+    effect-is (at-args .sights .now) (at-args .command) _ (at-read-effect .ensures) (at-if1 .taken) (c .before .if2 .taken))
+    (λ c.
+    let at-if1 = c .before .before .if1 in
+    let at-args = c .before .before .before .args in
+    effect-wrong (at-args .sights .now) (at-args .command) _ (c .before .read-effect .ensures) (at-if1 .taken) (c .if2 .left))
     (λ c κs. search needs)
-    (λ c. targets-are (c .before .before .before .before .before .args .sights .now) (c .before .before .before .before .before .args .command) _ (c .before .before .read-targets .ensures) (c .before .before .before .if3 .taken) (c .before .if4 .taken))
-    (λ c. targets-wrong (c .before .before .before .before .args .sights .now) (c .before .before .before .before .args .command) _ (c .before .read-targets .ensures) (c .before .before .if3 .taken) (c .if4 .left))
+    (λ c.
+    let at-read-targets = c .before .before .read-targets in
+    let at-if3 = c .before .before .before .if3 in
+    let at-args = c .before .before .before .before .before .args in
+    targets-are (at-args .sights .now) (at-args .command) _ (at-read-targets .ensures) (at-if3 .taken) (c .before .if4 .taken))
+    (λ c.
+    let at-if3 = c .before .before .if3 in
+    let at-args = c .before .before .before .before .args in
+    targets-wrong (at-args .sights .now) (at-args .command) _ (c .before .read-targets .ensures) (at-if3 .taken) (c .if4 .left))
     (λ c κs. search needs) (λ c κs. search needs)
-    (λ c. success-is (c .before .before .before .before .before .args .sights .now) (c .before .before .before .before .before .args .command) _ (c .before .before .sight-of .ensures) _ (c .before .is-success .ensures) (c .before .before .before .before .if1 .left) (c .before .before .before .if3 .left) (c .if5 .taken))
-    (λ c. success-wrong (c .before .before .before .before .before .args .sights .now) (c .before .before .before .before .before .args .command) _ (c .before .before .sight-of .ensures) _ (c .before .is-success .ensures) (c .before .before .before .before .if1 .left) (c .before .before .before .if3 .left) (c .if5 .left)))
+    (λ c.
+    let at-sight-of = c .before .before .sight-of in
+    let at-if3 = c .before .before .before .if3 in
+    let at-if1 = c .before .before .before .before .if1 in
+    let at-args = c .before .before .before .before .before .args in
+    success-is (at-args .sights .now) (at-args .command) _ (at-sight-of .ensures) _ (c .before .is-success .ensures) (at-if1 .left) (at-if3 .left)
+    (c .if5 .taken))
+    (λ c.
+    let at-sight-of = c .before .before .sight-of in
+    let at-if3 = c .before .before .before .if3 in
+    let at-if1 = c .before .before .before .before .if1 in
+    let at-args = c .before .before .before .before .before .args in
+    success-wrong (at-args .sights .now) (at-args .command) _ (at-sight-of .ensures) _ (c .before .is-success .ensures) (at-if1 .left) (at-if3 .left)
+    (c .if5 .left)))

@@ -1,4 +1,4 @@
--- A command that is not served is 4 before any byte is looked at; else the answer is `read_answer`'s.
+-- The command is served, or refused with 4.
 use Rattle.frames.proofs.Answered.{named, not-named}
 use borrow.Author.Needs.{needs}
 use Rattle.frames.proofs.responses.read_response.Statement.{statement}
@@ -9,5 +9,10 @@ read-response-spec =
     tie.close
     (tie.spec
     (λ c κs. search needs) (λ c κs. search needs)
-    (λ c. named (c .before .before .before .before .args .command) (c .before .before .before .before .args .frame .now) _ (c .before .before .is-command .ensures) (c .before .if1 .taken) _ (c .read-answer .ensures))
-    (λ c. not-named (c .before .before .before .args .command) (c .before .before .before .args .frame .now) _ (c .before .is-command .ensures) (c .if1 .left)))
+    (λ c.
+    let at-is-command = c .before .before .is-command in
+    let at-args = c .before .before .before .before .args in
+    named (at-args .command) (at-args .frame .now) _ (at-is-command .ensures) (c .before .if1 .taken) _ (c .read-answer .ensures))
+    (λ c.
+    let at-args = c .before .before .before .args in
+    not-named (at-args .command) (at-args .frame .now) _ (c .before .is-command .ensures) (c .if1 .left)))

@@ -1,4 +1,4 @@
--- Both cases are those of `fieldOf`; a value of 64 signed bits is copied whole.
+-- By the case.
 use mir.Syntax.{w64}
 use mir.Val.{SFits}
 use mir.ValLaws.{toZ-ofZ}

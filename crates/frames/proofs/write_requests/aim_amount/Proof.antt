@@ -1,4 +1,4 @@
--- Both is nothing written, and one direction is its number: the items are the same.
+-- By the case.
 use Rattle.map_fields.specs.Fields.{amountItem, aimItem}
 use borrow.Author.Needs.{needs}
 use Rattle.frames.proofs.write_requests.aim_amount.Statement.{statement}

@@ -1,4 +1,4 @@
--- Both is never too wide; one direction is where it is above 1, as in the definition.
+-- By the case.
 use borrow.Author.Needs.{needs}
 use Rattle.frames.proofs.write_requests.aim_wide.Statement.{statement}
 use Rattle.frames.proofs.write_requests.aim_wide.Tie as tie

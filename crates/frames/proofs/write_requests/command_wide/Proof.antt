@@ -1,4 +1,4 @@
--- Each command's numbers are tested as in `commandWide`: duration and cause, the aim, or the command's own number.
+-- By the case.
 use Rattle.frames.specs.Requests.{commandWide}
 use borrow.Author.Needs.{needs}
 use Rattle.frames.proofs.write_requests.command_wide.Statement.{statement}
@@ -11,8 +11,16 @@ command-wide-spec =
     (tie.spec
     (λ c. search needs) (λ c κs. search needs) (λ c. search needs) (λ c κs. search needs) (λ c. search needs)
     (λ c κs. search needs) (λ c. search needs) (λ c κs. search needs) (λ c. search needs)
-    (λ c. rw (c .before .before .before .before .c .given .1) (c .either .ensures))
-    (λ c. rw (c .before .before .c2 .given .1) (c .aim-wide .ensures))
-    (λ c. rw (c .before .before .before .before .c3 .given .1) (c .either2 .ensures))
-    (λ c. rw (c .before .before .c4 .given .1) (c .aim-wide2 .ensures))
+    (λ c.
+    let at-c = c .before .before .before .before .c in
+    rw (at-c .given .1) (c .either .ensures))
+    (λ c.
+    let at-c2 = c .before .before .c2 in
+    rw (at-c2 .given .1) (c .aim-wide .ensures))
+    (λ c.
+    let at-c3 = c .before .before .before .before .c3 in
+    rw (at-c3 .given .1) (c .either2 .ensures))
+    (λ c.
+    let at-c4 = c .before .before .c4 in
+    rw (at-c4 .given .1) (c .aim-wide2 .ensures))
     (λ c. rw (c .before .c5 .given .1)))

@@ -1,4 +1,4 @@
--- A Set command has the pairs that `count_limits` counts, a clear one for its direction or none, an unserved one none.
+-- By the case.
 use Rattle.map_fields.proofs.Added.{count-none}
 use mathlib.Core.Path.{ap, sym, _∙_}
 use Rattle.map_fields.specs.Puts.{pairsOf}
@@ -16,8 +16,16 @@ count-command-spec =
     (λ c. search needs) (λ c κs. search needs) (λ c κs. search needs) (λ c. search needs) (λ c κs. search needs)
     (λ c κs. search needs) (λ c. search needs) (λ c κs. search needs) (λ c κs. search needs)
     (λ c. search needs) (λ c κs. search needs) (λ c κs. search needs) (λ c. search needs)
-    (λ c. rw (c .before .before .before .c .given .1, ← c .before .setting-of-limits .ensures) (c .count-setting .ensures))
-    (λ c. rw (c .before .before .before .c2 .given .1) (one-count 1 _ _ (c .count-amount .ensures ∙ ap pairsOf (c .before .aim-amount .ensures))))
-    (λ c. rw (c .before .before .before .c3 .given .1, ← c .before .setting-of-setpoints .ensures) (c .count-setting2 .ensures))
-    (λ c. rw (c .before .before .before .c4 .given .1) (one-count 1 _ _ (c .count-amount2 .ensures ∙ ap pairsOf (c .before .aim-amount2 .ensures))))
+    (λ c.
+    let at-c = c .before .before .before .c in
+    rw (at-c .given .1, ← c .before .setting-of-limits .ensures) (c .count-setting .ensures))
+    (λ c.
+    let at-c2 = c .before .before .before .c2 in
+    rw (at-c2 .given .1) (one-count 1 _ _ (c .count-amount .ensures ∙ ap pairsOf (c .before .aim-amount .ensures))))
+    (λ c.
+    let at-c3 = c .before .before .before .c3 in
+    rw (at-c3 .given .1, ← c .before .setting-of-setpoints .ensures) (c .count-setting2 .ensures))
+    (λ c.
+    let at-c4 = c .before .before .before .c4 in
+    rw (at-c4 .given .1) (one-count 1 _ _ (c .count-amount2 .ensures ∙ ap pairsOf (c .before .aim-amount2 .ensures))))
     (λ c. rw (c .enum-told .given .1) (sym count-none)))

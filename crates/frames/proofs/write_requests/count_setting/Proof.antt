@@ -11,8 +11,45 @@ count-setting-spec =
     tie.close
     (tie.spec
     (λ c κs. search needs) (λ c κs. search needs)
-    (λ c. omega (arith, pairs-small (valueItem (c .before .before .args .s .consumption)), pairs-small (valueItem (c .before .before .args .s .production)), pairs-small (amountItem (c .before .before .args .s .duration)), c .before .count-value .ensures, c .count-value2 .ensures))
+    (λ c.
+    let at-args = c .before .before .args in
+    omega (
+      arith,
+      pairs-small (valueItem (at-args .s .consumption)),
+      pairs-small (valueItem (at-args .s .production)),
+      pairs-small
+          (amountItem (at-args .s .duration)),
+      c .before .count-value .ensures,
+      c .count-value2 .ensures,
+    ))
     (λ c κs. search needs)
-    (λ c. omega (arith, pairs-small (valueItem (c .before .before .before .args .s .consumption)), pairs-small (valueItem (c .before .before .before .args .s .production)), pairs-small (amountItem (c .before .before .before .args .s .duration)), c .before .before .count-value .ensures, c .before .count-value2 .ensures, c .count-amount .ensures))
-    (λ c. omega (arith, pairs-small (valueItem (c .before .before .before .args .s .consumption)), pairs-small (valueItem (c .before .before .before .args .s .production)), pairs-small (amountItem (c .before .before .before .args .s .duration)), c .before .before .count-value .ensures, c .before .count-value2 .ensures, c .count-amount .ensures))
-    (λ c. setting-count (c .before .before .before .args .s) _ _ _ (c .before .before .count-value .ensures) (c .before .count-value2 .ensures) (c .count-amount .ensures)))
+    (λ c.
+    let at-count-value = c .before .before .count-value in
+    let at-args = c .before .before .before .args in
+    omega (
+      arith,
+      pairs-small (valueItem (at-args .s .consumption)),
+      pairs-small (valueItem (at-args .s .production)),
+      pairs-small
+          (amountItem (at-args .s .duration)),
+      at-count-value .ensures,
+      c .before .count-value2 .ensures,
+      c .count-amount .ensures,
+    ))
+    (λ c.
+    let at-count-value = c .before .before .count-value in
+    let at-args = c .before .before .before .args in
+    omega (
+      arith,
+      pairs-small (valueItem (at-args .s .consumption)),
+      pairs-small (valueItem (at-args .s .production)),
+      pairs-small
+          (amountItem (at-args .s .duration)),
+      at-count-value .ensures,
+      c .before .count-value2 .ensures,
+      c .count-amount .ensures,
+    ))
+    (λ c.
+    let at-count-value = c .before .before .count-value in
+    let at-args = c .before .before .before .args in
+    setting-count (at-args .s) _ _ _ (at-count-value .ensures) (c .before .count-value2 .ensures) (c .count-amount .ensures)))

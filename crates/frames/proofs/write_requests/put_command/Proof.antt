@@ -1,4 +1,4 @@
--- The bytes are those of the command's fields: `put_limits` for a Set command, one amount for a clear, none else.
+-- By the case.
 use native.Mathlib.Omega.{arith}
 use mathlib.Core.Path.{ap, sym, _∙_}
 use Rattle.map_fields.specs.Puts.{fieldBytes}
@@ -17,11 +17,31 @@ put-command-spec =
     (λ c. search needs) (λ c κs. search needs) (λ c κs. search needs) (λ c. search needs) (λ c κs. search needs)
     (λ c κs. search needs) (λ c. search needs) (λ c κs. search needs) (λ c κs. search needs)
     (λ c. search needs) (λ c κs. search needs) (λ c κs. search needs) (λ c. search needs) (λ c. search needs)
-    (λ c. rw (c .before .before .before .before .before .before .c .given .1, ← c .before .before .before .setting-of-limits .ensures) (c .before .before .put-setting .ensures))
+    (λ c.
+    let at-put-setting = c .before .before .put-setting in
+    let at-setting-of-limits = c .before .before .before .setting-of-limits in
+    let at-c = c .before .before .before .before .before .before .c in
+    rw (at-c .given .1, ← at-setting-of-limits .ensures) (at-put-setting .ensures))
     (λ c. search needs)
-    (λ c. rw (c .before .before .before .before .before .before .c2 .given .1) (puts-wider paramsRoom (omega arith) (puts-same (ap (fieldBytes 1) (c .before .before .before .aim-amount .ensures) ∙ sym (fields-one 1 _)) (c .before .before .put-amount .ensures))))
+    (λ c.
+    let at-put-amount = c .before .before .put-amount in
+    let at-aim-amount = c .before .before .before .aim-amount in
+    let at-c2 = c .before .before .before .before .before .before .c2 in
+    rw (at-c2 .given .1) (puts-wider paramsRoom (omega arith)
+    (puts-same (ap (fieldBytes 1) (at-aim-amount .ensures) ∙ sym (fields-one 1 _)) (at-put-amount .ensures))))
     (λ c. search needs)
-    (λ c. rw (c .before .before .before .before .before .before .c3 .given .1, ← c .before .before .before .setting-of-setpoints .ensures) (c .before .before .put-setting2 .ensures))
+    (λ c.
+    let at-put-setting2 = c .before .before .put-setting2 in
+    let at-setting-of-setpoints = c .before .before .before .setting-of-setpoints in
+    let at-c3 = c .before .before .before .before .before .before .c3 in
+    rw (at-c3 .given .1, ← at-setting-of-setpoints .ensures) (at-put-setting2 .ensures))
     (λ c. search needs)
-    (λ c. rw (c .before .before .before .before .before .before .c4 .given .1) (puts-wider paramsRoom (omega arith) (puts-same (ap (fieldBytes 1) (c .before .before .before .aim-amount2 .ensures) ∙ sym (fields-one 1 _)) (c .before .before .put-amount2 .ensures))))
-    (λ c. rw (c .enum-told .given .1) (puts-same (sym fields-none) (puts-none (c .before .before .before .args .out .now) (c .before .before .before .args .at) _))))
+    (λ c.
+    let at-put-amount2 = c .before .before .put-amount2 in
+    let at-aim-amount2 = c .before .before .before .aim-amount2 in
+    let at-c4 = c .before .before .before .before .before .before .c4 in
+    rw (at-c4 .given .1) (puts-wider paramsRoom (omega arith)
+    (puts-same (ap (fieldBytes 1) (at-aim-amount2 .ensures) ∙ sym (fields-one 1 _)) (at-put-amount2 .ensures))))
+    (λ c.
+    let at-args = c .before .before .before .args in
+    rw (c .enum-told .given .1) (puts-same (sym fields-none) (puts-none (at-args .out .now) (at-args .at) _))))

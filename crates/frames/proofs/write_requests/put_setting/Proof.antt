@@ -11,4 +11,13 @@ put-setting-spec =
     (tie.spec
     (λ c κs. search needs) (λ c κs. search needs) (λ c κs. search needs) (λ c κs. search needs)
     (λ c. search needs)
-    (λ c. puts-same (setting-bytes (c .before .before .before .before .before .before .before .before .before .before .before .before .before .before .before .before .before .args .s)) (puts-more (puts-more (puts-more (c .before .before .before .before .before .before .before .before .before .before .before .before .before .before .put-value .ensures) (c .before .before .before .before .before .before .before .before .before .before .put-value2 .ensures)) (c .before .before .before .before .before .before .put-amount .ensures)) (c .before .before .put-uint .ensures))))
+    (λ c.
+    let at-put-uint = c .before .before .put-uint in
+    let at-put-amount = c .before .before .before .before .before .before .put-amount in
+    let back-8 = c .before .before .before .before .before .before .before .before in
+    let at-put-value2 = back-8 .before .before .put-value2 in
+    let at-put-value = back-8 .before .before .before .before .before .before .put-value in
+    let back-16 = back-8 .before .before .before .before .before .before .before .before in
+    let at-args = back-16 .before .args in
+    puts-same (setting-bytes (at-args .s)) (puts-more
+    (puts-more (puts-more (at-put-value .ensures) (at-put-value2 .ensures)) (at-put-amount .ensures)) (at-put-uint .ensures))))

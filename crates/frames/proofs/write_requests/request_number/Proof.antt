@@ -1,4 +1,4 @@
--- 3 is tested before 4, as in the list of `requestNumber`; the joined test is that the request is served.
+-- The tests in their order.
 use mathlib.Core.Path.{_∙_}
 use Rattle.map_fields.proofs.Joined.{and-same}
 use Rattle.map_fields.proofs.Joined.{via}
@@ -16,5 +16,23 @@ request-number-spec =
     (λ c κs. search needs)
     (λ c. rw (via (c .before .request-wide .ensures) (c .if1 .taken)))
     (λ c κs. search needs) (λ c κs. search needs) (λ c κs. search needs)
-    (λ c. rw (via (c .before .before .before .before .before .request-wide .ensures) (c .before .before .before .before .if1 .left), via (c .before .both .ensures ∙ and-same (c .before .before .before .is-served .ensures) (c .before .before .has-parameters .ensures)) (c .if2 .taken)))
-    (λ c. rw (via (c .before .before .before .before .before .request-wide .ensures) (c .before .before .before .before .if1 .left), via (c .before .both .ensures ∙ and-same (c .before .before .before .is-served .ensures) (c .before .before .has-parameters .ensures)) (c .if2 .left))))
+    (λ c.
+    let at-has-parameters = c .before .before .has-parameters in
+    let at-is-served = c .before .before .before .is-served in
+    let at-if1 = c .before .before .before .before .if1 in
+    let at-request-wide = c .before .before .before .before .before .request-wide in
+    rw (
+      via (at-request-wide .ensures) (at-if1 .left),
+      via (c .before .both .ensures ∙ and-same (at-is-served .ensures) (at-has-parameters .ensures))
+          (c .if2 .taken),
+    ))
+    (λ c.
+    let at-has-parameters = c .before .before .has-parameters in
+    let at-is-served = c .before .before .before .is-served in
+    let at-if1 = c .before .before .before .before .if1 in
+    let at-request-wide = c .before .before .before .before .before .request-wide in
+    rw (
+      via (at-request-wide .ensures) (at-if1 .left),
+      via (c .before .both .ensures ∙ and-same (at-is-served .ensures) (at-has-parameters .ensures))
+          (c .if2 .left),
+    )))

@@ -1,4 +1,4 @@
--- The tests joined by `either` are those of `requestWide`; `command_wide` gives the last.
+-- Joined one after the other.
 use Rattle.frames.specs.Requests.{requestWide}
 use borrow.Author.Needs.{needs}
 use Rattle.frames.proofs.write_requests.request_wide.Statement.{statement}
@@ -10,4 +10,7 @@ request-wide-spec =
     tie.close
     (tie.spec
     (λ c κs. search needs) (λ c κs. search needs) (λ c κs. search needs) (λ c κs. search needs)
-    (λ c. rw (c .either3 .ensures, c .before .before .either2 .ensures, c .before .before .before .before .either .ensures, c .before .command-wide .ensures)))
+    (λ c.
+    let at-either2 = c .before .before .either2 in
+    let at-either = c .before .before .before .before .either in
+    rw (c .either3 .ensures, at-either2 .ensures, at-either .ensures, c .before .command-wide .ensures)))

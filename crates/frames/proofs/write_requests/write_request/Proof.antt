@@ -1,4 +1,4 @@
--- A refusal writes nothing; else the payload has room in the local array, and `send` writes its frame.
+-- Refused, or written whole into a local that has the room, and sent.
 use Rattle.frames.specs.Requests.{requestNumber, requestItem}
 use Rattle.frames.specs.Writing.{itemFrame}
 use Rattle.frames.proofs.Sends.{send-room, send-item, no-refusal, a-refusal}
@@ -12,7 +12,22 @@ write-request-spec =
     tie.close
     (tie.spec
     (λ c κs. search needs) (λ c κs. search needs)
-    (λ c. a-refusal _ (requestNumber (c .before .before .before .before .args .r)) (itemFrame (requestItem (c .before .before .before .before .args .r))) (c .before .before .before .before .args .out .now) _ (c .before .before .request-number .ensures) (c .before .if1 .taken) (c .refused .ensures))
+    (λ c.
+    let at-request-number = c .before .before .request-number in
+    let at-args = c .before .before .before .before .args in
+    a-refusal _ (requestNumber (at-args .r)) (itemFrame (requestItem (at-args .r))) (at-args .out .now) _ (at-request-number .ensures)
+    (c .before .if1 .taken) (c .refused .ensures))
     (λ c. search needs) (λ c κs. search needs) (λ c. search needs)
-    (λ c κs. send-room (search needs) (c .before .before .before .put-request .ensures)) (λ c. search needs)
-    (λ c. no-refusal _ (requestNumber (c .before .before .before .before .before .before .before .before .before .before .before .args .r)) (itemFrame (requestItem (c .before .before .before .before .before .before .before .before .before .before .before .args .r))) (c .before .before .before .before .before .before .before .before .before .before .before .args .out .now) _ _ (c .before .before .before .before .before .before .before .before .before .request-number .ensures) (c .before .before .before .before .before .before .before .before .if1 .left) (send-item (requestItem (c .before .before .before .before .before .before .before .before .before .before .before .args .r)) _ _ (c .before .before .before .before .before .before .before .before .before .before .before .args .out .now) _ _ _ (puts-fit (search needs) (c .before .before .before .before .before .before .put-request .ensures)) (c .before .before .send .ensures))))
+    (λ c κs.
+    let at-put-request = c .before .before .before .put-request in
+    send-room (search needs) (at-put-request .ensures)) (λ c. search needs)
+    (λ c.
+    let at-send = c .before .before .send in
+    let at-put-request = c .before .before .before .before .before .before .put-request in
+    let at-if1 = c .before .before .before .before .before .before .before .before .if1 in
+    let back-8 = c .before .before .before .before .before .before .before .before in
+    let at-request-number = back-8 .before .request-number in
+    let at-args = back-8 .before .before .before .args in
+    no-refusal _ (requestNumber (at-args .r)) (itemFrame (requestItem (at-args .r))) (at-args .out .now) _ _ (at-request-number .ensures)
+    (at-if1 .left) (send-item (requestItem (at-args .r)) _ _ (at-args .out .now) _ _ _ (puts-fit (search needs) (at-put-request .ensures))
+    (at-send .ensures))))

@@ -1,4 +1,4 @@
--- Nothing is always in range, and a number is where it is at most `most`, as in the definition.
+-- By the case.
 use borrow.Author.Needs.{needs}
 use Rattle.frames.proofs.write_responses.amount_up_to.Statement.{statement}
 use Rattle.frames.proofs.write_responses.amount_up_to.Tie as tie

@@ -1,4 +1,4 @@
--- Each case's count is that of its item: no pair for nothing, one for any result.
+-- By the case.
 use Rattle.frames.specs.Responses.{outcomeItem}
 use borrow.Author.Needs.{needs}
 use Rattle.frames.proofs.write_responses.count_outcome.Statement.{statement}

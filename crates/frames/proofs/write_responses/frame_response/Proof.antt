@@ -1,4 +1,4 @@
--- The payload has room in the local array, so that it is the item's encoding, and `send` writes its frame.
+-- The payload is written whole into a local that has the room, and sent.
 use Rattle.frames.specs.Responses.{responseItem}
 use Rattle.frames.proofs.Sends.{send-room, send-item}
 use Rattle.map_fields.proofs.Added.{puts-fit}
@@ -11,5 +11,12 @@ frame-response-spec =
     tie.close
     (tie.spec
     (λ c. search needs) (λ c κs. search needs) (λ c. search needs)
-    (λ c κs. send-room (search needs) (c .before .before .before .put-response .ensures)) (λ c. search needs)
-    (λ c. send-item (responseItem (c .before .before .before .before .before .before .before .before .before .args .r)) _ _ (c .before .before .before .before .before .before .before .before .before .args .out .now) _ _ _ (puts-fit (search needs) (c .before .before .before .before .before .before .put-response .ensures)) (c .before .before .send .ensures)))
+    (λ c κs.
+    let at-put-response = c .before .before .before .put-response in
+    send-room (search needs) (at-put-response .ensures)) (λ c. search needs)
+    (λ c.
+    let at-send = c .before .before .send in
+    let at-put-response = c .before .before .before .before .before .before .put-response in
+    let back-8 = c .before .before .before .before .before .before .before .before in
+    let at-args = back-8 .before .args in
+    send-item (responseItem (at-args .r)) _ _ (at-args .out .now) _ _ _ (puts-fit (search needs) (at-put-response .ensures)) (at-send .ensures)))

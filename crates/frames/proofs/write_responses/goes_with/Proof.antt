@@ -1,4 +1,4 @@
--- Each case of the outcome is that of `goesWith`: the command it belongs to, and its numbers in range.
+-- By the case.
 use borrow.Author.Needs.{needs}
 use Rattle.frames.specs.Responses.{goesWith}
 use Rattle.frames.proofs.write_responses.goes_with.Statement.{statement}
@@ -12,6 +12,10 @@ goes-with-spec =
     (λ c. search needs) (λ c. search needs) (λ c κs. search needs) (λ c κs. search needs) (λ c. search needs)
     (λ c κs. search needs) (λ c κs. search needs) (λ c. search needs) (λ c κs. search needs)
     (λ c. rw (c .enum-told .given .1))
-    (λ c. rw (c .before .before .before .o .given .1, c .both .ensures, c .before .limit-in-range .ensures))
-    (λ c. rw (c .before .before .before .o2 .given .1, c .both2 .ensures, c .before .setpoint-in-range .ensures))
+    (λ c.
+    let at-o = c .before .before .before .o in
+    rw (at-o .given .1, c .both .ensures, c .before .limit-in-range .ensures))
+    (λ c.
+    let at-o2 = c .before .before .before .o2 in
+    rw (at-o2 .given .1, c .both2 .ensures, c .before .setpoint-in-range .ensures))
     (λ c. rw (c .before .enum-told2 .given .1) (c .either .ensures)))

@@ -1,4 +1,4 @@
--- `all4` joins the tests of `limitInRange`, three of them by `amount_up_to`.
+-- Joined one after the other.
 use Rattle.frames.specs.Responses.{limitInRange}
 use borrow.Author.Needs.{needs}
 use Rattle.frames.proofs.write_responses.limit_in_range.Statement.{statement}
@@ -10,4 +10,7 @@ limit-in-range-spec =
     tie.close
     (tie.spec
     (λ c κs. search needs) (λ c κs. search needs) (λ c κs. search needs) (λ c κs. search needs)
-    (λ c. rw (c .all4 .ensures, c .before .before .before .amount-up-to .ensures, c .before .before .amount-up-to2 .ensures, c .before .amount-up-to3 .ensures)))
+    (λ c.
+    let at-amount-up-to2 = c .before .before .amount-up-to2 in
+    let at-amount-up-to = c .before .before .before .amount-up-to in
+    rw (c .all4 .ensures, at-amount-up-to .ensures, at-amount-up-to2 .ensures, c .before .amount-up-to3 .ensures)))

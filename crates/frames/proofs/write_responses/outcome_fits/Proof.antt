@@ -1,4 +1,4 @@
--- Where a result stands it must go with the command, and elsewhere there must be none, as in `fits`.
+-- The test is the one of the definition.
 use Rattle.map_fields.proofs.Joined.{via}
 use Rattle.frames.specs.Responses.{fits}
 use borrow.Author.Needs.{needs}
@@ -11,6 +11,10 @@ outcome-fits-spec =
     tie.close
     (tie.spec
     (λ c κs. search needs) (λ c κs. search needs)
-    (λ c. rw (via (c .before .before .has-result .ensures) (c .before .if1 .taken)) (c .goes-with .ensures))
+    (λ c.
+    let at-has-result = c .before .before .has-result in
+    rw (via (at-has-result .ensures) (c .before .if1 .taken)) (c .goes-with .ensures))
     (λ c κs. search needs)
-    (λ c. rw (via (c .before .before .has-result .ensures) (c .before .if1 .left)) (c .is-nothing .ensures)))
+    (λ c.
+    let at-has-result = c .before .before .has-result in
+    rw (via (at-has-result .ensures) (c .before .if1 .left)) (c .is-nothing .ensures)))

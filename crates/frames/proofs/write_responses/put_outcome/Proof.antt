@@ -1,4 +1,4 @@
--- Each case puts the bytes of its item under key 3; nothing puts none.
+-- By the case.
 use Rattle.map_fields.specs.Puts.{fieldBytes}
 use Rattle.frames.specs.Responses.{outcomeItem}
 use Rattle.map_fields.proofs.Added.{puts-none}
@@ -13,10 +13,21 @@ put-outcome-spec =
     (tie.spec
     (λ c. search needs) (λ c. search needs) (λ c κs. search needs) (λ c. search needs) (λ c κs. search needs)
     (λ c. search needs) (λ c κs. search needs)
-    (λ c. rw (c .enum-told .given .1) (puts-none (c .before .before .before .args .out .now) (c .before .before .before .args .at) _))
+    (λ c.
+    let at-args = c .before .before .before .args in
+    rw (c .enum-told .given .1) (puts-none (at-args .out .now) (at-args .at) _))
     (λ c. search needs)
-    (λ c. rw (c .before .before .before .before .before .o .given .1) (c .before .before .put-limit .ensures))
+    (λ c.
+    let at-put-limit = c .before .before .put-limit in
+    let at-o = c .before .before .before .before .before .o in
+    rw (at-o .given .1) (at-put-limit .ensures))
     (λ c. search needs)
-    (λ c. rw (c .before .before .before .before .before .o2 .given .1) (c .before .before .put-setpoint .ensures))
+    (λ c.
+    let at-put-setpoint = c .before .before .put-setpoint in
+    let at-o2 = c .before .before .before .before .before .o2 in
+    rw (at-o2 .given .1) (at-put-setpoint .ensures))
     (λ c. search needs)
-    (λ c. rw (c .before .before .before .before .enum-told2 .given .1) (c .before .before .put-success .ensures)))
+    (λ c.
+    let at-put-success = c .before .before .put-success in
+    let at-enum-told2 = c .before .before .before .before .enum-told2 in
+    rw (at-enum-told2 .given .1) (at-put-success .ensures)))

@@ -1,4 +1,4 @@
--- The head of a map of two or three, id, status and the result behind them: that is the item's encoding.
+-- The head of the map, then its fields one behind the other.
 use Rattle.frames.specs.Responses.{outcomeItem}
 use native.Mathlib.Omega.{arith}
 use Rattle.frames.proofs.Writes.{pairs-small, response-bytes}
@@ -13,10 +13,23 @@ put-response-spec =
     tie.close
     (tie.spec
     (λ c κs. search needs)
-    (λ c. omega (arith, pairs-small (outcomeItem (c .before .before .before .args .r .outcome)), c .count-outcome .ensures))
+    (λ c.
+    let at-args = c .before .before .before .args in
+    omega (arith, pairs-small (outcomeItem (at-args .r .outcome)), c .count-outcome .ensures))
     (λ c κs. search needs)
     (λ c κs. search needs)
     (λ c κs. search needs)
     (λ c κs. search needs)
     (λ c. search needs)
-    (λ c. let a = puts-head (c .before .before .before .before .before .before .before .before .before .before .before .before .before .before .before .before .before .before .args .out .now) _ 0 5 _ _ (omega arith) (c .before .before .before .before .before .before .before .before .before .before .before .before .before .before .put-head .ensures) in puts-wider payloadRoom (omega arith) (puts-same (response-bytes (c .before .before .before .before .before .before .before .before .before .before .before .before .before .before .before .before .before .before .args .r) _ (c .before .before .before .before .before .before .before .before .before .before .before .before .before .before .before .count-outcome .ensures)) (puts-more (puts-more (puts-more a (c .before .before .before .before .before .before .before .before .before .before .put-uint .ensures)) (c .before .before .before .before .before .before .put-uint2 .ensures)) (c .before .before .put-outcome .ensures)))))
+    (λ c.
+    let at-put-outcome = c .before .before .put-outcome in
+    let at-put-uint2 = c .before .before .before .before .before .before .put-uint2 in
+    let back-8 = c .before .before .before .before .before .before .before .before in
+    let at-put-uint = back-8 .before .before .put-uint in
+    let at-put-head = back-8 .before .before .before .before .before .before .put-head in
+    let at-count-outcome = back-8 .before .before .before .before .before .before .before .count-outcome in
+    let back-16 = back-8 .before .before .before .before .before .before .before .before in
+    let at-args = back-16 .before .before .args in
+    let a = puts-head (at-args .out .now) _ 0 5 _ _ (omega arith) (at-put-head .ensures) in
+    puts-wider payloadRoom (omega arith) (puts-same (response-bytes (at-args .r) _ (at-count-outcome .ensures))
+    (puts-more (puts-more (puts-more a (at-put-uint .ensures)) (at-put-uint2 .ensures)) (at-put-outcome .ensures)))))

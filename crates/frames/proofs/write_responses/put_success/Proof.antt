@@ -1,4 +1,4 @@
--- The head of a map of one pair, and success behind it, are the bytes of a clear's result.
+-- The key with the head of the map, then its one field.
 use native.Mathlib.Omega.{arith}
 use Rattle.frames.proofs.Writes.{clear-bytes}
 use Rattle.map_fields.proofs.Added.{puts-more, puts-wider, puts-same}
@@ -12,4 +12,7 @@ put-success-spec =
     tie.close
     (tie.spec
     (λ c κs. search needs) (λ c κs. search needs) (λ c. search needs)
-    (λ c. puts-wider outcomeRoom (omega arith) (puts-same clear-bytes (puts-more (c .before .before .before .before .before .before .put-map .ensures) (c .before .before .put-truth .ensures)))))
+    (λ c.
+    let at-put-truth = c .before .before .put-truth in
+    let at-put-map = c .before .before .before .before .before .before .put-map in
+    puts-wider outcomeRoom (omega arith) (puts-same clear-bytes (puts-more (at-put-map .ensures) (at-put-truth .ensures)))))

@@ -1,4 +1,4 @@
--- `both` joins the two tests of `setpointInRange`, each by `amount_up_to`.
+-- Joined one after the other.
 use Rattle.frames.specs.Responses.{setpointInRange}
 use borrow.Author.Needs.{needs}
 use Rattle.frames.proofs.write_responses.setpoint_in_range.Statement.{statement}
@@ -10,4 +10,6 @@ setpoint-in-range-spec =
     tie.close
     (tie.spec
     (λ c κs. search needs) (λ c κs. search needs) (λ c κs. search needs)
-    (λ c. rw (c .both .ensures, c .before .before .amount-up-to .ensures, c .before .amount-up-to2 .ensures)))
+    (λ c.
+    let at-amount-up-to = c .before .before .amount-up-to in
+    rw (c .both .ensures, at-amount-up-to .ensures, c .before .amount-up-to2 .ensures)))

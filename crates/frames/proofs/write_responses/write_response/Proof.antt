@@ -1,4 +1,4 @@
--- A refusal writes nothing; else `frame_response` writes the frame where it fits.
+-- Refused, or written as it is.
 use borrow.Author.Needs.{needs}
 use Rattle.frames.specs.Responses.{responseItem, responseNumber}
 use Rattle.frames.specs.Writing.{itemFrame}
@@ -11,6 +11,16 @@ write-response-spec =
     tie.close
     (tie.spec
     (λ c κs. search needs) (λ c κs. search needs)
-    (λ c. a-refusal _ (responseNumber (c .before .before .before .before .args .command) (c .before .before .before .before .args .r)) (itemFrame (responseItem (c .before .before .before .before .args .r))) (c .before .before .before .before .args .out .now) _ (c .before .before .response-number .ensures) (c .before .if1 .taken) (c .refused .ensures))
+    (λ c.
+    let at-response-number = c .before .before .response-number in
+    let at-args = c .before .before .before .before .args in
+    a-refusal _ (responseNumber (at-args .command) (at-args .r)) (itemFrame (responseItem (at-args .r))) (at-args .out .now) _
+    (at-response-number .ensures) (c .before .if1 .taken) (c .refused .ensures))
     (λ c κs. search needs) (λ c. search needs)
-    (λ c. no-refusal _ (responseNumber (c .before .before .before .before .before .before .before .args .command) (c .before .before .before .before .before .before .before .args .r)) (itemFrame (responseItem (c .before .before .before .before .before .before .before .args .r))) (c .before .before .before .before .before .before .before .args .out .now) _ _ (c .before .before .before .before .before .response-number .ensures) (c .before .before .before .before .if1 .left) (c .before .before .frame-response .ensures)))
+    (λ c.
+    let at-frame-response = c .before .before .frame-response in
+    let at-if1 = c .before .before .before .before .if1 in
+    let at-response-number = c .before .before .before .before .before .response-number in
+    let at-args = c .before .before .before .before .before .before .before .args in
+    no-refusal _ (responseNumber (at-args .command) (at-args .r)) (itemFrame (responseItem (at-args .r))) (at-args .out .now) _ _
+    (at-response-number .ensures) (at-if1 .left) (at-frame-response .ensures)))

@@ -1,4 +1,4 @@
--- Each case's count is that of its item: none for an absent amount, one for a number.
+-- By the case.
 use Rattle.map_fields.specs.Fields.{amountItem}
 use borrow.Author.Needs.{needs}
 use Rattle.map_fields.proofs.puts.count_amount.Statement.{statement}

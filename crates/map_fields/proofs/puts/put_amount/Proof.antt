@@ -1,4 +1,4 @@
--- An absent amount adds no bytes, and a number is a pair whose value is major type 0.
+-- By the case: nothing, or a key and a head.
 use Rattle.map_fields.specs.Fields.{amountItem}
 use Rattle.map_fields.proofs.Added.{puts-none}
 use Rattle.cbor.specs.Item.{encode}
@@ -13,6 +13,11 @@ put-amount-spec =
     tie.close
     (tie.spec
     (λ c. search needs) (λ c. search needs) (λ c κs. search needs)
-    (λ c. rw (c .enum-told .given .1) (puts-none (c .before .before .before .args .out .now) (c .before .before .before .args .at) _))
+    (λ c.
+    let at-args = c .before .before .before .args in
+    rw (c .enum-told .given .1) (puts-none (at-args .out .now) (at-args .at) _))
     (λ c. search needs)
-    (λ c. rw (c .before .before .before .before .before .a .given .1) (c .before .before .put-pair .ensures)))
+    (λ c.
+    let at-put-pair = c .before .before .put-pair in
+    let at-a = c .before .before .before .before .before .a in
+    rw (at-a .given .1) (at-put-pair .ensures)))

@@ -7,4 +7,6 @@ pub put-map-spec : {M : Type 1} → statement M
 put-map-spec =
     tie.close
     (tie.spec
-    (λ c κs. search needs) (λ c. search needs) (λ c. c .before .before .put-pair .ensures))
+    (λ c κs. search needs) (λ c. search needs) (λ c.
+    let at-put-pair = c .before .before .put-pair in
+    at-put-pair .ensures))

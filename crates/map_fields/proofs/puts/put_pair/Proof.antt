@@ -1,4 +1,4 @@
--- Two heads one behind the other, each of at most nine bytes: where there is room for eighteen, both are put.
+-- Two heads, one behind the other.
 use Rattle.map_fields.proofs.Added.{puts-pair}
 use borrow.Author.Needs.{needs}
 use Rattle.map_fields.proofs.puts.put_pair.Statement.{statement}
@@ -9,4 +9,11 @@ put-pair-spec =
     tie.close
     (tie.spec
     (λ c κs. search needs) (λ c κs. search needs) (λ c. search needs)
-    (λ c. puts-pair (c .before .before .before .before .before .before .before .before .before .args .out .now) _ _ (c .before .before .before .before .before .before .before .before .before .args .at) (c .before .before .before .before .before .before .before .before .before .args .key) (c .before .before .before .before .before .before .before .before .before .args .major) (c .before .before .before .before .before .before .before .before .before .args .arg) _ _ (c .before .before .before .before .before .before .before .before .before .pre) (c .before .before .before .before .before .before .put-head .ensures) (c .before .before .put-head2 .ensures)))
+    (λ c.
+    let at-put-head2 = c .before .before .put-head2 in
+    let at-put-head = c .before .before .before .before .before .before .put-head in
+    let back-8 = c .before .before .before .before .before .before .before .before in
+    let at-args = back-8 .before .args in
+    let at-pre = back-8 .before .pre in
+    puts-pair (at-args .out .now) _ _ (at-args .at) (at-args .key) (at-args .major) (at-args .arg) _ _ (at-pre) (at-put-head .ensures)
+    (at-put-head2 .ensures)))

@@ -1,4 +1,4 @@
--- A truth is a simple value, 20 or 21, whose encoding is its head.
+-- A key and the head that the truth is.
 use Rattle.cbor.specs.Item.{encode}
 use Rattle.map_fields.specs.Puts.{pairBytes, fieldBytes}
 use borrow.Author.Needs.{needs}
@@ -11,6 +11,12 @@ put-truth-spec =
     tie.close
     (tie.spec
     (λ c κs. search needs) (λ c. search needs)
-    (λ c. rw (c .before .before .before .before .if1 .taken) (c .before .before .put-pair .ensures))
+    (λ c.
+    let at-put-pair = c .before .before .put-pair in
+    let at-if1 = c .before .before .before .before .if1 in
+    rw (at-if1 .taken) (at-put-pair .ensures))
     (λ c κs. search needs) (λ c. search needs)
-    (λ c. rw (c .before .before .before .before .if1 .left) (c .before .before .put-pair2 .ensures)))
+    (λ c.
+    let at-put-pair2 = c .before .before .put-pair2 in
+    let at-if1 = c .before .before .before .before .if1 in
+    rw (at-if1 .left) (at-put-pair2 .ensures)))

@@ -1,4 +1,4 @@
--- An unsigned number's encoding is its head, of major type 0.
+-- A key and the head that the number is.
 use Rattle.cbor.specs.Item.{encode}
 use Rattle.map_fields.specs.Puts.{pairBytes, fieldBytes}
 use borrow.Author.Needs.{needs}
@@ -10,4 +10,6 @@ unfolding pairBytes fieldBytes encode
 put-uint-spec =
     tie.close
     (tie.spec
-    (λ c κs. search needs) (λ c. search needs) (λ c. c .before .before .put-pair .ensures))
+    (λ c κs. search needs) (λ c. search needs) (λ c.
+    let at-put-pair = c .before .before .put-pair in
+    at-put-pair .ensures))

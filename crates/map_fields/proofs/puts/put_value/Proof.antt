@@ -1,4 +1,4 @@
--- Of each case the pair is that of its item; -1 - v of a negative v is not negative and fits, so the cast keeps it.
+-- By the case and the sign: -1 - v of a negative v is at least 0 and fits.
 use mir.Syntax.{w64}
 use mir.Val.{SFits}
 use Rattle.map_fields.proofs.Signs.{minus-fits, minus-cast, minus-item, plain-cast, plain-item}
@@ -16,14 +16,33 @@ put-value-spec =
     tie.close
     (tie.spec
     (λ c. search needs) (λ c. search needs) (λ c κs. search needs) (λ c. search needs)
-    (λ c. let g : SFits w64 (c .before .before .before .f .given .0 .0) = search needs in minus-fits _ g (c .before .if1 .taken))
-    (λ c. let g : SFits w64 (c .before .before .before .f .given .0 .0) = search needs in minus-cast _ g (c .before .if1 .taken))
+    (λ c.
+    let at-f = c .before .before .before .f in
+    let g : SFits w64 (at-f .given .0 .0) = search needs in minus-fits _ g (c .before .if1 .taken))
+    (λ c.
+    let at-f = c .before .before .before .f in
+    let g : SFits w64 (at-f .given .0 .0) = search needs in minus-cast _ g (c .before .if1 .taken))
     (λ c κs. search needs) (λ c. search needs)
-    (λ c. let g : SFits w64 (c .before .before .before .before .before .before .f .given .0 .0) = search needs in rw (c .before .before .before .before .before .before .f .given .1, minus-item _ g (c .before .before .before .before .if1 .taken)) (c .before .before .put-pair2 .ensures))
-    (λ c. let g : SFits w64 (c .before .before .before .f .given .0 .0) = search needs in plain-cast _ g (c .before .if1 .left))
+    (λ c.
+    let at-put-pair2 = c .before .before .put-pair2 in
+    let at-if1 = c .before .before .before .before .if1 in
+    let at-f = c .before .before .before .before .before .before .f in
+    let g : SFits w64 (at-f .given .0 .0) = search needs in rw (at-f .given .1, minus-item _ g (at-if1 .taken)) (at-put-pair2 .ensures))
+    (λ c.
+    let at-f = c .before .before .before .f in
+    let g : SFits w64 (at-f .given .0 .0) = search needs in plain-cast _ g (c .before .if1 .left))
     (λ c κs. search needs)
-    (λ c. rw (c .enum-told .given .1) (puts-none (c .before .before .before .args .out .now) (c .before .before .before .args .at) _))
+    (λ c.
+    let at-args = c .before .before .before .args in
+    rw (c .enum-told .given .1) (puts-none (at-args .out .now) (at-args .at) _))
     (λ c. search needs)
-    (λ c. rw (c .before .before .before .before .enum-told2 .given .1) (c .before .before .put-pair .ensures))
+    (λ c.
+    let at-put-pair = c .before .before .put-pair in
+    let at-enum-told2 = c .before .before .before .before .enum-told2 in
+    rw (at-enum-told2 .given .1) (at-put-pair .ensures))
     (λ c. search needs)
-    (λ c. let g : SFits w64 (c .before .before .before .before .before .before .f .given .0 .0) = search needs in rw (c .before .before .before .before .before .before .f .given .1, plain-item _ g (c .before .before .before .before .if1 .left)) (c .before .before .put-pair3 .ensures)))
+    (λ c.
+    let at-put-pair3 = c .before .before .put-pair3 in
+    let at-if1 = c .before .before .before .before .if1 in
+    let at-f = c .before .before .before .before .before .before .f in
+    let g : SFits w64 (at-f .given .0 .0) = search needs in rw (at-f .given .1, plain-item _ g (at-if1 .left)) (at-put-pair3 .ensures)))

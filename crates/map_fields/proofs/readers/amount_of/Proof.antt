@@ -1,4 +1,4 @@
--- The test for major type 0 is the definition's.
+-- The test is the one of the definition.
 use borrow.Author.Tests.{ne-eqb}
 use Rattle.map_fields.specs.Sights.{amountOf}
 use Rattle.map_fields.proofs.readers.amount_of.Statement.{statement}

@@ -1,4 +1,4 @@
--- Major type 5 is the sight of a map, and of nothing else.
+-- What is seen says which kind of item it is.
 use Rattle.map_fields.proofs.BySight.{map-reads}
 use Rattle.map_fields.proofs.readers.is_map.Statement.{statement}
 use Rattle.map_fields.proofs.readers.is_map.Tie as tie

@@ -1,4 +1,4 @@
--- Major type 7 with 21 is the sight of true, and of nothing else.
+-- What is seen says which kind of item it is, and which one.
 use Rattle.map_fields.proofs.BySight.{success-reads}
 use borrow.Author.Needs.{needs}
 use Rattle.map_fields.proofs.readers.is_success.Statement.{statement}

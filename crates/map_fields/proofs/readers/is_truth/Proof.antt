@@ -1,4 +1,4 @@
--- Major type 7 with 20 or 21 is the sight of a truth, and of nothing else; 21 is true.
+-- What is seen says which kind of item it is, and which one.
 use Rattle.map_fields.proofs.BySight.{truth-reads}
 use borrow.Author.Needs.{needs}
 use Rattle.map_fields.proofs.readers.is_truth.Statement.{statement}

@@ -1,4 +1,4 @@
--- Absent where it need not be there, or major type 0 and not too large: the two ways in which the reader accepts.
+-- What is seen says which kind of item it is, and which number.
 use Rattle.map_fields.proofs.BySight.{uint-reads}
 use borrow.Author.Needs.{needs}
 use Rattle.map_fields.proofs.readers.is_uint.Statement.{statement}
@@ -9,4 +9,6 @@ is-uint-spec =
     tie.close
     (tie.spec
     (λ c κs. search needs) (λ c κs. search needs) (λ c κs. search needs)
-    (λ c. uint-reads _ _ _ _ (rw (c .either .ensures, c .before .before .before .before .both .ensures, c .before .both2 .ensures))))
+    (λ c.
+    let at-both = c .before .before .before .before .both in
+    uint-reads _ _ _ _ (rw (c .either .ensures, at-both .ensures, c .before .both2 .ensures))))

@@ -1,4 +1,4 @@
--- `both` gives each of the two conjunctions.
+-- Joined one after the other.
 use borrow.Author.Needs.{needs}
 use Rattle.map_fields.proofs.truths.all3.Statement.{statement}
 use Rattle.map_fields.proofs.truths.all3.Tie as tie

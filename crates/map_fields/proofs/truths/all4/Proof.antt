@@ -1,4 +1,4 @@
--- `all3` gives the conjunction of the last three, `both` that with the first.
+-- Joined one after the other.
 use borrow.Author.Needs.{needs}
 use Rattle.map_fields.proofs.truths.all4.Statement.{statement}
 use Rattle.map_fields.proofs.truths.all4.Tie as tie

@@ -1,4 +1,4 @@
--- `all4` gives the conjunction of the last four, `both` that with the first.
+-- Joined one after the other.
 use borrow.Author.Needs.{needs}
 use Rattle.map_fields.proofs.truths.all5.Statement.{statement}
 use Rattle.map_fields.proofs.truths.all5.Tie as tie
