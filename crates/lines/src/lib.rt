@@ -13,7 +13,6 @@
 mod answers; // answers.rt: the commands whose answer is more than a number
 mod commands; // commands.rt: a command's name, how many words it has, and what its numbers are
 mod fields; // fields.rt: the numbers of a line
-mod print; // print.rt: the parts of an answer
 mod scraps; // scraps.rt: frames that come in scraps
 
 pub use answers::answer;

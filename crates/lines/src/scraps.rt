@@ -1,14 +1,14 @@
 // Frames that come in scraps: `scrap new ROOM BYTES` and `scrap same ROOM BYTES`. `new` makes a fresh record and a room of
 // zeros; ROOM is how many bytes of the room are lent.
-use words::number_in;
-use words::read_hex;
-use crate::print::put_bad;
-use crate::print::put_end;
-use crate::print::put_hex_or_none;
-use words::same;
-use words::span;
 use receiver::COUNTS;
 use receiver::RECORD;
+use words::number_in;
+use words::put_bad;
+use words::put_end;
+use words::put_hex_or_none;
+use words::read_hex;
+use words::same;
+use words::span;
 ghost use Prim.Native.Nat.{_≤_};
 ghost use lib.ListN.{length};
 

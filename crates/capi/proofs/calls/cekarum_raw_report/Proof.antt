@@ -9,4 +9,7 @@ cekarum-raw-report-spec =
     tie.close
     (tie.spec
     (λ c κs. search needs) (λ c κs. search needs) (λ c. search needs)
-    (λ c. rw (← c .before .before .before .before .inputs-of .ensures) (ap (λ a. a .number) (c .before .before .report .ensures .0), (c .before .before .report .ensures .1, ap (λ a. a .count) (c .before .before .report .ensures .0)))))
+    (λ c.
+    let at-report = c .before .before .report in
+    let at-inputs-of = c .before .before .before .before .inputs-of in
+    rw (← at-inputs-of .ensures) (ap (λ a. a .number) (at-report .ensures .0), (at-report .ensures .1, ap (λ a. a .count) (at-report .ensures .0)))))

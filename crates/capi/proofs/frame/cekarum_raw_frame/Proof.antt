@@ -9,4 +9,6 @@ cekarum-raw-frame-spec =
     tie.close
     (tie.spec
     (λ c κs. search needs) (λ c. search needs)
-    (λ c. (ap (λ a. a .number) (c .before .before .frame .ensures .0), (c .before .before .frame .ensures .1 .0, (c .before .before .frame .ensures .1 .1, ap (λ a. a .length) (c .before .before .frame .ensures .0))))))
+    (λ c.
+    let at-frame = c .before .before .frame in
+    (ap (λ a. a .number) (at-frame .ensures .0), (at-frame .ensures .1 .0, (at-frame .ensures .1 .1, ap (λ a. a .length) (at-frame .ensures .0))))))

@@ -1,3 +1,4 @@
+-- The two answers are the two choices of the definition.
 use Rattle.capi.specs.Requests.{aimOf}
 use Rattle.capi.proofs.requests.aim_of.Statement.{statement}
 use Rattle.capi.proofs.requests.aim_of.Tie as tie

@@ -1,3 +1,4 @@
+-- Both tests are the definition's.
 use Rattle.capi.specs.Requests.{limitKind}
 use mathlib.Core.Path.{refl}
 use Rattle.capi.proofs.requests.are_limit_kinds.Statement.{statement}

@@ -1,3 +1,4 @@
+-- Each kind is tested as the definition tests it.
 use borrow.Author.Needs.{needs}
 use Rattle.capi.proofs.requests.are_setpoint_kinds.Statement.{statement}
 use Rattle.capi.proofs.requests.are_setpoint_kinds.Tie as tie

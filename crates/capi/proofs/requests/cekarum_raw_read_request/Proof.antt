@@ -10,4 +10,14 @@ cekarum-raw-read-request-spec =
     tie.close
     (tie.spec
     (λ c κs. search needs) (λ c κs. search needs) (λ c κs. search needs) (λ c κs. search needs)
-    (λ c. let e = c .before .before .before .flat-reading .ensures ∙ ap flatReading (c .before .before .before .before .read-request .ensures) in (ap (λ a. a .number) e, (c .before .request-words .ensures ∙ ap (λ a. requestWords (a .request)) e, c .request-values .ensures ∙ ap (λ a. requestValues (a .request)) e))))
+    (λ c.
+    let at-flat-reading = c .before .before .before .flat-reading in
+    let at-read-request = c .before .before .before .before .read-request in
+    let e = at-flat-reading .ensures ∙ ap flatReading (at-read-request .ensures) in (
+      ap (λ a. a .number) e,
+      (
+        c .before .request-words .ensures ∙ ap (λ a. requestWords (a .request)) e,
+        c .request-values .ensures ∙ ap
+            (λ a. requestValues (a .request)) e,
+      ),
+    )))

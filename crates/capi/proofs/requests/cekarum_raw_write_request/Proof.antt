@@ -11,4 +11,9 @@ cekarum-raw-write-request-spec =
     tie.close
     (tie.spec
     (λ c κs. search needs) (λ c κs. search needs) (λ c κs. search needs) (λ c. search needs)
-    (λ c. rw (← c .before .before .before .before .request-in .ensures, ← c .before .before .before .request-of .ensures) (ap (λ a. a .number) (c .before .before .write-request .ensures .0), (c .before .before .write-request .ensures .1, ap (λ a. a .length) (c .before .before .write-request .ensures .0)))))
+    (λ c.
+    let at-write-request = c .before .before .write-request in
+    let at-request-of = c .before .before .before .request-of in
+    let at-request-in = c .before .before .before .before .request-in in
+    rw (← at-request-in .ensures, ← at-request-of .ensures)
+    (ap (λ a. a .number) (at-write-request .ensures .0), (at-write-request .ensures .1, ap (λ a. a .length) (at-write-request .ensures .0)))))

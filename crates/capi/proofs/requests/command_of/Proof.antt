@@ -1,3 +1,4 @@
+-- Each return stands under the tests of its choice in the definition.
 use Rattle.capi.specs.Requests.{commandOf}
 use borrow.Author.Tests.{eq-eqb, ne-eqb}
 use Rattle.kernel.proofs.Door.{via}
@@ -11,13 +12,50 @@ command-of-spec =
     tie.close
     (tie.spec
     (λ c κs. search needs) (λ c κs. search needs)
-    (λ c. rw (eq-eqb _ _ (c .before .before .before .if1 .taken), via (c .before .before .are-limit-kinds .ensures) (c .before .if2 .taken), c .limits-of .ensures))
-    (λ c. rw (eq-eqb _ _ (c .before .before .if1 .taken), via (c .before .are-limit-kinds .ensures) (c .if2 .left)))
+    (λ c.
+    let at-are-limit-kinds = c .before .before .are-limit-kinds in
+    let at-if1 = c .before .before .before .if1 in
+    rw (eq-eqb _ _ (at-if1 .taken), via (at-are-limit-kinds .ensures) (c .before .if2 .taken), c .limits-of .ensures))
+    (λ c.
+    let at-if1 = c .before .before .if1 in
+    rw (eq-eqb _ _ (at-if1 .taken), via (c .before .are-limit-kinds .ensures) (c .if2 .left)))
     (λ c κs. search needs)
-    (λ c. rw (ne-eqb _ _ (c .before .before .before .if1 .left), eq-eqb _ _ (c .before .if3 .taken), c .aim-of .ensures))
+    (λ c.
+    let at-if1 = c .before .before .before .if1 in
+    rw (ne-eqb _ _ (at-if1 .left), eq-eqb _ _ (c .before .if3 .taken), c .aim-of .ensures))
     (λ c κs. search needs) (λ c κs. search needs)
-    (λ c. rw (ne-eqb _ _ (c .before .before .before .before .before .before .before .if1 .left), ne-eqb _ _ (c .before .before .before .before .before .if3 .left), eq-eqb _ _ (c .before .before .before .if4 .taken), via (c .before .before .are-setpoint-kinds .ensures) (c .before .if5 .taken), c .setpoints-of .ensures))
-    (λ c. rw (ne-eqb _ _ (c .before .before .before .before .before .before .if1 .left), ne-eqb _ _ (c .before .before .before .before .if3 .left), eq-eqb _ _ (c .before .before .if4 .taken), via (c .before .are-setpoint-kinds .ensures) (c .if5 .left)))
+    (λ c.
+    let at-are-setpoint-kinds = c .before .before .are-setpoint-kinds in
+    let at-if4 = c .before .before .before .if4 in
+    let at-if3 = c .before .before .before .before .before .if3 in
+    let at-if1 = c .before .before .before .before .before .before .before .if1 in
+    rw (
+      ne-eqb _ _ (at-if1 .left),
+      ne-eqb _ _ (at-if3 .left),
+      eq-eqb _ _ (at-if4 .taken),
+      via (at-are-setpoint-kinds .ensures)
+          (c .before .if5 .taken),
+      c .setpoints-of .ensures,
+    ))
+    (λ c.
+    let at-if4 = c .before .before .if4 in
+    let at-if3 = c .before .before .before .before .if3 in
+    let at-if1 = c .before .before .before .before .before .before .if1 in
+    rw (
+      ne-eqb _ _ (at-if1 .left),
+      ne-eqb _ _ (at-if3 .left),
+      eq-eqb _ _ (at-if4 .taken),
+      via (c .before .are-setpoint-kinds .ensures)
+          (c .if5 .left),
+    ))
     (λ c κs. search needs)
-    (λ c. rw (ne-eqb _ _ (c .before .before .before .before .before .before .before .if1 .left), ne-eqb _ _ (c .before .before .before .before .before .if3 .left), ne-eqb _ _ (c .before .before .before .if4 .left), eq-eqb _ _ (c .before .if6 .taken), c .aim-of2 .ensures))
-    (λ c. rw (ne-eqb _ _ (c .before .before .before .before .before .before .if1 .left), ne-eqb _ _ (c .before .before .before .before .if3 .left), ne-eqb _ _ (c .before .before .if4 .left), ne-eqb _ _ (c .if6 .left))))
+    (λ c.
+    let at-if4 = c .before .before .before .if4 in
+    let at-if3 = c .before .before .before .before .before .if3 in
+    let at-if1 = c .before .before .before .before .before .before .before .if1 in
+    rw (ne-eqb _ _ (at-if1 .left), ne-eqb _ _ (at-if3 .left), ne-eqb _ _ (at-if4 .left), eq-eqb _ _ (c .before .if6 .taken), c .aim-of2 .ensures))
+    (λ c.
+    let at-if4 = c .before .before .if4 in
+    let at-if3 = c .before .before .before .before .if3 in
+    let at-if1 = c .before .before .before .before .before .before .if1 in
+    rw (ne-eqb _ _ (at-if1 .left), ne-eqb _ _ (at-if3 .left), ne-eqb _ _ (at-if4 .left), ne-eqb _ _ (c .if6 .left))))

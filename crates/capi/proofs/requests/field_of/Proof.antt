@@ -1,3 +1,4 @@
+-- Each return stands under the test of its kind.
 use borrow.Author.Needs.{needs}
 use mir.Val.{SFits}
 use mir.Syntax.{w64}
@@ -13,5 +14,10 @@ field-of-spec =
     tie.close
     (tie.spec
     (λ c. rw (eq-eqb _ _ (c .if1 .taken)))
-    (λ c. let fits : SFits w64 (c .before .before .before .before .before .args .f .value) = search needs in rw (ne-eqb _ _ (c .before .before .before .if1 .left), eq-eqb _ _ (c .before .if2 .taken), toZ-ofZ fits))
-    (λ c. rw (ne-eqb _ _ (c .before .before .if1 .left), ne-eqb _ _ (c .if2 .left))))
+    (λ c.
+    let at-if1 = c .before .before .before .if1 in
+    let at-args = c .before .before .before .before .before .args in
+    let fits : SFits w64 (at-args .f .value) = search needs in rw (ne-eqb _ _ (at-if1 .left), eq-eqb _ _ (c .before .if2 .taken), toZ-ofZ fits))
+    (λ c.
+    let at-if1 = c .before .before .if1 in
+    rw (ne-eqb _ _ (at-if1 .left), ne-eqb _ _ (c .if2 .left))))

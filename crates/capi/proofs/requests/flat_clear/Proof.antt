@@ -1,3 +1,4 @@
+-- Each field is the request's, or what the aim names.
 use Rattle.capi.specs.Requests.{flatClear}
 use borrow.Author.Needs.{needs}
 use Rattle.capi.proofs.requests.flat_clear.Statement.{statement}
@@ -9,4 +10,7 @@ flat-clear-spec =
     tie.close
     (tie.spec
     (λ c κs. search needs) (λ c κs. search needs) (λ c κs. search needs) (λ c κs. search needs)
-    (λ c. rw (c .before .before .before .no-field .ensures, c .before .before .no-field2 .ensures, c .before .has-aim .ensures, c .aimed .ensures)))
+    (λ c.
+    let at-no-field2 = c .before .before .no-field2 in
+    let at-no-field = c .before .before .before .no-field in
+    rw (at-no-field .ensures, at-no-field2 .ensures, c .before .has-aim .ensures, c .aimed .ensures)))

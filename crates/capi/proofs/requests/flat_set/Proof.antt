@@ -1,3 +1,4 @@
+-- Each field is what was handed in.
 use Rattle.capi.specs.Requests.{flatSet}
 use mathlib.Core.Path.{refl}
 use Rattle.capi.proofs.requests.flat_set.Statement.{statement}

@@ -1,3 +1,4 @@
+-- Both tests are the definition's.
 use Rattle.capi.specs.Requests.{setpointKind}
 use mathlib.Core.Path.{refl}
 use Rattle.capi.proofs.requests.is_setpoint_kind.Statement.{statement}

@@ -1,3 +1,4 @@
+-- Each field is read by its kind.
 use Rattle.capi.specs.Requests.{limitsOf}
 use borrow.Author.Needs.{needs}
 use Rattle.capi.proofs.requests.limits_of.Statement.{statement}

@@ -1,3 +1,4 @@
+-- Both fields are none, and all else is 0.
 use borrow.Author.Needs.{needs}
 use Rattle.capi.proofs.requests.no_request.Statement.{statement}
 use Rattle.capi.proofs.requests.no_request.Tie as tie

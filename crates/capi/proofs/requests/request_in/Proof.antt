@@ -14,8 +14,10 @@ unfolding requestIn
 request-in-spec =
     tie.close
     (tie.spec
-    (λ c. search needs) (λ c. search needs) (λ c. search needs) (λ c. search needs) (λ c. search needs) (λ c. search needs) (λ c. search needs) (λ c. search needs) (λ c. search needs) (λ c. search needs) (λ c. search needs) (λ c κs. search needs) (λ c. search needs)
+    (λ c. search needs) (λ c. search needs) (λ c. search needs) (λ c. search needs) (λ c. search needs) (λ c. search needs) (λ c. search needs)
+    (λ c. search needs) (λ c. search needs) (λ c. search needs) (λ c. search needs) (λ c κs. search needs) (λ c. search needs)
     (λ c.
-    let f : SFits w64 (getD (c .before .before .before .args .t2) 0 (pos 0)) = search needs in
-    let g : SFits w64 (getD (c .before .before .before .args .t2) 1 (pos 0)) = search needs in
+    let at-args = c .before .before .before .args in
+    let f : SFits w64 (getD (at-args .t2) 0 (pos 0)) = search needs in
+    let g : SFits w64 (getD (at-args .t2) 1 (pos 0)) = search needs in
     rw (c .is-yes .ensures, toZ-ofZ f, toZ-ofZ g)))

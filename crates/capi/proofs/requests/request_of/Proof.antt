@@ -1,3 +1,4 @@
+-- The command is chosen as the definition says, and the envelope stays.
 use Rattle.capi.specs.Requests.{requestOf}
 use borrow.Author.Needs.{needs}
 use Rattle.capi.proofs.requests.request_of.Statement.{statement}

@@ -1,3 +1,4 @@
+-- Each return stands under the test of its kind.
 use borrow.Author.Needs.{needs}
 use mir.Val.{SFits}
 use mir.Syntax.{w64}
@@ -12,5 +13,7 @@ unfolding targetOf
 target-of-spec =
     tie.close
     (tie.spec
-    (λ c. let fits : SFits w64 (c .before .before .before .args .f .value) = search needs in rw (eq-eqb _ _ (c .before .if1 .taken), toZ-ofZ fits))
+    (λ c.
+    let at-args = c .before .before .before .args in
+    let fits : SFits w64 (at-args .f .value) = search needs in rw (eq-eqb _ _ (c .before .if1 .taken), toZ-ofZ fits))
     (λ c. rw (ne-eqb _ _ (c .if1 .left))))

@@ -10,4 +10,14 @@ cekarum-raw-read-response-spec =
     tie.close
     (tie.spec
     (λ c κs. search needs) (λ c κs. search needs) (λ c κs. search needs) (λ c κs. search needs)
-    (λ c. let e = c .before .before .before .flat-answer .ensures ∙ ap flatAnswer (c .before .before .before .before .read-response .ensures) in (ap (λ a. a .number) e, (c .before .response-words .ensures ∙ ap (λ a. responseWords (a .response)) e, c .response-values .ensures ∙ ap (λ a. responseValues (a .response)) e))))
+    (λ c.
+    let at-flat-answer = c .before .before .before .flat-answer in
+    let at-read-response = c .before .before .before .before .read-response in
+    let e = at-flat-answer .ensures ∙ ap flatAnswer (at-read-response .ensures) in (
+      ap (λ a. a .number) e,
+      (
+        c .before .response-words .ensures ∙ ap (λ a. responseWords (a .response)) e,
+        c .response-values .ensures ∙ ap
+            (λ a. responseValues (a .response)) e,
+      ),
+    )))

@@ -11,4 +11,9 @@ cekarum-raw-write-response-spec =
     tie.close
     (tie.spec
     (λ c κs. search needs) (λ c κs. search needs) (λ c κs. search needs) (λ c. search needs)
-    (λ c. rw (← c .before .before .before .before .response-in .ensures, ← c .before .before .before .response-of .ensures) (ap (λ a. a .number) (c .before .before .write-response .ensures .0), (c .before .before .write-response .ensures .1, ap (λ a. a .length) (c .before .before .write-response .ensures .0)))))
+    (λ c.
+    let at-write-response = c .before .before .write-response in
+    let at-response-of = c .before .before .before .response-of in
+    let at-response-in = c .before .before .before .before .response-in in
+    rw (← at-response-in .ensures, ← at-response-of .ensures)
+    (ap (λ a. a .number) (at-write-response .ensures .0), (at-write-response .ensures .1, ap (λ a. a .length) (at-write-response .ensures .0)))))

@@ -1,3 +1,4 @@
+-- Each amount is shown, and all else is what was handed in.
 use mir.Val.{SFits}
 use mir.Syntax.{w64}
 use mir.Facts.{toZ-ofZ}
@@ -13,7 +14,8 @@ flat-spec =
     (tie.spec
     (λ c κs. search needs) (λ c κs. search needs) (λ c κs. search needs)
     (λ c.
-    let f : SFits w64 (c .before .before .shown .result) = search needs in
+    let at-shown = c .before .before .shown in
+    let f : SFits w64 (at-shown .result) = search needs in
     let g : SFits w64 (c .before .shown2 .result) = search needs in
     let h : SFits w64 (c .shown3 .result) = search needs in
-    rw (toZ-ofZ f, toZ-ofZ g, toZ-ofZ h, c .before .before .shown .ensures, c .before .shown2 .ensures, c .shown3 .ensures)))
+    rw (toZ-ofZ f, toZ-ofZ g, toZ-ofZ h, at-shown .ensures, c .before .shown2 .ensures, c .shown3 .ensures)))

@@ -1,3 +1,4 @@
+-- Each outcome is made flat with its parts.
 use Rattle.capi.specs.Responses.{flatResponse}
 use borrow.Author.Needs.{needs}
 use Rattle.capi.proofs.responses.flat_response.Statement.{statement}
@@ -11,6 +12,10 @@ flat-response-spec =
     (λ c. search needs) (λ c κs. search needs) (λ c. search needs) (λ c κs. search needs) (λ c. search needs)
     (λ c κs. search needs) (λ c. search needs) (λ c κs. search needs)
     (λ c. rw (c .before .enum-told .given .1) (c .flat .ensures))
-    (λ c. rw (c .before .before .o .given .1) (c .flat2 .ensures))
-    (λ c. rw (c .before .before .o2 .given .1) (c .flat3 .ensures))
+    (λ c.
+    let at-o = c .before .before .o in
+    rw (at-o .given .1) (c .flat2 .ensures))
+    (λ c.
+    let at-o2 = c .before .before .o2 in
+    rw (at-o2 .given .1) (c .flat3 .ensures))
     (λ c. rw (c .before .enum-told2 .given .1) (c .flat4 .ensures)))

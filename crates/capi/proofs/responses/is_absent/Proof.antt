@@ -1,3 +1,4 @@
+-- Two words of the same bits are the same number.
 use Rattle.kernel.proofs.Door.{same-bits}
 use borrow.Author.Needs.{needs}
 use Rattle.capi.proofs.responses.is_absent.Statement.{statement}

@@ -1,3 +1,4 @@
+-- Each return stands under the tests of its choice in the definition.
 use mathlib.Core.Path.{refl, ap}
 use Rattle.messages.specs.declared.Outcome.{Outcome}
 use Rattle.capi.proofs.Chosen.{first, second}
@@ -14,8 +15,20 @@ outcome-of-spec =
     tie.close
     (tie.spec
     (λ c κs. search needs) (λ c κs. search needs)
-    (λ c. first _ _ _ _ (c .before .before .before .if1 .taken) (first _ _ _ _ (via (c .before .before .is-limit .ensures) (c .before .if2 .taken)) (ap Outcome.Limit (c .limit-of .ensures))))
+    (λ c.
+    let at-is-limit = c .before .before .is-limit in
+    let at-if1 = c .before .before .before .if1 in
+    first _ _ _ _ (at-if1 .taken) (first _ _ _ _ (via (at-is-limit .ensures) (c .before .if2 .taken)) (ap Outcome.Limit (c .limit-of .ensures))))
     (λ c κs. search needs)
-    (λ c. first _ _ _ _ (c .before .before .before .before .if1 .taken) (second _ _ _ _ (via (c .before .before .before .is-limit .ensures) (c .before .before .if2 .left)) (first _ _ _ _ (eq-eqb _ _ (c .before .if3 .taken)) (ap Outcome.Setpoint (c .setpoint-of .ensures)))))
-    (λ c. first _ _ _ _ (c .before .before .before .if1 .taken) (second _ _ _ _ (via (c .before .before .is-limit .ensures) (c .before .if2 .left)) (second _ _ _ _ (ne-eqb _ _ (c .if3 .left)) refl)))
+    (λ c.
+    let at-if2 = c .before .before .if2 in
+    let at-is-limit = c .before .before .before .is-limit in
+    let at-if1 = c .before .before .before .before .if1 in
+    first _ _ _ _ (at-if1 .taken) (second _ _ _ _ (via (at-is-limit .ensures) (at-if2 .left))
+    (first _ _ _ _ (eq-eqb _ _ (c .before .if3 .taken)) (ap Outcome.Setpoint (c .setpoint-of .ensures)))))
+    (λ c.
+    let at-is-limit = c .before .before .is-limit in
+    let at-if1 = c .before .before .before .if1 in
+    first _ _ _ _ (at-if1 .taken) (second _ _ _ _ (via (at-is-limit .ensures) (c .before .if2 .left))
+    (second _ _ _ _ (ne-eqb _ _ (c .if3 .left)) refl)))
     (λ c. second _ _ _ _ (c .if1 .left) refl))

@@ -14,9 +14,13 @@ unfolding responseIn
 response-in-spec =
     tie.close
     (tie.spec
-    (λ c. search needs) (λ c. search needs) (λ c. search needs) (λ c κs. search needs) (λ c. search needs) (λ c κs. search needs) (λ c. search needs) (λ c. search needs) (λ c. search needs) (λ c. search needs)
+    (λ c. search needs) (λ c. search needs) (λ c. search needs) (λ c κs. search needs) (λ c. search needs) (λ c κs. search needs) (λ c. search needs)
+    (λ c. search needs) (λ c. search needs) (λ c. search needs)
     (λ c.
-    let f : SFits w64 (getD (c .before .before .before .before .before .args .t2) 0 (pos 0)) = search needs in
-    let g : SFits w64 (getD (c .before .before .before .before .before .args .t2) 1 (pos 0)) = search needs in
-    let h : SFits w64 (getD (c .before .before .before .before .before .args .t2) 2 (pos 0)) = search needs in
-    rw (c .before .before .before .before .is-yes .ensures, c .before .before .before .is-yes2 .ensures, toZ-ofZ f, toZ-ofZ g, toZ-ofZ h)))
+    let at-is-yes2 = c .before .before .before .is-yes2 in
+    let at-is-yes = c .before .before .before .before .is-yes in
+    let at-args = c .before .before .before .before .before .args in
+    let f : SFits w64 (getD (at-args .t2) 0 (pos 0)) = search needs in
+    let g : SFits w64 (getD (at-args .t2) 1 (pos 0)) = search needs in
+    let h : SFits w64 (getD (at-args .t2) 2 (pos 0)) = search needs in
+    rw (at-is-yes .ensures, at-is-yes2 .ensures, toZ-ofZ f, toZ-ofZ g, toZ-ofZ h)))

@@ -1,3 +1,4 @@
+-- The outcome is chosen as the definition says.
 use Rattle.capi.specs.Responses.{responseOf}
 use borrow.Author.Needs.{needs}
 use Rattle.capi.proofs.responses.response_of.Statement.{statement}

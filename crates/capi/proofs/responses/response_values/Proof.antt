@@ -12,4 +12,8 @@ unfolding responseValues
 response-values-spec =
     tie.close
     (tie.spec
-    (λ c. let f : SFits w64 (c .before .args .p .consumption) = search needs in let g : SFits w64 (c .before .args .p .production) = search needs in let h : SFits w64 (c .before .args .p .reason) = search needs in rw (toZ-ofZ f, toZ-ofZ g, toZ-ofZ h)))
+    (λ c.
+    let f : SFits w64 (c .before .args .p .consumption) = search needs in
+    let g : SFits w64 (c .before .args .p .production) = search needs in
+    let h : SFits w64 (c .before .args .p .reason) = search needs in
+    rw (toZ-ofZ f, toZ-ofZ g, toZ-ofZ h)))

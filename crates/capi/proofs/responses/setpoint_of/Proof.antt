@@ -1,3 +1,4 @@
+-- Both numbers are read as amounts.
 use mir.Val.{SFits}
 use mir.Syntax.{w64}
 use mir.Facts.{toZ-ofZ}
@@ -12,4 +13,8 @@ setpoint-of-spec =
     tie.close
     (tie.spec
     (λ c κs. search needs) (λ c κs. search needs)
-    (λ c. let f : SFits w64 (c .before .before .before .before .args .p .consumption) = search needs in let g : SFits w64 (c .before .before .before .before .args .p .production) = search needs in rw (c .before .before .amount-of .ensures, c .amount-of2 .ensures, toZ-ofZ f, toZ-ofZ g)))
+    (λ c.
+    let at-amount-of = c .before .before .amount-of in
+    let at-args = c .before .before .before .before .args in
+    let f : SFits w64 (at-args .p .consumption) = search needs in
+    let g : SFits w64 (at-args .p .production) = search needs in rw (at-amount-of .ensures, c .amount-of2 .ensures, toZ-ofZ f, toZ-ofZ g)))

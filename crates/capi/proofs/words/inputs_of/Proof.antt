@@ -9,5 +9,9 @@ unfolding inputsOf
 inputs-of-spec =
     tie.close
     (tie.spec
-    (λ c. search needs) (λ c. search needs) (λ c. search needs) (λ c. search needs) (λ c. search needs) (λ c κs. search needs) (λ c. search needs) (λ c κs. search needs) (λ c. search needs) (λ c κs. search needs) (λ c. search needs) (λ c κs. search needs)
-    (λ c. rw (c .before .before .before .is-yes .ensures, c .before .before .is-yes2 .ensures, c .before .is-yes3 .ensures, c .is-yes4 .ensures)))
+    (λ c. search needs) (λ c. search needs) (λ c. search needs) (λ c. search needs) (λ c. search needs) (λ c κs. search needs) (λ c. search needs)
+    (λ c κs. search needs) (λ c. search needs) (λ c κs. search needs) (λ c. search needs) (λ c κs. search needs)
+    (λ c.
+    let at-is-yes2 = c .before .before .is-yes2 in
+    let at-is-yes = c .before .before .before .is-yes in
+    rw (at-is-yes .ensures, at-is-yes2 .ensures, c .before .is-yes3 .ensures, c .is-yes4 .ensures)))

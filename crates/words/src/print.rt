@@ -1,5 +1,7 @@
 // The parts of an answer, written into a lent slice, each where it fits.
-pub fn put_text(out: &mut [u8], at: usize, s: &[u8]) -> usize {
+
+// The bytes of a text.
+fn put_text(out: &mut [u8], at: usize, s: &[u8]) -> usize {
     let mut p = at;
     let mut i = 0;
     while i < s.len() {
@@ -9,10 +11,12 @@ pub fn put_text(out: &mut [u8], at: usize, s: &[u8]) -> usize {
     p
 }
 
+// The answer to a line that is no command.
 pub fn put_bad(out: &mut [u8], at: usize) -> usize {
     put_text(out, at, b"bad line\n")
 }
 
+// The end of an answer.
 pub fn put_end(out: &mut [u8], at: usize) -> usize {
     bytes::put_byte(out, at, b'\n')
 }

@@ -3,8 +3,8 @@ use mathlib.Core.Path.{sym}
 use lib.Seq.{length-take-le}
 use native.Mathlib.Omega.{arith}
 use borrow.Author.Needs.{needs}
-use Rattle.lines.proofs.print.put_hex_or_none.Statement.{statement}
-use Rattle.lines.proofs.print.put_hex_or_none.Tie as tie
+use Rattle.words.proofs.print.put_hex_or_none.Statement.{statement}
+use Rattle.words.proofs.print.put_hex_or_none.Tie as tie
 
 pub put-hex-or-none-spec : {M : Type 1} → statement M
 put-hex-or-none-spec =
