@@ -5,7 +5,7 @@ use mathlib.Core.List.{List, [], _∷_}
 use lib.Dec.{ltb, leb, eqb}
 use lib.ListN.{set, replicate}
 use lib.IntN.{negsuc}
-use Rattle.store.specs.Sizes.{slots, helds}
+use Rattle.store.specs.Sizes.{slots, values}
 use Rattle.store.specs.Zones.{freeZone, newZone, linked, slotOf, joined, zoneOf}
 use Rattle.store.specs.Words.{clockOf, sinceOf, overrideOf, settingsOf, zonesOf, headChange, after}
 use Rattle.holds.specs.Links.{sinceAfter}
@@ -89,7 +89,7 @@ askNumber ws t = firstOf (askTests (clockOf ws) t)
 
 unfoldable pub askAnswer : List ℕ → ℕ → Asked
 askAnswer ws t =
-    record { number = askNumber ws t; values = cond (eqb (askNumber ws t) 0) (valuesAt (situationOf ws) t) (replicate (1 + helds) (negsuc 0)) }
+    record { number = askNumber ws t; values = cond (eqb (askNumber ws t) 0) (valuesAt (situationOf ws) t) (replicate values (negsuc 0)) }
 
 -- "Every accepted call moves the clock to its time, asking included"
 unfoldable pub askAfter : List ℕ → ℕ → List ℕ

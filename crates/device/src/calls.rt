@@ -3,6 +3,7 @@ ghost use mathlib.Core.Path.{_≡_};
 ghost use mathlib.Core.Bool.{true, false, cond};
 ghost use Prim.Native.Nat.{_<_};
 ghost use lib.ListN.{getD, set};
+ghost use Rattle.store.specs.Sizes.{ids};
 ghost use Rattle.store.specs.Zones.{freeZone, newZone, linked};
 ghost use Rattle.store.specs.Words.{sinceOf, zonesOf};
 ghost use Rattle.holds.specs.Links.{sinceAfter};
@@ -18,6 +19,7 @@ use crate::Settings;
 use crate::State;
 use crate::VALUES;
 use crate::Zone;
+use store::IDS;
 
 fn refused_settings() -> Settings
     ensures { λ r. ⌜ r ≡ refusedSettings ⌝ }
@@ -48,11 +50,11 @@ pub fn start(d: &mut State, s: Settings) -> u64
 }
 
 fn new_zone(zone: u64, rank: u64) -> Zone
-    requires { ⌜ (zone < 256) × (rank < 5) ⌝ }
+    requires { ⌜ (zone < ids) × (rank < 5) ⌝ }
     ensures { λ r. ⌜ r ≡ newZone zone rank ⌝ }
 {
     Zone {
-        seat: rank * 256 + zone,
+        seat: rank * IDS + zone,
         up: true,
         held: [Held { value: 0, until: 0 }; HELDS],
     }

@@ -9,7 +9,7 @@ use lib.ListN.{length, getD, set}
 use lib.Signed.{nonNeg}
 use Rattle.messages.specs.Numbers.{AUTONOMOUS, CONTROLLED, LIMITED, FAILSAFE, OVERRIDE}
 use Rattle.messages.specs.declared.Amount.the-variants.{Is}
-use Rattle.store.specs.Sizes.{helds, most}
+use Rattle.store.specs.Sizes.{helds, ids, most}
 use Rattle.store.specs.Zones.{upTo, seatOf, heldOf}
 use Rattle.holds.specs.Holds.{lows, leads, isLimit, directionOf, Claim, claimOf, better, supports, shown}
 use Rattle.holds.specs.Dues.{nearer}
@@ -79,7 +79,7 @@ Bounded x n = (k : ℕ) → k < n → heldOf x (lowAt k) .value ≤ most
 pub record Leads (a : Claim) (seat value : ℕ) : Type 0 where
   pub place : seat ≡ placeOf a
   pub number : value ≡ numberOf a
-  pub small : a .id < 256
+  pub small : a .id < ids
 
 -- the numbers met so far stand for the claim f q of each quantity q
 pub record Meets (g : Met) (f : ℕ → Claim) : Type 0 where

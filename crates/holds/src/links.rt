@@ -7,6 +7,7 @@ ghost use Rattle.store.specs.Zones.{idOf, freeZone, isUp, anyUp};
 ghost use Rattle.holds.specs.Links.{linkRow};
 ghost use Rattle.store.specs.Words.{sinceOf, zonesOf};
 ghost use Rattle.holds.specs.Links.{sinceAfter};
+use store::IDS;
 use store::SLOTS;
 use store::State;
 use store::Zone;
@@ -44,7 +45,7 @@ fn id_with(d: &State, slot: usize, zone: Zone, i: usize) -> u64
     ensures { λ r. ⌜ r ≡ idOf (getD (set (zonesOf (now (d .entry))) slot zone) i freeZone) ⌝ }
 {
     if i == slot {
-        return zone.seat % 256;
+        return zone.seat % IDS;
     }
     store::id_at(d, i)
 }

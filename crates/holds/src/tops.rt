@@ -2,6 +2,7 @@
 use store::END;
 use store::HELDS;
 use store::Held;
+use store::IDS;
 use store::MOST;
 use store::SLOTS;
 use store::State;
@@ -123,7 +124,7 @@ fn with_zone(t: u64, zone: Zone, g: Met) -> Met
     ensures { λ r. ⌜ Adds t zone g r ⌝ }
     ensures { λ r. ⌜ r .next ≡ foldl (nearer t) (g .next) (zoneDues zone) ⌝ }
 {
-    if zone.seat % 256 == 0 {
+    if zone.seat % IDS == 0 {
         return g;
     }
     with_leads(t, zone, with_lows(t, zone, g))

@@ -5,7 +5,7 @@ use mathlib.Core.List.{List, [], _∷_, _++_}
 use lib.Dec.{ltb, eqb}
 use lib.IntN.{ℤ, pos}
 use lib.ListN.{length, drop}
-use Rattle.store.specs.Sizes.{helds}
+use Rattle.store.specs.Sizes.{values}
 use Rattle.store.specs.Words.{clockOf, overrideOf, after}
 use Rattle.holds.specs.Holds.{Situation, situationOf, valuesAt}
 use Rattle.messages.specs.Refusals.{firstOf}
@@ -20,7 +20,7 @@ planOf s now = plan (valuesAt s) now
 
 -- "rows of six signed numbers": second, control state, then each quantity
 abbrev pub rowSize : ℕ
-rowSize = 2 + helds
+rowSize = 1 + values
 
 unfoldable pub numbersOf : List (ℕ × List ℤ) → List ℤ
 numbersOf [] = []

@@ -1,4 +1,4 @@
-// The rows, six numbers each.
+// The rows: a second, the control state, then each quantity.
 use holds::view_at;
 use store::END;
 use store::HELDS;

@@ -12,11 +12,26 @@ slots = 8
 abbrev pub zoneSize : ℕ
 zoneSize = 2 + 2 * helds
 
+-- clock, since when no link is up, override; then the settings
+abbrev pub marks : ℕ
+marks = 3
+
+abbrev pub settings : ℕ
+settings = 10
+
 abbrev pub headSize : ℕ
-headSize = 13
+headSize = marks + settings
 
 abbrev pub words : ℕ
 words = headSize + slots * zoneSize
+
+-- the control state and each quantity: what holds at a second
+abbrev pub values : ℕ
+values = 1 + helds
+
+-- one more than the largest id
+abbrev pub ids : ℕ
+ids = 256
 
 -- the largest word: the end of what holds until replaced, and a contractual maximum that is none
 abbrev pub most : ℕ

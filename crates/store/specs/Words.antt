@@ -5,7 +5,7 @@ use mathlib.Core.List.{List, [], _∷_}
 use lib.Dec.{ltb, eqb}
 use lib.ListN.{getD, set, replicate}
 use lib.Seq.{sets}
-use Rattle.store.specs.Sizes.{helds, slots, zoneSize, headSize, words}
+use Rattle.store.specs.Sizes.{helds, slots, zoneSize, marks, headSize, words}
 use Rattle.store.specs.Zones.{upTo, freeZone}
 use Rattle.store.specs.declared.Held.{Held}
 use Rattle.store.specs.declared.Zone.{Zone}
@@ -89,4 +89,4 @@ settingWords s =
     ∷ getD (s .failsafe) 0 0 ∷ getD (s .failsafe) 1 0 ∷ s .duration ∷ bit (s .manager) ∷ []
 
 unfoldable pub fresh : Settings → List ℕ
-fresh s = sets (replicate words 0) 3 (settingWords s)
+fresh s = sets (replicate words 0) marks (settingWords s)

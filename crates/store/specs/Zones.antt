@@ -4,7 +4,7 @@ use mathlib.Core.Bool.{Bool, true, false, cond, not, _&&_, _||_}
 use mathlib.Core.List.{List, [], _∷_, _++_}
 use lib.Dec.{ltb, eqb}
 use lib.ListN.{getD, replicate}
-use Rattle.store.specs.Sizes.{helds, slots}
+use Rattle.store.specs.Sizes.{helds, slots, ids}
 use Rattle.store.specs.declared.Held.{Held}
 use Rattle.store.specs.declared.Zone.{Zone}
 
@@ -29,13 +29,13 @@ nothing = record { value = 0; until = 0 }
 
 -- a zone's id and rank in one number, its seat: the better rank, then the smaller id, is the smaller seat
 abbrev pub seatOf : ℕ → ℕ → ℕ
-seatOf z k = k * 256 + z
+seatOf z k = k * ids + z
 
 unfoldable pub idOf : Zone → ℕ
-idOf x = x .seat % 256
+idOf x = x .seat % ids
 
 unfoldable pub rankOf : Zone → ℕ
-rankOf x = x .seat / 256
+rankOf x = x .seat / ids
 
 -- a slot that no zone has
 abbrev pub freeZone : Zone

@@ -10,6 +10,7 @@ ghost use Rattle.store.specs.Words.{clockOf, sinceOf, overrideOf, settin
 use crate::HEAD;
 use crate::HELDS;
 use crate::Held;
+use crate::IDS;
 use crate::SLOTS;
 use crate::Settings;
 use crate::State;
@@ -147,7 +148,7 @@ fn part(d: &State, slot: usize, k: usize) -> u64
 pub fn id_at(d: &State, slot: usize) -> u64
     ensures { λ r. ⌜ r ≡ idOf (getD (zonesOf (now (d .entry))) slot freeZone) ⌝ }
 {
-    part(d, slot, 0) % 256
+    part(d, slot, 0) % IDS
 }
 
 // Whether the link of a slot's zone is up.

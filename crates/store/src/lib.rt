@@ -31,11 +31,19 @@ pub const VALUES: usize = 1 + HELDS;
 
 pub const ZONE: usize = 2 + 2 * HELDS;
 
-pub const HEAD: usize = 13;
+// The head: clock, since when no link is up, override; then the settings.
+pub const MARKS: usize = 3;
+
+pub const SETTINGS: usize = 10;
+
+pub const HEAD: usize = MARKS + SETTINGS;
 
 pub const WORDS: usize = HEAD + SLOTS * ZONE;
 
 pub type State = [u64; WORDS];
+
+// One more than the largest id: a seat is rank * IDS + id.
+pub const IDS: u64 = 256;
 
 // The largest word: the end of what holds until replaced, and a contractual maximum that is none.
 pub const MOST: u64 = 18446744073709551615;
@@ -51,7 +59,7 @@ pub struct Held {
     pub until: u64,
 }
 
-// A slot's whole record. The seat is rank * 256 + id, so that setpoints are told apart by one number; id 0 is a free slot.
+// A slot's whole record. The seat is rank * IDS + id, so that setpoints are told apart by one number; id 0 is a free slot.
 pub struct Zone {
     pub seat: u64,
     pub up: bool,

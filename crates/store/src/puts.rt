@@ -3,12 +3,14 @@ ghost use mathlib.Core.Path.{_≡_};
 ghost use Prim.Native.Nat.{_+_, _*_, _<_};
 ghost use lib.ListN.{set};
 ghost use lib.Seq.{sets};
-ghost use Rattle.store.specs.Sizes.{words};
+ghost use Rattle.store.specs.Sizes.{marks, words};
 ghost use Rattle.store.specs.Words.{bit, heldWords, putZone, applied, headChange, settingWords, fresh};
 use crate::Change;
 use crate::HEAD;
 use crate::HELDS;
 use crate::Held;
+use crate::MARKS;
+use crate::SETTINGS;
 use crate::SLOTS;
 use crate::Settings;
 use crate::State;
@@ -84,17 +86,17 @@ pub fn apply_head(d: &mut State, t: u64, o: u64)
     put_word(d, 0, t);
 }
 
-fn put_settings(d: &mut State, vs: [u64; 10])
-    ensures { λ r. ⌜ now (d .exit) ≡ sets (now (d .entry)) 3 vs ⌝ }
+fn put_settings(d: &mut State, vs: [u64; SETTINGS])
+    ensures { λ r. ⌜ now (d .exit) ≡ sets (now (d .entry)) marks vs ⌝ }
 {
     let mut i = 0;
-    while i < 10 {
-        put_word(d, 3 + i, vs[i]);
+    while i < SETTINGS {
+        put_word(d, MARKS + i, vs[i]);
         i += 1;
     }
 }
 
-fn setting_words(s: Settings) -> [u64; 10]
+fn setting_words(s: Settings) -> [u64; SETTINGS]
     ensures { λ r. ⌜ r ≡ settingWords s ⌝ }
 {
     let maxima = s.maxima;
