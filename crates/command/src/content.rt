@@ -1,6 +1,4 @@
 // What is asked of a command itself, whatever zone it comes from: its tests go over the quantities, not over the commands.
-use store::HELDS;
-use store::Settings;
 use crate::fields::field_names;
 use crate::fields::field_negative;
 use crate::fields::field_too_low;
@@ -14,6 +12,8 @@ use holds::supports;
 use messages::Aim;
 use messages::Command;
 use messages::Field;
+use store::HELDS;
+use store::Settings;
 ghost use mathlib.Core.Path.{_≡_};
 ghost use mathlib.Core.Bool.{not, _&&_};
 ghost use lib.Dec.{eqb};

@@ -1,16 +1,16 @@
 // What a command leaves held by its zone.
 use crate::Action;
-use store::HELDS;
-use store::Held;
-use store::MOST;
-use store::Settings;
-use store::Zone;
 use crate::fields::field_action;
 use crate::said::direction_of;
 use crate::said::duration_of;
 use crate::said::is_limit;
 use crate::said::says;
 use messages::Command;
+use store::HELDS;
+use store::Held;
+use store::MOST;
+use store::Settings;
+use store::Zone;
 ghost use mathlib.Core.Path.{_≡_};
 ghost use lib.ListN.{getD};
 ghost use Rattle.store.specs.Sizes.{helds};

@@ -1,7 +1,4 @@
 // The result that stands in the response to a command.
-use store::HELDS;
-use store::Settings;
-use store::VALUES;
 use crate::fields::field_above;
 use crate::fields::is_negative;
 use crate::fields::natural_of;
@@ -12,6 +9,9 @@ use messages::Command;
 use messages::LimitResult;
 use messages::Outcome;
 use messages::SetpointResult;
+use store::HELDS;
+use store::Settings;
+use store::VALUES;
 ghost use mathlib.Core.Path.{_≡_};
 ghost use mathlib.Core.Bool.{cond, _&&_, _||_};
 ghost use lib.Dec.{leb, eqb};

@@ -1,9 +1,9 @@
 // Requests, written.
+use crate::requests::MOST32;
+use crate::requests::is_served;
 use crate::sender::Written;
 use crate::sender::refused;
 use crate::sender::send;
-use crate::requests::MOST32;
-use crate::requests::is_served;
 use crate::settings::Setting;
 use crate::settings::setting_of_limits;
 use crate::settings::setting_of_setpoints;

@@ -1,12 +1,12 @@
 // Responses, written.
-use crate::sender::Written;
-use crate::sender::refused;
-use crate::sender::send;
 use crate::requests::MOST32;
 use crate::requests::is_command;
 use crate::responses::MOST_VALUE;
 use crate::responses::has_result;
 use crate::responses::is_status;
+use crate::sender::Written;
+use crate::sender::refused;
+use crate::sender::send;
 use crate::sizes::ROOM;
 use map_fields::all3;
 use map_fields::all4;

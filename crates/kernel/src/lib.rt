@@ -20,6 +20,8 @@
 // A signed number at the edge: `shown` writes an amount as one, -1 for absent, `is_negative` and `natural_of` read one.
 mod frame_call; // frame_call.rt: bytes in, the device, bytes out
 
+pub use command::is_negative;
+pub use command::natural_of;
 pub use conformance::Answer as Reported;
 pub use conformance::Inputs;
 pub use conformance::report;
@@ -38,9 +40,6 @@ pub use device::calls::leave;
 pub use device::calls::lost;
 pub use device::calls::set_override;
 pub use device::calls::start;
-pub use command::is_negative;
-pub use command::natural_of;
-pub use holds::shown;
 pub use frame_call::Framed;
 pub use frame_call::frame;
 pub use frames::Answer;
@@ -52,6 +51,7 @@ pub use frames::read_request;
 pub use frames::read_response;
 pub use frames::write_request;
 pub use frames::write_response;
+pub use holds::shown;
 pub use planner::PLAN;
 pub use planner::Planned;
 pub use planner::ROW;
