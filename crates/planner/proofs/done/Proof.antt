@@ -1,3 +1,4 @@
+-- The clock is moved, the override stays.
 use mathlib.Core.Path.{refl, _∙_}
 use borrow.Author.Needs.{needs}
 use Rattle.planner.proofs.done.Statement.{statement}
@@ -8,4 +9,6 @@ done-spec =
     tie.close
     (tie.spec
     (λ c κs. search needs) (λ c κs. search needs)
-    (λ c. (refl, c .apply-head .ensures ∙ rw (c .before .before .overridden .ensures))))
+    (λ c.
+    let at-overridden = c .before .before .overridden in
+    (refl, c .apply-head .ensures ∙ rw (at-overridden .ensures))))

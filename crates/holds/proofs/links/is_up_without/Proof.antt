@@ -1,3 +1,4 @@
+-- The slot that is freed has no link, the others are as they were.
 use lib.Seq.{getD-set-other}
 use Rattle.store.specs.Zones.{idOf, isJoined, isUp}
 use Rattle.holds.proofs.Since.{freed}

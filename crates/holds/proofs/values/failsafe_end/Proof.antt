@@ -1,3 +1,4 @@
+-- A sum that could pass the end of time is not taken.
 use native.Mathlib.Omega.{arith}
 use borrow.Author.Needs.{needs}
 use Rattle.holds.proofs.Ends.{nearer-far}

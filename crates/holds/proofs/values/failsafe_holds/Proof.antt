@@ -1,3 +1,4 @@
+-- Below since + duration, tested by a difference.
 use Prim.Native.Nat.{_+_}
 use native.Mathlib.Omega.{arith}
 use borrow.Author.Tests.{lt-ltb}

@@ -1,3 +1,4 @@
+-- Two words are equal exactly when the numbers are.
 use Rattle.planner.proofs.Alike.{same-bits}
 use Rattle.planner.proofs.rows.same_number.Statement.{statement}
 use Rattle.planner.proofs.rows.same_number.Tie as tie
