@@ -1,4 +1,4 @@
--- `apply_head` moves the clock and stores the override that it read.
+-- The clock is moved, the override stays.
 use mathlib.Core.Path.{refl, _∙_}
 use borrow.Author.Needs.{needs}
 use Rattle.planner.proofs.done.Statement.{statement}
@@ -9,4 +9,6 @@ done-spec =
     tie.close
     (tie.spec
     (λ c κs. search needs) (λ c κs. search needs)
-    (λ c. (refl, c .apply-head .ensures ∙ rw (c .before .before .overridden .ensures))))
+    (λ c.
+    let at-overridden = c .before .before .overridden in
+    (refl, c .apply-head .ensures ∙ rw (at-overridden .ensures))))

@@ -15,7 +15,9 @@ has-room-spec =
     tie.close
     (tie.spec
     (λ c κs. search needs)
-    (λ c. omega (arith, c .count .ensures, planOf-few (c .before .before .args .d .now) (c .before .before .args .t)))
+    (λ c.
+    let at-args = c .before .before .args in
+    omega (arith, c .count .ensures, planOf-few (at-args .d .now) (at-args .t)))
     (λ c. rw (c .count .ensures))
     (λ c.
     rw (le-leb (length (planOf (situationOf (c .before .args .d .now)) (c .before .args .t)) * rowSize) (c .before .args .room)

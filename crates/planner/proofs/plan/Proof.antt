@@ -13,49 +13,50 @@ use Rattle.planner.proofs.Answers.{late-ends, full-ends, placed, ends}
 use Rattle.planner.proofs.plan.Statement.{statement}
 use Rattle.planner.proofs.plan.Tie as tie
 
-clock-requires : tie.Need-clock-requires
-clock-requires c κs = search needs
-
-is-late-requires : tie.Need-is-late-requires
-is-late-requires c κs = search needs
-
-refused-requires : tie.Need-refused-requires
-refused-requires c κs = search needs
-
-returns : tie.Need-returns
-returns c = rw (c .refused .ensures) (late-ends (c .before .before .before .before .before .args .d .now) (c .before .before .before .before .before .args .t) (c .before .before .before .before .before .args .rows .now) (timed _ _ _ _ _ (c .before .before .before .clock .ensures) (c .before .before .is-late .ensures) (c .before .if1 .taken)))
-
-has-room-requires : tie.Need-has-room-requires
-has-room-requires c κs = search needs
-
-refused-requires-2 : tie.Need-refused-requires-2
-refused-requires-2 c κs = search needs
-
-returns-2 : tie.Need-returns-2
-returns-2 c =
-    rw (c .refused2 .ensures)
-    (full-ends (c .before .before .before .before .before .before .before .before .args .d .now) (c .before .before .before .before .before .before .before .before .args .t) (c .before .before .before .before .before .before .before .before .args .rows .now) (timed _ _ _ _ _ (c .before .before .before .before .before .before .clock .ensures) (c .before .before .before .before .before .is-late .ensures) (c .before .before .before .before .if1 .left)) (length (planOf (situationOf (c .before .before .before .before .before .before .before .before .args .d .now)) (c .before .before .before .before .before .before .before .before .args .t))) refl
-    (leb-false _ _ (via (c .before .before .has-room .ensures) (not-true _ (c .before .if2 .taken)))))
-
-find-requires : tie.Need-find-requires
-find-requires c κs = leb-true _ _ (via (c .before .before .before .has-room .ensures) (not-false _ (c .before .before .if2 .left)))
-
-done-requires : tie.Need-done-requires
-done-requires c κs = search needs
-
-same-length : tie.Need-same-length
-same-length c = search needs
-
-returns-3 : tie.Need-returns-3
-returns-3 c =
-    let few : c .before .before .before .find .result * rowSize ≤ length (c .before .before .before .before .before .before .before .before .before .before .before .before .before .args .rows .now) = omega (arith, c .before .before .before .find .ensures .0, leb-true (length (planOf (situationOf (c .before .before .before .before .before .before .before .before .before .before .before .before .before .args .d .now)) (c .before .before .before .before .before .before .before .before .before .before .before .before .before .args .t)) * rowSize) (length (c .before .before .before .before .before .before .before .before .before .before .before .before .before .args .rows .now)) (via (c .before .before .before .before .before .before .before .has-room .ensures) (not-false _ (c .before .before .before .before .before .before .if2 .left)))) in
-    rw (c .done .ensures .0)
-    (ends (c .before .before .before .before .before .before .before .before .before .before .before .before .before .args .d .now) (c .before .before .before .before .before .before .before .before .before .before .before .before .before .args .t) (c .before .before .before .before .before .before .before .before .before .before .before .before .before .args .rows .now) (c .before .before .before .find .result) (c .before .before .before .find .ensures .0) _ _ (timed _ _ _ _ _ (c .before .before .before .before .before .before .before .before .before .before .before .clock .ensures) (c .before .before .before .before .before .before .before .before .before .before .is-late .ensures) (c .before .before .before .before .before .before .before .before .before .if1 .left)) few
-    (placed (c .before .before .before .before .before .before .before .before .before .before .before .before .before .args .d .now) (c .before .before .before .before .before .before .before .before .before .before .before .before .before .args .t) (c .before .before .before .before .before .before .before .before .before .before .before .before .before .args .rows .now) (c .before .before .before .find .result) (c .before .before .before .find .ensures .0) _ few (c .before .before .before .find .ensures .1))
-    (c .done .ensures .1))
-
 pub plan-spec : {M : Type 1} → statement M
 plan-spec =
     tie.close
     (tie.spec
-    clock-requires is-late-requires refused-requires returns has-room-requires refused-requires-2 returns-2 find-requires done-requires same-length returns-3)
+    (λ c κs. search needs) (λ c κs. search needs) (λ c κs. search needs)
+    (λ c.
+    let at-is-late = c .before .before .is-late in
+    let at-clock = c .before .before .before .clock in
+    let at-args = c .before .before .before .before .before .args in
+    rw (c .refused .ensures) (late-ends (at-args .d .now) (at-args .t) (at-args .rows .now)
+    (timed _ _ _ _ _ (at-clock .ensures) (at-is-late .ensures) (c .before .if1 .taken))))
+    (λ c κs. search needs) (λ c κs. search needs)
+    (λ c.
+    let at-has-room = c .before .before .has-room in
+    let at-if1 = c .before .before .before .before .if1 in
+    let at-is-late = c .before .before .before .before .before .is-late in
+    let at-clock = c .before .before .before .before .before .before .clock in
+    let at-args = c .before .before .before .before .before .before .before .before .args in
+    rw (c .refused2 .ensures)
+    (full-ends (at-args .d .now) (at-args .t) (at-args .rows .now) (timed _ _ _ _ _ (at-clock .ensures) (at-is-late .ensures) (at-if1 .left))
+    (length (planOf (situationOf (at-args .d .now)) (at-args .t))) refl
+    (leb-false _ _ (via (at-has-room .ensures) (not-true _ (c .before .if2 .taken))))))
+    (λ c κs.
+    let at-if2 = c .before .before .if2 in
+    let at-has-room = c .before .before .before .has-room in
+    leb-true _ _ (via (at-has-room .ensures) (not-false _ (at-if2 .left))))
+    (λ c κs. search needs) (λ c. search needs)
+    (λ c.
+    let at-find = c .before .before .before .find in
+    let at-if2 = c .before .before .before .before .before .before .if2 in
+    let at-has-room = c .before .before .before .before .before .before .before .has-room in
+    let back-8 = c .before .before .before .before .before .before .before .before in
+    let at-if1 = back-8 .before .if1 in
+    let at-is-late = back-8 .before .before .is-late in
+    let at-clock = back-8 .before .before .before .clock in
+    let at-args = back-8 .before .before .before .before .before .args in
+    let few : at-find .result * rowSize ≤ length (at-args .rows .now) = omega (
+      arith,
+      at-find .ensures .0,
+      leb-true (length (planOf (situationOf (at-args .d .now)) (at-args .t)) * rowSize) (length (at-args .rows .now))
+          (via (at-has-room .ensures) (not-false _ (at-if2 .left))),
+    ) in
+    rw (c .done .ensures .0)
+    (ends (at-args .d .now) (at-args .t) (at-args .rows .now) (at-find .result) (at-find .ensures .0) _ _
+    (timed _ _ _ _ _ (at-clock .ensures) (at-is-late .ensures) (at-if1 .left)) few
+    (placed (at-args .d .now) (at-args .t) (at-args .rows .now) (at-find .result) (at-find .ensures .0) _ few (at-find .ensures .1))
+    (c .done .ensures .1))))

@@ -1,4 +1,4 @@
--- No zone before i is up, so that whether one is up is decided by those from i on.
+-- A search among the slots, the given one free.
 use Prim.Native.Nat.{_-_, _≤_}
 use mathlib.Core.Path.{_≡_, refl, sym, _∙_}
 use native.Mathlib.Omega.{arith}
@@ -23,7 +23,19 @@ any-up-without-spec =
     tie.close
     (tie.spec
     Inv-loop μ-loop (λ c. (omega arith, refl)) (λ c κs. tt)
-    (λ c. any-here _ _ freeZone (c .before .before .before .loop .i) (simp length-set (omega (arith, zones-length (c .before .before .before .before .args .d .now)))) (c .before .before .before .loop .inv .1) (sym (c .before .is-up-without .ensures) ∙ c .if1 .taken))
+    (λ c.
+    let at-loop = c .before .before .before .loop in
+    let at-args = c .before .before .before .before .args in
+    any-here _ _ freeZone (at-loop .i) (simp length-set (omega (arith, zones-length (at-args .d .now)))) (at-loop .inv .1)
+    (sym (c .before .is-up-without .ensures) ∙ c .if1 .taken))
     (λ c. omega arith) (λ c. omega arith)
-    (λ c. (omega arith, any-turn _ _ freeZone (c .before .before .before .loop .i) (simp length-set (omega (arith, zones-length (c .before .before .before .before .args .d .now)))) (c .before .before .before .loop .inv .1) (sym (c .before .is-up-without .ensures) ∙ c .if1 .left)))
-    (λ c. any-end _ _ (c .before .loop .i) (simp length-set (omega (arith, zones-length (c .before .before .args .d .now)))) (c .before .loop .inv .1)))
+    (λ c.
+    let at-loop = c .before .before .before .loop in
+    let at-args = c .before .before .before .before .args in (
+      omega arith,
+      any-turn _ _ freeZone (at-loop .i) (simp length-set (omega (arith, zones-length (at-args .d .now)))) (at-loop .inv .1)
+          (sym (c .before .is-up-without .ensures) ∙ c .if1 .left),
+    ))
+    (λ c.
+    let at-args = c .before .before .args in
+    any-end _ _ (c .before .loop .i) (simp length-set (omega (arith, zones-length (at-args .d .now)))) (c .before .loop .inv .1)))

@@ -1,4 +1,4 @@
--- At its slot the record is the given one; elsewhere it is the words', whose id `id_at` gives.
+-- The given record stands in its own slot, every other slot as it is.
 use mathlib.Core.Path.{_∙_, ap, sym}
 use Rattle.store.specs.Zones.{idOf}
 use Rattle.holds.proofs.Placed.{placed-here, placed-other}
@@ -11,6 +11,11 @@ unfolding idOf
 id-with-spec =
     tie.close
     (tie.spec
-    (λ c. rw (placed-here (c .before .before .args .d .now) (c .before .before .args .slot) (c .before .before .args .zone) (c .before .before .args .i) (c .before .before .pre) (c .before .if1 .taken)))
+    (λ c.
+    let at-args = c .before .before .args in
+    let at-pre = c .before .before .pre in
+    rw (placed-here (at-args .d .now) (at-args .slot) (at-args .zone) (at-args .i) (at-pre) (c .before .if1 .taken)))
     (λ c κs. search needs)
-    (λ c. c .id-at .ensures ∙ ap idOf (sym (placed-other (c .before .before .args .d .now) (c .before .before .args .slot) (c .before .before .args .zone) (c .before .before .args .i) (c .before .if1 .left)))))
+    (λ c.
+    let at-args = c .before .before .args in
+    c .id-at .ensures ∙ ap idOf (sym (placed-other (at-args .d .now) (at-args .slot) (at-args .zone) (at-args .i) (c .before .if1 .left)))))

@@ -1,4 +1,4 @@
--- A zone is up where it is joined and its link is: `id_at` and `up_at` give the two.
+-- A free slot has no link.
 use mathlib.Core.Path.{sym, _∙_}
 use borrow.Author.Tests.{eq-eqb, ne-eqb}
 use Rattle.store.specs.Zones.{isJoined, isUp}
@@ -11,4 +11,6 @@ is-up-spec =
     tie.close
     (tie.spec
     (λ c κs. tt) (λ c. rw (eq-eqb _ _ (sym (c .before .id-at .ensures) ∙ c .if1 .taken)))
-    (λ c κs. tt) (λ c. rw (ne-eqb _ _ (λ e. c .before .if1 .left (c .before .before .id-at .ensures ∙ e))) (c .up-at .ensures)))
+    (λ c κs. tt) (λ c.
+    let at-id-at = c .before .before .id-at in
+    rw (ne-eqb _ _ (λ e. c .before .if1 .left (at-id-at .ensures ∙ e))) (c .up-at .ensures)))

@@ -1,4 +1,4 @@
--- The freed slot is not up, and any other is as `is_up` says.
+-- The slot that is freed has no link, the others are as they were.
 use lib.Seq.{getD-set-other}
 use Rattle.store.specs.Zones.{idOf, isJoined, isUp}
 use Rattle.holds.proofs.Since.{freed}

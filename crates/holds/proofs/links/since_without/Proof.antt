@@ -1,4 +1,4 @@
--- Only where this link was up and no other is does the second move: `is_up` and `any_up_without` say so.
+-- The second moves only where the last link that is up goes.
 use Rattle.holds.proofs.Since.{since-free}
 use Rattle.store.proofs.Tests.{via}
 use Rattle.holds.proofs.links.since_without.Statement.{statement}
@@ -9,7 +9,16 @@ since-without-spec =
     tie.close
     (tie.spec
     (λ c κs. tt) (λ c κs. tt) (λ c κs. tt)
-    (λ c. rw (since-free, via (c .before .before .before .before .is-up .ensures) (c .before .before .before .if1 .taken), via (c .before .before .any-up-without .ensures) (c .before .if2 .taken)) (c .since .ensures))
-    (λ c. rw (since-free, via (c .before .before .before .is-up .ensures) (c .before .before .if1 .taken), via (c .before .any-up-without .ensures) (c .if2 .left)))
+    (λ c.
+    let at-any-up-without = c .before .before .any-up-without in
+    let at-if1 = c .before .before .before .if1 in
+    let at-is-up = c .before .before .before .before .is-up in
+    rw (since-free, via (at-is-up .ensures) (at-if1 .taken), via (at-any-up-without .ensures) (c .before .if2 .taken)) (c .since .ensures))
+    (λ c.
+    let at-if1 = c .before .before .if1 in
+    let at-is-up = c .before .before .before .is-up in
+    rw (since-free, via (at-is-up .ensures) (at-if1 .taken), via (c .before .any-up-without .ensures) (c .if2 .left)))
     (λ c κs. tt)
-    (λ c. rw (since-free, via (c .before .before .is-up .ensures) (c .before .if1 .left)) (c .since2 .ensures)))
+    (λ c.
+    let at-is-up = c .before .before .is-up in
+    rw (since-free, via (at-is-up .ensures) (c .before .if1 .left)) (c .since2 .ensures)))

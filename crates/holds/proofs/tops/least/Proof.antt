@@ -1,4 +1,4 @@
--- The comparison is the definition's.
+-- The smaller of two, by one test.
 use borrow.Author.Tests.{lt-ltb, le-ltb}
 use Rattle.holds.specs.Pass.{lesser}
 use Rattle.holds.proofs.tops.least.Statement.{statement}

@@ -1,4 +1,4 @@
--- g stands for the winning claims and the nearest end of the zones before i; a turn adds zone i.
+-- Each turn meets one slot: the winners among the slots so far.
 use Prim.Native.Nat.{_-_, _≤_}
 use native.Mathlib.Omega.{arith}
 use borrow.Author.Needs.{needs}
@@ -19,7 +19,20 @@ pub tops-spec : {M : Type 1} → statement M
 tops-spec =
     tie.close
     (tie.spec
-    Inv-loop μ-loop (λ c κs. search needs) (λ c. (omega arith, pass-none (c .before .args .t) (zonesOf (c .before .args .d .now)) _ (c .none-met .ensures .0) (c .none-met .ensures .1)))
+    Inv-loop μ-loop (λ c κs. search needs) (λ c. (
+      omega arith,
+      pass-none (c .before .args .t) (zonesOf (c .before .args .d .now)) _
+          (c .none-met .ensures .0) (c .none-met .ensures .1),
+    ))
     (λ c κs. search needs) (λ c κs. search needs) (λ c. omega arith) (λ c. omega arith)
-    (λ c. (omega arith, pass-turn (c .before .before .before .before .before .args .t) (zonesOf (c .before .before .before .before .before .args .d .now)) (c .before .before .before .loop .i) _ _ _ (omega (arith, zones-length (c .before .before .before .before .before .args .d .now))) (c .before .zone-at .ensures) (c .before .before .before .loop .inv .1) (c .with-zone .ensures .0) (c .with-zone .ensures .1)))
-    (λ c. pass-end (c .before .before .before .args .t) (zonesOf (c .before .before .before .args .d .now)) (c .before .loop .i) _ (omega (arith, zones-length (c .before .before .before .args .d .now))) (c .before .loop .inv .1)))
+    (λ c.
+    let at-loop = c .before .before .before .loop in
+    let at-args = c .before .before .before .before .before .args in (
+      omega arith,
+      pass-turn (at-args .t) (zonesOf (at-args .d .now)) (at-loop .i) _ _ _ (omega (arith, zones-length (at-args .d .now)))
+          (c .before .zone-at .ensures) (at-loop .inv .1) (c .with-zone .ensures .0) (c .with-zone .ensures .1),
+    ))
+    (λ c.
+    let at-args = c .before .before .before .args in
+    pass-end (at-args .t) (zonesOf (at-args .d .now)) (c .before .loop .i) _ (omega (arith, zones-length (at-args .d .now)))
+    (c .before .loop .inv .1)))

@@ -1,4 +1,4 @@
--- As `tops`, over the zones with the given record in its slot's place.
+-- Each turn meets one slot, the given record in its place: the winners among the slots so far.
 use Prim.Native.Nat.{_-_, _≤_}
 use mathlib.Core.Path.{refl}
 use native.Mathlib.Omega.{arith}
@@ -22,7 +22,21 @@ tops-with-spec =
     tie.close
     (tie.spec
     Inv-loop μ-loop (λ c κs. search needs)
-    (λ c. (omega arith, pass-none (c .before .args .t) (set (zonesOf (c .before .args .d .now)) (c .before .args .slot) (c .before .args .zone)) _ (c .none-met .ensures .0) (c .none-met .ensures .1)))
+    (λ c. (
+      omega arith,
+      pass-none (c .before .args .t) (set (zonesOf (c .before .args .d .now)) (c .before .args .slot) (c .before .args .zone)) _
+          (c .none-met .ensures .0) (c .none-met .ensures .1),
+    ))
     (λ c κs. omega arith) (λ c. omega arith) (λ c. omega arith)
-    (λ c. (omega arith, pass-turn (c .before .before .before .before .args .t) (set (zonesOf (c .before .before .before .before .args .d .now)) (c .before .before .before .before .args .slot) (c .before .before .before .before .args .zone)) (c .before .before .loop .i) _ _ _ (omega (arith, placed-length (c .before .before .before .before .args .d .now) (c .before .before .before .before .args .slot) (c .before .before .before .before .args .zone))) refl (c .before .before .loop .inv .1) (c .with-slot .ensures .0) (c .with-slot .ensures .1)))
-    (λ c. pass-end (c .before .before .before .args .t) (set (zonesOf (c .before .before .before .args .d .now)) (c .before .before .before .args .slot) (c .before .before .before .args .zone)) (c .before .loop .i) _ (omega (arith, placed-length (c .before .before .before .args .d .now) (c .before .before .before .args .slot) (c .before .before .before .args .zone))) (c .before .loop .inv .1)))
+    (λ c.
+    let at-loop = c .before .before .loop in
+    let at-args = c .before .before .before .before .args in (
+      omega arith,
+      pass-turn (at-args .t) (set (zonesOf (at-args .d .now)) (at-args .slot) (at-args .zone)) (at-loop .i) _ _ _
+          (omega (arith, placed-length (at-args .d .now) (at-args .slot) (at-args .zone))) refl (at-loop .inv .1) (c .with-slot .ensures .0)
+          (c .with-slot .ensures .1),
+    ))
+    (λ c.
+    let at-args = c .before .before .before .args in
+    pass-end (at-args .t) (set (zonesOf (at-args .d .now)) (at-args .slot) (at-args .zone)) (c .before .loop .i) _
+    (omega (arith, placed-length (at-args .d .now) (at-args .slot) (at-args .zone))) (c .before .loop .inv .1)))

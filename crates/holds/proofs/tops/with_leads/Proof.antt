@@ -2,7 +2,6 @@
 use Prim.Native.Nat.{_-_, _<_, _≤_}
 use mathlib.Core.Path.{_≡_, refl}
 use native.Mathlib.Omega.{arith}
-use borrow.Author.Needs.{needs}
 use Rattle.store.specs.Sizes.{most}
 use Rattle.store.specs.Zones.{heldOf}
 use Rattle.holds.specs.Holds.{leads}
@@ -17,38 +16,19 @@ Inv-loop t zone held g₀ k₀ g k = (k ≤ leads) × (g ≡ leadsWith t zone k 
 abbrev μ-loop : tie.MeasureT-loop
 μ-loop t zone held g₀ k₀ g k = leads - k
 
-loop-holds : tie.Need-loop-holds Inv-loop μ-loop
-unfolding turns
-loop-holds c = (omega arith, refl, λ h. absurd (omega arith))
-
-add-h : tie.Need-add-h Inv-loop μ-loop
-add-h c = omega arith
-
-mul-h : tie.Need-mul-h Inv-loop μ-loop
-mul-h c = omega arith
-
-array-copy-out-h : tie.Need-array-copy-out-h Inv-loop μ-loop
-array-copy-out-h c = omega arith
-
-lead-with-requires : tie.Need-lead-with-requires Inv-loop μ-loop
-lead-with-requires c κs = omega arith
-
-add-k : tie.Need-add-k Inv-loop μ-loop
-add-k c = omega arith
-
-loop-less : tie.Need-loop-less Inv-loop μ-loop
-loop-less c = omega arith
-
-loop-again : tie.Need-loop-again Inv-loop μ-loop
-unfolding heldOf
-loop-again c = (
-  omega arith,
-  leads-turn (c .before .before .before .before .before .args .t) (c .before .before .before .before .before .args .zone) (c .before .before .before .loop .k) (c .before .before .before .before .before .args .start) (c .before .before .before .loop .g) (c .lead-with .result) _ (c .before .before .before .loop .inv .1) refl (c .lead-with .ensures .0),
-  λ h. c .lead-with .ensures .1,
-)
-
-returns : tie.Need-returns Inv-loop μ-loop
-returns c = let e : c .before .loop .k ≡ leads = omega arith in (rw e at (c .before .loop .inv .1), c .before .loop .inv .2 (omega arith))
-
 pub with-leads-spec : {M : Type 1} → statement M
-with-leads-spec = tie.close (tie.spec Inv-loop μ-loop loop-holds add-h mul-h array-copy-out-h lead-with-requires add-k loop-less loop-again returns)
+unfolding turns heldOf
+with-leads-spec =
+    tie.close
+    (tie.spec
+    Inv-loop μ-loop (λ c. (omega arith, refl, λ h. absurd (omega arith))) (λ c. omega arith)
+    (λ c. omega arith) (λ c. omega arith) (λ c κs. omega arith) (λ c. omega arith) (λ c. omega arith)
+    (λ c.
+    let at-loop = c .before .before .before .loop in
+    let at-args = c .before .before .before .before .before .args in (
+      omega arith,
+      leads-turn (at-args .t) (at-args .zone) (at-loop .k) (at-args .start) (at-loop .g) (c .lead-with .result) _ (at-loop .inv .1) refl
+          (c .lead-with .ensures .0),
+      λ h. c .lead-with .ensures .1,
+    ))
+    (λ c. let e : c .before .loop .k ≡ leads = omega arith in (rw e at (c .before .loop .inv .1), c .before .loop .inv .2 (omega arith))))

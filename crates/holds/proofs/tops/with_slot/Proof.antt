@@ -1,4 +1,4 @@
--- At its slot the zone is the given one; elsewhere it is `zone_at`'s, and `with_zone` adds either.
+-- The given record stands in its own slot, every other slot as it is.
 use Rattle.holds.proofs.Placed.{placed-here, placed-other}
 use borrow.Author.Needs.{needs}
 use Rattle.holds.proofs.tops.with_slot.Statement.{statement}
@@ -9,6 +9,13 @@ with-slot-spec =
     tie.close
     (tie.spec
     (λ c κs. search needs)
-    (λ c. rw (placed-here (c .before .before .args .d .now) (c .before .before .args .slot) (c .before .before .args .zone) (c .before .before .args .i) (c .before .before .pre) (c .before .if1 .taken)) (c .with-zone .ensures))
+    (λ c.
+    let at-args = c .before .before .args in
+    let at-pre = c .before .before .pre in
+    rw (placed-here (at-args .d .now) (at-args .slot) (at-args .zone) (at-args .i) (at-pre) (c .before .if1 .taken)) (c .with-zone .ensures))
     (λ c κs. search needs) (λ c κs. search needs)
-    (λ c. rw (placed-other (c .before .before .before .args .d .now) (c .before .before .before .args .slot) (c .before .before .before .args .zone) (c .before .before .before .args .i) (c .before .before .if1 .left), ← c .before .zone-at .ensures) (c .with-zone2 .ensures)))
+    (λ c.
+    let at-if1 = c .before .before .if1 in
+    let at-args = c .before .before .before .args in
+    rw (placed-other (at-args .d .now) (at-args .slot) (at-args .zone) (at-args .i) (at-if1 .left), ← c .before .zone-at .ensures)
+    (c .with-zone2 .ensures)))

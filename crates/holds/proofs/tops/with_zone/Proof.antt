@@ -13,9 +13,16 @@ unfolding isJoined idOf
 with-zone-spec =
     tie.close
     (tie.spec
-    (λ c. let free : isJoined (c .before .before .args .zone) ≡ false = rw (eq-eqb _ _ (c .if1 .taken)) in (free-adds _ _ _ free, free-ends _ _ (c .before .before .args .g) free))
+    (λ c.
+    let at-args = c .before .before .args in
+    let free : isJoined (at-args .zone) ≡ false = rw (eq-eqb _ _ (c .if1 .taken)) in (free-adds _ _ _ free, free-ends _ _ (at-args .g) free))
     (λ c κs. search needs) (λ c κs. search needs)
     (λ c.
-    let taken : isJoined (c .before .before .before .before .args .zone) ≡ true = rw (ne-eqb _ _ (c .before .before .if1 .left)) in
-    rw (c .with-leads .ensures .0, c .before .with-lows .ensures .0)
-    (zone-adds (c .before .before .before .before .args .t) (c .before .before .before .before .args .zone) (c .before .before .before .before .args .g) taken (c .before .with-lows .ensures .1) (c .with-leads .ensures .1), zone-ends (c .before .before .before .before .args .t) (c .before .before .before .before .args .zone) (c .before .before .before .before .args .g) taken)))
+    let at-if1 = c .before .before .if1 in
+    let at-args = c .before .before .before .before .args in
+    let taken : isJoined (at-args .zone) ≡ true = rw (ne-eqb _ _ (at-if1 .left)) in
+    rw (c .with-leads .ensures .0, c .before .with-lows .ensures .0) (
+      zone-adds (at-args .t) (at-args .zone) (at-args .g) taken (c .before .with-lows .ensures .1) (c .with-leads .ensures .1),
+      zone-ends (at-args .t)
+          (at-args .zone) (at-args .g) taken,
+    )))

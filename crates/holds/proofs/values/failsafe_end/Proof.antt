@@ -1,4 +1,4 @@
--- The sum is made only where it is below END; any larger one is not nearer than END.
+-- A sum that could pass the end of time is not taken.
 use native.Mathlib.Omega.{arith}
 use borrow.Author.Needs.{needs}
 use Rattle.holds.proofs.Ends.{nearer-far}

@@ -1,4 +1,4 @@
--- Before `since` it holds for sure; from then on t - since < duration says the same as t < since + duration.
+-- Below since + duration, tested by a difference.
 use Prim.Native.Nat.{_+_}
 use native.Mathlib.Omega.{arith}
 use borrow.Author.Tests.{lt-ltb}

@@ -1,4 +1,4 @@
--- The two comparisons are the definition's.
+-- An end past now and before the nearest so far is the nearest.
 use borrow.Author.Tests.{lt-ltb, le-ltb}
 use Rattle.holds.specs.Dues.{nearer}
 use Rattle.holds.proofs.values.nearer.Statement.{statement}

@@ -1,4 +1,4 @@
--- Only joined zones have a failsafe that ends; `failsafe_end` gives its second.
+-- With no zone up only the end of the failsafe is due.
 use borrow.Author.Needs.{needs}
 use Rattle.holds.proofs.values.next_down.Statement.{statement}
 use Rattle.holds.proofs.values.next_down.Tie as tie
@@ -8,5 +8,8 @@ next-down-spec =
     tie.close
     (tie.spec
     (λ c κs. search needs) (λ c κs. search needs) (λ c κs. search needs)
-    (λ c. rw (c .before .before .before .if1 .taken, ← c .before .before .since .ensures, ← c .before .settings-at .ensures) (c .failsafe-end .ensures))
+    (λ c.
+    let at-since = c .before .before .since in
+    let at-if1 = c .before .before .before .if1 in
+    rw (at-if1 .taken, ← at-since .ensures, ← c .before .settings-at .ensures) (c .failsafe-end .ensures))
     (λ c. search needs))

@@ -1,4 +1,4 @@
--- Each case is that of the definition; a value below VALUE_END fits, so the cast keeps it.
+-- A number past the largest value shows as absent.
 use borrow.Author.Tests.{lt-ltb, le-ltb}
 use Rattle.holds.specs.Holds.{shown}
 use borrow.Author.Needs.{needs}
@@ -11,5 +11,9 @@ shown-spec =
     tie.close
     (tie.spec
     (λ c. search needs) (λ c. search needs) (λ c. search needs) (λ c. rw (c .enum-told .given .1))
-    (λ c. rw (c .before .before .a .given .1, lt-ltb _ _ (c .if1 .taken)))
-    (λ c. rw (c .before .before .a .given .1, le-ltb _ _ (c .if1 .left))))
+    (λ c.
+    let at-a = c .before .before .a in
+    rw (at-a .given .1, lt-ltb _ _ (c .if1 .taken)))
+    (λ c.
+    let at-a = c .before .before .a in
+    rw (at-a .given .1, le-ltb _ _ (c .if1 .left))))

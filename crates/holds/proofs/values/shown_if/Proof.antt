@@ -1,4 +1,4 @@
--- `supports` decides, and `shown` gives the number, as in `shownIf`.
+-- An unsupported direction shows nothing.
 use mathlib.Core.Path.{_∙_}
 use mir.Facts.{toZ-ofZ}
 use mir.Val.{SFits}
@@ -15,5 +15,8 @@ shown-if-spec =
     tie.close
     (tie.spec
     (λ c κs. search needs) (λ c κs. search needs)
-    (λ c. let fits : SFits w64 (c .shown .result) = search needs in rw (via (c .before .before .supports .ensures) (c .before .if1 .taken)) (toZ-ofZ fits ∙ c .shown .ensures))
+    (λ c.
+    let at-supports = c .before .before .supports in
+    let fits : SFits w64 (c .shown .result) = search needs in
+    rw (via (at-supports .ensures) (c .before .if1 .taken)) (toZ-ofZ fits ∙ c .shown .ensures))
     (λ c. rw (via (c .before .supports .ensures) (c .if1 .left))))

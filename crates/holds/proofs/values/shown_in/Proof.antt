@@ -7,17 +7,12 @@ use Rattle.holds.specs.Pass.{shownIn}
 use Rattle.holds.proofs.values.shown_in.Statement.{statement}
 use Rattle.holds.proofs.values.shown_in.Tie as tie
 
-number-of-requires : tie.Need-number-of-requires
-number-of-requires c κs = search needs
-
-shown-if-requires : tie.Need-shown-if-requires
-shown-if-requires c κs = search needs
-
-returns : tie.Need-returns
-unfolding shownIn
-returns c =
-    let f : SFits w64 (c .shown-if .result) = search needs in
-    rw (toZ-ofZ f, c .shown-if .ensures, c .before .number-of .ensures)
-
 pub shown-in-spec : {M : Type 1} → statement M
-shown-in-spec = tie.close (tie.spec number-of-requires shown-if-requires returns)
+unfolding shownIn
+shown-in-spec =
+    tie.close
+    (tie.spec
+    (λ c κs. search needs) (λ c κs. search needs)
+    (λ c.
+    let f : SFits w64 (c .shown-if .result) = search needs in
+    rw (toZ-ofZ f, c .shown-if .ensures, c .before .number-of .ensures)))

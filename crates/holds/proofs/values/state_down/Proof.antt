@@ -1,4 +1,4 @@
--- The comparison is the definition's.
+-- With no zone up only the override is asked.
 use borrow.Author.Tests.{eq-eqb, ne-eqb}
 use Rattle.holds.specs.Pass.{stateDown}
 use Rattle.holds.proofs.values.state_down.Statement.{statement}

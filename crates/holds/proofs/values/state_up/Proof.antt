@@ -1,4 +1,4 @@
--- Override before limited before controlled, as in `stateUp`; a limit is shown where it is not negative.
+-- The override first, then each limit shown: a number at least 0 is present.
 use mir.Facts.{toZ-ofZ}
 use borrow.Author.Tests.{eq-eqb, ne-eqb}
 use Rattle.holds.specs.Pass.{stateUp}
@@ -13,6 +13,27 @@ state-up-spec =
     tie.close
     (tie.spec
     (λ c. rw (ne-eqb _ _ (c .if1 .taken)))
-    (λ c. rw (eq-eqb _ _ (c .before .if1 .left), via (is-natural (c .before .before .args .a)) (rw (toZ-ofZ (c .before .before .fits .a)) at (c .if2 .taken))))
-    (λ c. rw (eq-eqb _ _ (c .before .before .if1 .left), via (is-natural (c .before .before .before .args .a)) (rw (toZ-ofZ (c .before .before .before .fits .a)) at (c .before .if2 .left)), via (is-natural (c .before .before .before .args .b)) (rw (toZ-ofZ (c .before .before .before .fits .b)) at (c .if3 .taken))))
-    (λ c. rw (eq-eqb _ _ (c .before .before .if1 .left), via (is-natural (c .before .before .before .args .a)) (rw (toZ-ofZ (c .before .before .before .fits .a)) at (c .before .if2 .left)), via (is-natural (c .before .before .before .args .b)) (rw (toZ-ofZ (c .before .before .before .fits .b)) at (c .if3 .left)))))
+    (λ c.
+    let at-args = c .before .before .args in
+    let at-fits = c .before .before .fits in
+    rw (eq-eqb _ _ (c .before .if1 .left), via (is-natural (at-args .a)) (rw (toZ-ofZ (at-fits .a)) at (c .if2 .taken))))
+    (λ c.
+    let at-if1 = c .before .before .if1 in
+    let at-args = c .before .before .before .args in
+    let at-fits = c .before .before .before .fits in
+    rw (
+      eq-eqb _ _ (at-if1 .left),
+      via (is-natural (at-args .a)) (rw (toZ-ofZ (at-fits .a)) at (c .before .if2 .left)),
+      via (is-natural (at-args .b))
+          (rw (toZ-ofZ (at-fits .b)) at (c .if3 .taken)),
+    ))
+    (λ c.
+    let at-if1 = c .before .before .if1 in
+    let at-args = c .before .before .before .args in
+    let at-fits = c .before .before .before .fits in
+    rw (
+      eq-eqb _ _ (at-if1 .left),
+      via (is-natural (at-args .a)) (rw (toZ-ofZ (at-fits .a)) at (c .before .if2 .left)),
+      via (is-natural (at-args .b))
+          (rw (toZ-ofZ (at-fits .b)) at (c .if3 .left)),
+    )))

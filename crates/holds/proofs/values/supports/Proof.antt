@@ -1,4 +1,4 @@
--- The tests are the definition's: 2 is both directions, and there are no others than 0 and 1.
+-- The tests are those of the definition, in its order.
 use borrow.Author.Tests.{lt-ltb, le-ltb, eq-eqb, ne-eqb}
 use Rattle.holds.specs.Holds.{supports}
 use Rattle.holds.proofs.values.supports.Statement.{statement}

@@ -1,4 +1,4 @@
--- `link_row` says the row of the table: `values_up` of the winners that `tops` finds, or `values_down`.
+-- The row of the table of links says which of its rows is shown.
 use mathlib.Core.Bool.{false}
 use mathlib.Core.Path.{_≡_, _∙_}
 use borrow.Author.Needs.{needs}
@@ -15,8 +15,17 @@ values-at-spec =
     tie.close
     (tie.spec
     (λ c κs. search needs) (λ c κs. search needs) (λ c κs. search needs)
-    (λ c. c .values-up .ensures ∙ values-up (situationOf (c .before .before .before .before .args .d .now)) (c .before .before .before .before .args .t) (up-of (situationOf (c .before .before .before .before .args .d .now)) (via (c .before .before .before .link-row .ensures) (c .before .before .if1 .taken))) _ (c .before .tops .ensures .0))
+    (λ c.
+    let at-if1 = c .before .before .if1 in
+    let at-link-row = c .before .before .before .link-row in
+    let at-args = c .before .before .before .before .args in
+    c .values-up .ensures ∙ values-up (situationOf (at-args .d .now)) (at-args .t)
+    (up-of (situationOf (at-args .d .now)) (via (at-link-row .ensures) (at-if1 .taken))) _ (c .before .tops .ensures .0))
     (λ c κs. search needs)
     (λ c.
-    let down : anyUp (zonesOf (c .before .before .before .args .d .now)) ≡ false = down-of (situationOf (c .before .before .before .args .d .now)) (rw (← c .before .before .link-row .ensures) (c .before .if1 .left)) in
-    c .values-down .ensures ∙ rw (c .before .before .link-row .ensures, joined-of (situationOf (c .before .before .before .args .d .now)) down) (values-down (situationOf (c .before .before .before .args .d .now)) (c .before .before .before .args .t) down)))
+    let at-link-row = c .before .before .link-row in
+    let at-args = c .before .before .before .args in
+    let down : anyUp (zonesOf (at-args .d .now)) ≡ false = down-of (situationOf (at-args .d .now))
+    (rw (← at-link-row .ensures) (c .before .if1 .left)) in
+    c .values-down .ensures ∙ rw (at-link-row .ensures, joined-of (situationOf (at-args .d .now)) down)
+    (values-down (situationOf (at-args .d .now)) (at-args .t) down)))

@@ -1,4 +1,4 @@
--- The failsafe limits stand while a zone is joined and the failsafe holds; else there is only the control state.
+-- The failsafe limits are shown while it holds; past its end, or with no zone joined, nothing is.
 use Prim.Native.Nat.{_+_}
 use mathlib.Core.Bool.{false, _&&_}
 use mathlib.Core.Logic.{⊎-elim}
@@ -22,12 +22,32 @@ values-down-spec =
     (λ c κs. search needs) (λ c κs. search needs) (λ c κs. search needs) (λ c. search needs) (λ c κs. search needs)
     (λ c. search needs) (λ c κs. search needs)
     (λ c.
-    let a : SFits w64 (c .before .before .shown-if .result) = search needs in
+    let at-shown-if = c .before .before .shown-if in
+    let at-if2 = c .before .before .before .before .if2 in
+    let at-failsafe-holds = c .before .before .before .before .before .failsafe-holds in
+    let at-since = c .before .before .before .before .before .before .since in
+    let at-if1 = c .before .before .before .before .before .before .before .if1 in
+    let at-settings-at = c .before .before .before .before .before .before .before .before .settings-at in
+    let a : SFits w64 (at-shown-if .result) = search needs in
     let b : SFits w64 (c .shown-if2 .result) = search needs in
-    rw (toZ-ofZ a, toZ-ofZ b, c .before .before .shown-if .ensures, c .shown-if2 .ensures, c .before .before .before .before .before .before .before .if1 .taken, ← c .before .before .before .before .before .before .since .ensures, ← c .before .before .before .before .before .before .before .before .settings-at .ensures, via (c .before .before .before .before .before .failsafe-holds .ensures) (c .before .before .before .before .if2 .taken)))
+    rw (
+      toZ-ofZ a,
+      toZ-ofZ b,
+      at-shown-if .ensures,
+      c .shown-if2 .ensures,
+      at-if1 .taken,
+      ← at-since .ensures,
+      ← at-settings-at .ensures,
+      via
+          (at-failsafe-holds .ensures) (at-if2 .taken),
+    ))
     (λ c κs. search needs) (λ c κs. search needs)
     (λ c.
+    let at-if1 = c .before .before .if1 in
+    let at-settings-at = c .before .before .before .settings-at in
+    let at-args = c .before .before .before .before .args in
     let state : SFits w64 (c .state-down .result) = search needs in
-    let off : (c .before .before .before .before .args .joined && ltb (c .before .before .before .before .args .t) (sinceOf (c .before .before .before .before .args .d .now) + settingsOf (c .before .before .before .before .args .d .now) .duration)) ≡ false
-    = ⊎-elim (λ w. rw (w .0 .taken, ← w .1 .ensures, ← c .before .before .before .settings-at .ensures) (via (w .2 .ensures) (w .3 .left))) (λ w. rw (w .left)) (c .before .before .if1 .came) in
+    let off : (at-args .joined && ltb (at-args .t) (sinceOf (at-args .d .now) + settingsOf (at-args .d .now) .duration)) ≡ false
+    = ⊎-elim (λ w. rw (w .0 .taken, ← w .1 .ensures, ← at-settings-at .ensures) (via (w .2 .ensures) (w .3 .left))) (λ w. rw (w .left))
+    (at-if1 .came) in
     rw (toZ-ofZ state, c .state-down .ensures, c .before .overridden .ensures, off)))

@@ -1,4 +1,4 @@
--- As `values_at`, over the situation with the given record in its slot's place.
+-- The same table, over the zones with the given record in its slot's place.
 use mathlib.Core.Bool.{false}
 use mathlib.Core.Path.{_≡_, _∙_}
 use lib.ListN.{set}
@@ -16,8 +16,22 @@ values-with-spec =
     tie.close
     (tie.spec
     (λ c κs. search needs) (λ c κs. search needs) (λ c κs. search needs)
-    (λ c. c .values-up .ensures ∙ values-up (withZone (situationOf (c .before .before .before .before .args .d .now)) (c .before .before .before .before .args .slot) (c .before .before .before .before .args .zone)) (c .before .before .before .before .args .t) (up-of (withZone (situationOf (c .before .before .before .before .args .d .now)) (c .before .before .before .before .args .slot) (c .before .before .before .before .args .zone)) (via (c .before .before .before .link-row-with .ensures) (c .before .before .if1 .taken))) _ (c .before .tops-with .ensures .0))
+    (λ c.
+    let at-if1 = c .before .before .if1 in
+    let at-link-row-with = c .before .before .before .link-row-with in
+    let at-args = c .before .before .before .before .args in
+    c .values-up .ensures ∙ values-up (withZone (situationOf (at-args .d .now)) (at-args .slot) (at-args .zone)) (at-args .t)
+    (up-of (withZone (situationOf (at-args .d .now)) (at-args .slot) (at-args .zone)) (via (at-link-row-with .ensures) (at-if1 .taken))) _
+    (c .before .tops-with .ensures .0))
     (λ c κs. search needs)
     (λ c.
-    let down : anyUp (set (zonesOf (c .before .before .before .args .d .now)) (c .before .before .before .args .slot) (c .before .before .before .args .zone)) ≡ false = down-of (withZone (situationOf (c .before .before .before .args .d .now)) (c .before .before .before .args .slot) (c .before .before .before .args .zone)) (rw (← c .before .before .link-row-with .ensures) (c .before .if1 .left)) in
-    c .values-down .ensures ∙ rw (c .before .before .link-row-with .ensures, joined-of (withZone (situationOf (c .before .before .before .args .d .now)) (c .before .before .before .args .slot) (c .before .before .before .args .zone)) down) (values-down (withZone (situationOf (c .before .before .before .args .d .now)) (c .before .before .before .args .slot) (c .before .before .before .args .zone)) (c .before .before .before .args .t) down)))
+    let at-link-row-with = c .before .before .link-row-with in
+    let at-args = c .before .before .before .args in
+    let down : anyUp (set (zonesOf (at-args .d .now)) (at-args .slot) (at-args .zone)) ≡ false = down-of
+    (withZone (situationOf (at-args .d .now)) (at-args .slot) (at-args .zone)) (rw (← at-link-row-with .ensures) (c .before .if1 .left)) in
+    c .values-down .ensures ∙ rw (
+      at-link-row-with .ensures,
+      joined-of
+          (withZone (situationOf (at-args .d .now)) (at-args .slot) (at-args .zone)) down,
+    )
+    (values-down (withZone (situationOf (at-args .d .now)) (at-args .slot) (at-args .zone)) (at-args .t) down)))

@@ -1,4 +1,4 @@
--- The values as in `values_at`; the next end is that of `tops` with a link up, and the failsafe's with none.
+-- One pass gives what is shown and the next end of it; the other rows hang on the failsafe alone.
 use mathlib.Core.Bool.{true, false}
 use mathlib.Core.Path.{_≡_}
 use borrow.Author.Needs.{needs}
@@ -16,21 +16,27 @@ view-at-spec =
     (tie.spec
     (λ c κs. search needs) (λ c κs. search needs) (λ c κs. search needs)
     (λ c.
-    let up : anyUp (zonesOf (c .before .before .before .before .args .d .now)) ≡ true = up-of (situationOf (c .before .before .before .before .args .d .now)) (via (c .before .before .before .link-row .ensures) (c .before .before .if1 .taken)) in
+    let at-if1 = c .before .before .if1 in
+    let at-link-row = c .before .before .before .link-row in
+    let at-args = c .before .before .before .before .args in
+    let up : anyUp (zonesOf (at-args .d .now)) ≡ true = up-of (situationOf (at-args .d .now)) (via (at-link-row .ensures) (at-if1 .taken)) in
     rw (
       c .values-up .ensures,
-      values-up (situationOf (c .before .before .before .before .args .d .now)) (c .before .before .before .before .args .t) up (c .before .tops .result) (c .before .tops .ensures .0),
+      values-up (situationOf (at-args .d .now)) (at-args .t) up (c .before .tops .result) (c .before .tops .ensures .0),
       c .before .tops .ensures .1,
-      due-up (situationOf (c .before .before .before .before .args .d .now)) (c .before .before .before .before .args .t) up,
+      due-up (situationOf (at-args .d .now)) (at-args .t) up,
     ))
     (λ c κs. search needs) (λ c κs. search needs)
     (λ c.
-    let down : anyUp (zonesOf (c .before .before .before .before .args .d .now)) ≡ false = down-of (situationOf (c .before .before .before .before .args .d .now)) (rw (← c .before .before .before .link-row .ensures) (c .before .before .if1 .left)) in
+    let at-if1 = c .before .before .if1 in
+    let at-link-row = c .before .before .before .link-row in
+    let at-args = c .before .before .before .before .args in
+    let down : anyUp (zonesOf (at-args .d .now)) ≡ false = down-of (situationOf (at-args .d .now)) (rw (← at-link-row .ensures) (at-if1 .left)) in
     rw (
       c .before .values-down .ensures,
       c .next-down .ensures,
-      c .before .before .before .link-row .ensures,
-      joined-of (situationOf (c .before .before .before .before .args .d .now)) down,
-      values-down (situationOf (c .before .before .before .before .args .d .now)) (c .before .before .before .before .args .t) down,
-      due-down (situationOf (c .before .before .before .before .args .d .now)) (c .before .before .before .before .args .t) down,
+      at-link-row .ensures,
+      joined-of (situationOf (at-args .d .now)) down,
+      values-down (situationOf (at-args .d .now)) (at-args .t) down,
+      due-down (situationOf (at-args .d .now)) (at-args .t) down,
     )))

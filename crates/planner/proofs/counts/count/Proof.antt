@@ -15,35 +15,37 @@ Inv-loop d t n₀ v₀ n v = Counting d t n v
 abbrev μ-loop : tie.MeasureT-loop
 μ-loop d t n₀ v₀ n v = end - v .next
 
-view-at-requires : tie.Need-view-at-requires Inv-loop μ-loop
-view-at-requires c κs = search needs
-
-loop-holds : tie.Need-loop-holds Inv-loop μ-loop
-loop-holds c = counting-start (c .before .args .d .now) (c .before .args .t) (c .view-at .ensures)
-
-view-at-requires-2 : tie.Need-view-at-requires-2 Inv-loop μ-loop
-view-at-requires-2 c κs = search needs
-
-alike-requires : tie.Need-alike-requires Inv-loop μ-loop
-alike-requires c κs = search needs
-
-add-n : tie.Need-add-n Inv-loop μ-loop
-add-n c = omega (arith, counting-room (c .before .before .before .before .before .before .before .loop .inv) (c .before .before .before .view-at2 .ensures) (omega arith) (via (c .before .alike .ensures) (not-true _ (c .if2 .taken))) .1)
-
-loop-less : tie.Need-loop-less Inv-loop μ-loop
-loop-less c = omega (arith, counting-later (c .before .before .before .before .before .before .before .loop .inv) (c .before .before .before .view-at2 .ensures) (omega arith))
-
-loop-again : tie.Need-loop-again Inv-loop μ-loop
-loop-again c = counting-new (c .before .before .before .before .before .before .before .loop .inv) (c .before .before .before .view-at2 .ensures) (omega arith) (via (c .before .alike .ensures) (not-true _ (c .if2 .taken)))
-
-loop-less-2 : tie.Need-loop-less-2 Inv-loop μ-loop
-loop-less-2 c = omega (arith, counting-later (c .before .before .before .before .before .before .before .loop .inv) (c .before .before .before .view-at2 .ensures) (omega arith))
-
-loop-again-2 : tie.Need-loop-again-2 Inv-loop μ-loop
-loop-again-2 c = counting-same (c .before .before .before .before .before .before .before .loop .inv) (c .before .before .before .view-at2 .ensures) (omega arith) (via (c .before .alike .ensures) (not-false _ (c .if2 .left)))
-
-returns : tie.Need-returns Inv-loop μ-loop
-returns c = counting-end (c .before .before .loop .inv) (omega arith)
-
 pub count-spec : {M : Type 1} → statement M
-count-spec = tie.close (tie.spec Inv-loop μ-loop view-at-requires loop-holds view-at-requires-2 alike-requires add-n loop-less loop-again loop-less-2 loop-again-2 returns)
+count-spec =
+    tie.close
+    (tie.spec
+    Inv-loop μ-loop (λ c κs. search needs)
+    (λ c. counting-start (c .before .args .d .now) (c .before .args .t) (c .view-at .ensures))
+    (λ c κs. search needs) (λ c κs. search needs)
+    (λ c.
+    let at-view-at2 = c .before .before .before .view-at2 in
+    let at-loop = c .before .before .before .before .before .before .before .loop in
+    omega (
+      arith,
+      counting-room (at-loop .inv) (at-view-at2 .ensures) (omega arith)
+          (via (c .before .alike .ensures) (not-true _ (c .if2 .taken))) .1,
+    ))
+    (λ c.
+    let at-view-at2 = c .before .before .before .view-at2 in
+    let at-loop = c .before .before .before .before .before .before .before .loop in
+    omega (arith, counting-later (at-loop .inv) (at-view-at2 .ensures) (omega arith)))
+    (λ c.
+    let at-view-at2 = c .before .before .before .view-at2 in
+    let at-loop = c .before .before .before .before .before .before .before .loop in
+    counting-new (at-loop .inv) (at-view-at2 .ensures) (omega arith) (via (c .before .alike .ensures) (not-true _ (c .if2 .taken))))
+    (λ c.
+    let at-view-at2 = c .before .before .before .view-at2 in
+    let at-loop = c .before .before .before .before .before .before .before .loop in
+    omega (arith, counting-later (at-loop .inv) (at-view-at2 .ensures) (omega arith)))
+    (λ c.
+    let at-view-at2 = c .before .before .before .view-at2 in
+    let at-loop = c .before .before .before .before .before .before .before .loop in
+    counting-same (at-loop .inv) (at-view-at2 .ensures) (omega arith) (via (c .before .alike .ensures) (not-false _ (c .if2 .left))))
+    (λ c.
+    let at-loop = c .before .before .loop in
+    counting-end (at-loop .inv) (omega arith)))

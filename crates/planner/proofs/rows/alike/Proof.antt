@@ -1,4 +1,4 @@
--- The values before i are the same, so that whether all are is decided by those from i on.
+-- Values are compared one after the other: the first that differs decides.
 use Prim.Native.Nat.{_+_, _≤_, _-_}
 use mathlib.Core.Path.{_≡_, refl, sym, _∙_}
 use native.Mathlib.Omega.{arith}
@@ -27,11 +27,21 @@ alike-spec =
     Inv-loop μ-loop (λ c. (omega arith, refl)) (λ c. search needs) (λ c. search needs) (λ c. search needs)
     (λ c. search needs) (λ c κs. search needs) (λ c. search needs) (λ c. omega arith)
     (λ c.
-    let f : SFits w64 (getD (c .before .before .before .before .before .before .args .t1) (c .before .before .before .before .before .loop .i) (pos 0)) = search needs in
-    let g : SFits w64 (getD (c .before .before .before .before .before .before .args .t2) (c .before .before .before .before .before .loop .i) (pos 0)) = search needs in
-    (omega arith, alike-turn (c .before .before .before .before .before .before .args .t1) (c .before .before .before .before .before .before .args .t2) (c .before .before .before .before .before .loop .i) (c .before .before .before .before .before .loop .inv .1) (search needs) (search needs) (sym (c .if1 .taken) ∙ simp (toZ-ofZ w64 _ f, toZ-ofZ w64 _ g) at (c .before .same-number .ensures))))
+    let at-loop = c .before .before .before .before .before .loop in
+    let at-args = c .before .before .before .before .before .before .args in
+    let f : SFits w64 (getD (at-args .t1) (at-loop .i) (pos 0)) = search needs in
+    let g : SFits w64 (getD (at-args .t2) (at-loop .i) (pos 0)) = search needs in (
+      omega arith,
+      alike-turn (at-args .t1) (at-args .t2) (at-loop .i) (at-loop .inv .1) (search needs) (search needs)
+          (sym (c .if1 .taken) ∙ simp (toZ-ofZ w64 _ f, toZ-ofZ w64 _ g) at (c .before .same-number .ensures)),
+    ))
     (λ c.
-    let f : SFits w64 (getD (c .before .before .before .before .before .before .args .t1) (c .before .before .before .before .before .loop .i) (pos 0)) = search needs in
-    let g : SFits w64 (getD (c .before .before .before .before .before .before .args .t2) (c .before .before .before .before .before .loop .i) (pos 0)) = search needs in
-    alike-stop (c .before .before .before .before .before .before .args .t1) (c .before .before .before .before .before .before .args .t2) (c .before .before .before .before .before .loop .i) (c .before .before .before .before .before .loop .inv .1) (search needs) (search needs) (sym (c .if1 .left) ∙ simp (toZ-ofZ w64 _ f, toZ-ofZ w64 _ g) at (c .before .same-number .ensures)))
-    (λ c. alike-end (c .before .before .args .t1) (c .before .before .args .t2) (c .before .loop .i) (c .before .loop .inv .1) (omega arith) (omega arith)))
+    let at-loop = c .before .before .before .before .before .loop in
+    let at-args = c .before .before .before .before .before .before .args in
+    let f : SFits w64 (getD (at-args .t1) (at-loop .i) (pos 0)) = search needs in
+    let g : SFits w64 (getD (at-args .t2) (at-loop .i) (pos 0)) = search needs in
+    alike-stop (at-args .t1) (at-args .t2) (at-loop .i) (at-loop .inv .1) (search needs) (search needs)
+    (sym (c .if1 .left) ∙ simp (toZ-ofZ w64 _ f, toZ-ofZ w64 _ g) at (c .before .same-number .ensures)))
+    (λ c.
+    let at-args = c .before .before .args in
+    alike-end (at-args .t1) (at-args .t2) (c .before .loop .i) (c .before .loop .inv .1) (omega arith) (omega arith)))

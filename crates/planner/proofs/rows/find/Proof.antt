@@ -1,4 +1,4 @@
--- The rows written and those left, from the last second looked at, make the plan; each turn goes on to a later due second.
+-- Each turn looks at the next due second: what is written and what is left make the plan.
 use Prim.Native.Nat.{_-_}
 use native.Mathlib.Omega.{arith}
 use borrow.Author.Needs.{needs}
@@ -22,12 +22,54 @@ find-spec =
     Inv-loop μ-loop (λ c κs. search needs)
     (λ c. finding-start (c .before .args .d .now) (c .before .args .t) (c .before .args .out .now) (c .view-at .ensures))
     (λ c κs. search needs) (λ c κs. search needs)
-    (λ c. omega (arith, finding-room (c .before .before .before .before .before .before .before .before .loop .inv) (c .before .before .before .before .view-at2 .ensures) (omega arith) (via (c .before .before .alike .ensures) (not-true _ (c .before .if2 .taken)))))
-    (λ c κs. (omega (arith, finding-length (c .before .before .before .before .before .before .before .before .loop .inv), finding-room (c .before .before .before .before .before .before .before .before .loop .inv) (c .before .before .before .before .view-at2 .ensures) (omega arith) (via (c .before .before .alike .ensures) (not-true _ (c .before .if2 .taken)))), omega arith))
-    (λ c. omega (arith, finding-room (c .before .before .before .before .before .before .before .before .before .before .loop .inv) (c .before .before .before .before .before .before .view-at2 .ensures) (omega arith) (via (c .before .before .before .before .alike .ensures) (not-true _ (c .before .before .before .if2 .taken)))))
-    (λ c. omega (arith, counting-later (c .before .before .before .before .before .before .before .before .before .before .loop .inv .counted) (c .before .before .before .before .before .before .view-at2 .ensures) (omega arith)))
-    (λ c. finding-new (c .before .before .before .before .before .before .before .before .before .before .loop .inv) (c .before .before .before .before .before .before .view-at2 .ensures) (omega arith) (via (c .before .before .before .before .alike .ensures) (not-true _ (c .before .before .before .if2 .taken))) (c .before .put-row .ensures))
-    (λ c. omega (arith, counting-later (c .before .before .before .before .before .before .before .loop .inv .counted) (c .before .before .before .view-at2 .ensures) (omega arith)))
-    (λ c. finding-same (c .before .before .before .before .before .before .before .loop .inv) (c .before .before .before .view-at2 .ensures) (omega arith) (via (c .before .alike .ensures) (not-false _ (c .if2 .left))))
-    (λ c. finding-length (c .before .before .loop .inv))
-    (λ c. finding-end (c .before .before .loop .inv) (omega arith)))
+    (λ c.
+    let at-alike = c .before .before .alike in
+    let at-view-at2 = c .before .before .before .before .view-at2 in
+    let at-loop = c .before .before .before .before .before .before .before .before .loop in
+    omega (arith, finding-room (at-loop .inv) (at-view-at2 .ensures) (omega arith) (via (at-alike .ensures) (not-true _ (c .before .if2 .taken)))))
+    (λ c κs.
+    let at-alike = c .before .before .alike in
+    let at-view-at2 = c .before .before .before .before .view-at2 in
+    let at-loop = c .before .before .before .before .before .before .before .before .loop in (
+      omega (
+        arith,
+        finding-length (at-loop .inv),
+        finding-room (at-loop .inv) (at-view-at2 .ensures) (omega arith)
+            (via (at-alike .ensures) (not-true _ (c .before .if2 .taken))),
+      ),
+      omega arith,
+    ))
+    (λ c.
+    let at-if2 = c .before .before .before .if2 in
+    let at-alike = c .before .before .before .before .alike in
+    let at-view-at2 = c .before .before .before .before .before .before .view-at2 in
+    let back-8 = c .before .before .before .before .before .before .before .before in
+    let at-loop = back-8 .before .before .loop in
+    omega (arith, finding-room (at-loop .inv) (at-view-at2 .ensures) (omega arith) (via (at-alike .ensures) (not-true _ (at-if2 .taken)))))
+    (λ c.
+    let at-view-at2 = c .before .before .before .before .before .before .view-at2 in
+    let back-8 = c .before .before .before .before .before .before .before .before in
+    let at-loop = back-8 .before .before .loop in
+    omega (arith, counting-later (at-loop .inv .counted) (at-view-at2 .ensures) (omega arith)))
+    (λ c.
+    let at-if2 = c .before .before .before .if2 in
+    let at-alike = c .before .before .before .before .alike in
+    let at-view-at2 = c .before .before .before .before .before .before .view-at2 in
+    let back-8 = c .before .before .before .before .before .before .before .before in
+    let at-loop = back-8 .before .before .loop in
+    finding-new (at-loop .inv) (at-view-at2 .ensures) (omega arith) (via (at-alike .ensures) (not-true _ (at-if2 .taken)))
+    (c .before .put-row .ensures))
+    (λ c.
+    let at-view-at2 = c .before .before .before .view-at2 in
+    let at-loop = c .before .before .before .before .before .before .before .loop in
+    omega (arith, counting-later (at-loop .inv .counted) (at-view-at2 .ensures) (omega arith)))
+    (λ c.
+    let at-view-at2 = c .before .before .before .view-at2 in
+    let at-loop = c .before .before .before .before .before .before .before .loop in
+    finding-same (at-loop .inv) (at-view-at2 .ensures) (omega arith) (via (c .before .alike .ensures) (not-false _ (c .if2 .left))))
+    (λ c.
+    let at-loop = c .before .before .loop in
+    finding-length (at-loop .inv))
+    (λ c.
+    let at-loop = c .before .before .loop in
+    finding-end (at-loop .inv) (omega arith)))

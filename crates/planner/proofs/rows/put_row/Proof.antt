@@ -1,4 +1,4 @@
--- The second first; to store the values from i on now is to store them all behind it. The row has room, so no place is past the end.
+-- The second, then each value behind it: what is left to write leads to the whole row.
 use Prim.Native.Nat.{_+_, _≤_, _-_, _<_}
 use mathlib.Core.Path.{_≡_, refl, _∙_}
 use native.Mathlib.Omega.{arith}
@@ -17,7 +17,8 @@ use Rattle.planner.proofs.rows.put_row.Statement.{statement}
 use Rattle.planner.proofs.rows.put_row.Tie as tie
 
 abbrev Inv-loop : tie.InvT-loop
-Inv-loop out₀ at t values i₀ out i = (i ≤ 1 + helds) × (length out ≡ length out₀) × (sets out (at + 1 + i) (drop i values) ≡ sets out₀ (at + 1) values)
+Inv-loop out₀ at t values i₀ out i = (i ≤ 1 + helds) × (length out ≡ length out₀) ×
+    (sets out (at + 1 + i) (drop i values) ≡ sets out₀ (at + 1) values)
 
 abbrev μ-loop : tie.MeasureT-loop
 μ-loop out₀ at t values i₀ out i = 1 + helds - i
@@ -32,15 +33,30 @@ put-row-spec =
     (λ c. (omega arith, refl, rw add-zero))
     (λ c. search needs) (λ c. search needs) (λ c. search needs) (λ c. search needs)
     (λ c.
-    let kept : length (c .before .before .loop .out) ≡ length (c .before .before .before .args .out .now) = c .before .before .loop .inv .1 ∙ length-set (c .before .before .before .args .out .now) _ _ in
-    let low : c .before .before .before .args .at + 1 + c .before .before .loop .i < length (c .before .before .loop .out) = omega arith in
+    let at-loop = c .before .before .loop in
+    let at-args = c .before .before .before .args in
+    let kept : length (at-loop .out) ≡ length (at-args .out .now) = at-loop .inv .1 ∙ length-set (at-args .out .now) _ _ in
+    let low : at-args .at + 1 + at-loop .i < length (at-loop .out) = omega arith in
     search needs)
-    (λ c. let kept : length (c .before .before .loop .out) ≡ length (c .before .before .before .args .out .now) = c .before .before .loop .inv .1 ∙ length-set (c .before .before .before .args .out .now) _ _ in omega arith)
+    (λ c.
+    let at-loop = c .before .before .loop in
+    let at-args = c .before .before .before .args in
+    let kept : length (at-loop .out) ≡ length (at-args .out .now) = at-loop .inv .1 ∙ length-set (at-args .out .now) _ _ in omega arith)
     (λ c. omega arith) (λ c. omega arith)
     (λ c.
-    let f : SFits w64 (getD (c .before .before .before .args .t4) (c .before .before .loop .i) (pos 0)) = search needs in
-    (omega arith, length-set (c .before .before .loop .out) _ _ ∙ c .before .before .loop .inv .1, run-turn _ (c .before .before .before .args .t4) (c .before .before .before .args .at + 1) (c .before .before .loop .out) _ (c .before .before .loop .i) (pos 0) (search needs) (c .before .before .loop .inv .2) (rw (toZ-ofZ w64 _ f))))
-    (λ c. c .before .loop .inv .1 ∙ length-set (c .before .before .args .out .now) _ _)
+    let at-loop = c .before .before .loop in
+    let at-args = c .before .before .before .args in
+    let f : SFits w64 (getD (at-args .t4) (at-loop .i) (pos 0)) = search needs in (
+      omega arith,
+      length-set (at-loop .out) _ _ ∙ at-loop .inv .1,
+      run-turn _ (at-args .t4) (at-args .at + 1) (at-loop .out) _ (at-loop .i) (pos 0)
+          (search needs) (at-loop .inv .2) (rw (toZ-ofZ w64 _ f)),
+    ))
     (λ c.
-    let low : toZ w64 (c .before .before .args .t) ≡ pos (c .before .before .args .t) = toZ-pos w64 (c .before .before .args .t) (omega arith) in
-    run-end _ (c .before .before .args .t4) (c .before .before .args .at + 1) (c .before .loop .out) (c .before .loop .i) (omega arith) (c .before .loop .inv .2) ∙ rw (low, add-one)))
+    let at-args = c .before .before .args in
+    c .before .loop .inv .1 ∙ length-set (at-args .out .now) _ _)
+    (λ c.
+    let at-args = c .before .before .args in
+    let low : toZ w64 (at-args .t) ≡ pos (at-args .t) = toZ-pos w64 (at-args .t) (omega arith) in
+    run-end _ (at-args .t4) (at-args .at + 1) (c .before .loop .out) (c .before .loop .i) (omega arith) (c .before .loop .inv .2) ∙ rw
+    (low, add-one)))

@@ -1,4 +1,4 @@
--- Two words of 64 bits are equal just where the signed numbers that they stand for are.
+-- Two words are equal exactly when the numbers are.
 use Rattle.planner.proofs.Alike.{same-bits}
 use Rattle.planner.proofs.rows.same_number.Statement.{statement}
 use Rattle.planner.proofs.rows.same_number.Tie as tie
