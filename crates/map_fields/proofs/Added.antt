@@ -13,7 +13,7 @@ use Rattle.cbor.specs.Item.{Item, encode, encodePairs, countPairs}
 use Rattle.cbor.proofs.Widths.{head-length, head-short}
 use Rattle.bytes.proofs.PutLaws.{put-whole, length-put}
 use Rattle.map_fields.specs.Fields.{Fields, present}
-use Rattle.map_fields.specs.Puts.{Adds, Puts, pairBytes, fieldBytes, pairsOf, pairRoom}
+use Rattle.map_fields.specs.Puts.{Adds, Puts, pairBytes, fieldBytes, pairsOf, pairRoom, putEach, pastEach, pairPieces, PutsField}
 
 adds-none : (s : List ℕ) (p n : ℕ) → Adds s p [] n s p
 adds-none s p n = record { grows = sym (append-nil (take p s)); moved = omega arith; short = omega arith; kept = refl }
@@ -74,6 +74,21 @@ pub puts-pair : (s t u : List ℕ) (p key m v q r : ℕ) → m < 8 → (q ≡ pa
     → (r ≡ pastWhole t q (headOf m v)) × (u ≡ putWhole t q (headOf m v)) → Puts s p (pairBytes key m v) pairRoom u r
 unfolding pairBytes
 puts-pair s t u p key m v q r lt w x = puts-more (puts-head s t p 0 key q (omega arith) w) (puts-head t u q m v r lt x)
+
+pub field-pair : (s t u : List ℕ) (p key m v q r : ℕ) → m < 8 → (q ≡ pastWhole s p (headOf 0 key)) × (t ≡ putWhole s p (headOf 0 key))
+    → (r ≡ pastWhole t q (headOf m v)) × (u ≡ putWhole t q (headOf m v)) → PutsField s p (pairPieces key m v) (pairBytes key m v) u r
+unfolding putEach pastEach
+field-pair s t u p key m v q r lt w x =
+    record {
+      left = rw (← w .0, ← w .1) (x .1);
+      past = rw (← w .0, ← w .1) (x .0);
+      puts = puts-pair s t u p key m v q r lt w x;
+    }
+
+-- a field that is left out
+pub field-none : (s : List ℕ) (p : ℕ) → PutsField s p [] [] s p
+unfolding putEach pastEach
+field-none s p = record { left = refl; past = refl; puts = puts-none s p pairRoom }
 
 -- what was put at the front of a buffer that has the room
 pub puts-fit : {s t a : List ℕ} {q n : ℕ} → n ≤ length s → Puts s 0 a n t q → Adds s 0 a n t q

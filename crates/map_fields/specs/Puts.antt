@@ -1,10 +1,11 @@
 -- Bytes added one after the other behind those already written. Assumes nothing: these are definitions.
 use Prim.Native.Nat.{ℕ, _+_, _≤_}
 use mathlib.Core.Path.{_≡_}
-use mathlib.Core.List.{List, [], _++_}
+use mathlib.Core.List.{List, [], _∷_, _++_}
 use mathlib.Core.Option.{Option, some, none}
 use lib.ListN.{length, take}
-use Rattle.cbor.specs.Head.{headBytes}
+use Rattle.bytes.specs.Bytes.{putWhole, pastWhole}
+use Rattle.cbor.specs.Head.{headBytes, headOf}
 use Rattle.cbor.specs.Item.{Item, encode}
 
 -- from s, written up to p, to t, written up to q: bs was added, of at most `most` bytes
@@ -35,3 +36,27 @@ pairRoom = 18
 abbrev pub pairsOf : Option Item → ℕ
 pairsOf (some i) = 1
 pairsOf none = 0
+
+-- EXACTLY, for every room
+-- pieces one behind the other, each put where it fits whole; one that does not is passed over
+unfoldable pub putEach : List ℕ → ℕ → List (List ℕ) → List ℕ
+putEach s p [] = s
+putEach s p (b ∷ bs) = putEach (putWhole s p b) (pastWhole s p b) bs
+
+unfoldable pub pastEach : List ℕ → ℕ → List (List ℕ) → ℕ
+pastEach s p [] = p
+pastEach s p (b ∷ bs) = pastEach (putWhole s p b) (pastWhole s p b) bs
+
+-- a key and a head; a field, nothing where it is left out
+abbrev pub pairPieces : ℕ → ℕ → ℕ → List (List ℕ)
+pairPieces key major arg = headOf 0 key ∷ headOf major arg ∷ []
+
+unfoldable pub fieldPieces : ℕ → Option Item → List (List ℕ)
+fieldPieces key (some i) = headBytes 0 key ∷ encode i ∷ []
+fieldPieces key none = []
+
+-- from s, written up to p, to t, written up to q: these pieces, and with room for a pair the bytes that they are
+pub record PutsField (s : List ℕ) (p : ℕ) (pieces : List (List ℕ)) (bs : List ℕ) (t : List ℕ) (q : ℕ) : Type 0 where
+  pub left : t ≡ putEach s p pieces
+  pub past : q ≡ pastEach s p pieces
+  pub puts : Puts s p bs pairRoom t q

@@ -1,4 +1,4 @@
-// Fields of a map, each added behind what is written. Where there is no room for a pair of heads less may be written.
+// Fields of a map, each added behind what is written. A head that does not fit is passed over.
 use messages::Amount;
 use messages::Field;
 ghost use mathlib.Core.Path.{_≡_};
@@ -6,12 +6,12 @@ ghost use Prim.Native.Nat.{_<_};
 ghost use mathlib.Core.Option.{some};
 ghost use Rattle.cbor.specs.Item.{Item};
 ghost use Rattle.map_fields.specs.Fields.{truthItem, valueItem, amountItem};
-ghost use Rattle.map_fields.specs.Puts.{Puts, pairBytes, fieldBytes, pairRoom, pairsOf};
+ghost use Rattle.map_fields.specs.Puts.{PutsField, pairBytes, fieldBytes, pairPieces, fieldPieces, pairsOf};
 
 // A key, and the head of its value.
 fn put_pair(out: &mut [u8], at: usize, key: u64, major: u64, arg: u64) -> usize
     requires { ⌜ major < 8 ⌝ }
-    ensures { λ r. ⌜ Puts (now (out .entry)) at (pairBytes key major arg) pairRoom (now (out .exit)) r ⌝ }
+    ensures { λ r. ⌜ PutsField (now (out .entry)) at (pairPieces key major arg) (pairBytes key major arg) (now (out .exit)) r ⌝ }
 {
     let behind = cbor::put_head(out, at, 0, key);
     cbor::put_head(out, behind, major, arg)
@@ -19,21 +19,21 @@ fn put_pair(out: &mut [u8], at: usize, key: u64, major: u64, arg: u64) -> usize
 
 // The head of a map of n pairs, which stand behind it.
 pub fn put_map(out: &mut [u8], at: usize, key: u64, n: u64) -> usize
-    ensures { λ r. ⌜ Puts (now (out .entry)) at (pairBytes key 5 n) pairRoom (now (out .exit)) r ⌝ }
+    ensures { λ r. ⌜ PutsField (now (out .entry)) at (pairPieces key 5 n) (pairBytes key 5 n) (now (out .exit)) r ⌝ }
 {
     put_pair(out, at, key, 5, n)
 }
 
 // An unsigned number.
 pub fn put_uint(out: &mut [u8], at: usize, key: u64, v: u64) -> usize
-    ensures { λ r. ⌜ Puts (now (out .entry)) at (fieldBytes key (some (Item.uint v))) pairRoom (now (out .exit)) r ⌝ }
+    ensures { λ r. ⌜ PutsField (now (out .entry)) at (fieldPieces key (some (Item.uint v))) (fieldBytes key (some (Item.uint v))) (now (out .exit)) r ⌝ }
 {
     put_pair(out, at, key, 0, v)
 }
 
 // False or true.
 pub fn put_truth(out: &mut [u8], at: usize, key: u64, b: bool) -> usize
-    ensures { λ r. ⌜ Puts (now (out .entry)) at (fieldBytes key (some (truthItem b))) pairRoom (now (out .exit)) r ⌝ }
+    ensures { λ r. ⌜ PutsField (now (out .entry)) at (fieldPieces key (some (truthItem b))) (fieldBytes key (some (truthItem b))) (now (out .exit)) r ⌝ }
 {
     if b {
         return put_pair(out, at, key, 7, 21);
@@ -43,7 +43,7 @@ pub fn put_truth(out: &mut [u8], at: usize, key: u64, b: bool) -> usize
 
 // An unsigned number, or nothing.
 pub fn put_amount(out: &mut [u8], at: usize, key: u64, a: Amount) -> usize
-    ensures { λ r. ⌜ Puts (now (out .entry)) at (fieldBytes key (amountItem a)) pairRoom (now (out .exit)) r ⌝ }
+    ensures { λ r. ⌜ PutsField (now (out .entry)) at (fieldPieces key (amountItem a)) (fieldBytes key (amountItem a)) (now (out .exit)) r ⌝ }
 {
     match a {
         Amount::Absent => at,
@@ -53,7 +53,7 @@ pub fn put_amount(out: &mut [u8], at: usize, key: u64, a: Amount) -> usize
 
 // A signed number: n is major type 0 with n, -1 - n is major type 1 with n.
 pub fn put_value(out: &mut [u8], at: usize, key: u64, f: Field) -> usize
-    ensures { λ r. ⌜ Puts (now (out .entry)) at (fieldBytes key (valueItem f)) pairRoom (now (out .exit)) r ⌝ }
+    ensures { λ r. ⌜ PutsField (now (out .entry)) at (fieldPieces key (valueItem f)) (fieldBytes key (valueItem f)) (now (out .exit)) r ⌝ }
 {
     match f {
         Field::Absent => at,

@@ -28,7 +28,7 @@ put-command-spec =
     let at-aim-amount = c .before .before .before .aim-amount in
     let at-c2 = c .before .before .before .before .before .before .c2 in
     rw (at-c2 .given .1) (puts-wider paramsRoom (omega arith)
-    (puts-same (ap (fieldBytes 1) (at-aim-amount .ensures) ∙ sym (fields-one 1 _)) (at-put-amount .ensures))))
+    (puts-same (ap (fieldBytes 1) (at-aim-amount .ensures) ∙ sym (fields-one 1 _)) (at-put-amount .ensures .puts))))
     (λ c. search needs)
     (λ c.
     let at-put-setting2 = c .before .before .put-setting2 in
@@ -41,7 +41,7 @@ put-command-spec =
     let at-aim-amount2 = c .before .before .before .aim-amount2 in
     let at-c4 = c .before .before .before .before .before .before .c4 in
     rw (at-c4 .given .1) (puts-wider paramsRoom (omega arith)
-    (puts-same (ap (fieldBytes 1) (at-aim-amount2 .ensures) ∙ sym (fields-one 1 _)) (at-put-amount2 .ensures))))
+    (puts-same (ap (fieldBytes 1) (at-aim-amount2 .ensures) ∙ sym (fields-one 1 _)) (at-put-amount2 .ensures .puts))))
     (λ c.
     let at-args = c .before .before .before .args in
     rw (c .enum-told .given .1) (puts-same (sym fields-none) (puts-none (at-args .out .now) (at-args .at) _))))

@@ -37,5 +37,5 @@ put-request-spec =
     let at-args = back-24 .before .before .before .before .before .before .before .args in
     let a = puts-head (at-args .out .now) _ 0 5 5 _ (omega arith) (at-put-head .ensures) in
     puts-wider payloadRoom (omega arith) (puts-same (request-bytes (at-args .r) _ _ (at-wire-number .ensures) (at-count-command .ensures))
-    (puts-more (puts-more (puts-more (puts-more (puts-more (puts-more (a) (at-put-uint .ensures)) (at-put-uint2 .ensures)) (at-put-uint3 .ensures))
-    (at-put-uint4 .ensures)) (at-put-map .ensures)) (at-put-command .ensures)))))
+    (puts-more (puts-more (puts-more (puts-more (puts-more (puts-more (a) (at-put-uint .ensures .puts)) (at-put-uint2 .ensures .puts)) (at-put-uint3 .ensures .puts))
+    (at-put-uint4 .ensures .puts)) (at-put-map .ensures .puts)) (at-put-command .ensures)))))

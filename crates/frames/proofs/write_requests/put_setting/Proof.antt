@@ -20,4 +20,4 @@ put-setting-spec =
     let back-16 = back-8 .before .before .before .before .before .before .before .before in
     let at-args = back-16 .before .args in
     puts-same (setting-bytes (at-args .s)) (puts-more
-    (puts-more (puts-more (at-put-value .ensures) (at-put-value2 .ensures)) (at-put-amount .ensures)) (at-put-uint .ensures))))
+    (puts-more (puts-more (at-put-value .ensures .puts) (at-put-value2 .ensures .puts)) (at-put-amount .ensures .puts)) (at-put-uint .ensures .puts))))

@@ -66,5 +66,5 @@ put-limit-spec =
     let at-args = back-24 .before .before .before .before .args in
     puts-same (limit-bytes (at-args .l) _ (limit-count (at-args .l) _ _ _ (at-count-amount .ensures) (at-count-amount2 .ensures)
     (at-count-amount3 .ensures))) (puts-more (puts-more
-    (puts-more (puts-more (puts-more (at-put-map .ensures) (at-put-truth .ensures)) (at-put-uint .ensures)) (at-put-amount .ensures))
-    (at-put-amount2 .ensures)) (at-put-amount3 .ensures))))
+    (puts-more (puts-more (puts-more (at-put-map .ensures .puts) (at-put-truth .ensures .puts)) (at-put-uint .ensures .puts)) (at-put-amount .ensures .puts))
+    (at-put-amount2 .ensures .puts)) (at-put-amount3 .ensures .puts))))

@@ -32,4 +32,4 @@ put-response-spec =
     let at-args = back-16 .before .before .args in
     let a = puts-head (at-args .out .now) _ 0 5 _ _ (omega arith) (at-put-head .ensures) in
     puts-wider payloadRoom (omega arith) (puts-same (response-bytes (at-args .r) _ (at-count-outcome .ensures))
-    (puts-more (puts-more (puts-more a (at-put-uint .ensures)) (at-put-uint2 .ensures)) (at-put-outcome .ensures)))))
+    (puts-more (puts-more (puts-more a (at-put-uint .ensures .puts)) (at-put-uint2 .ensures .puts)) (at-put-outcome .ensures)))))

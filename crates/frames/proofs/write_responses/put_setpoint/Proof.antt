@@ -40,4 +40,4 @@ put-setpoint-spec =
     let at-args = back-16 .before .before .before .args in
     puts-wider outcomeRoom (omega arith) (puts-same
     (setpoint-bytes (at-args .l) _ (setpoint-count (at-args .l) _ _ (at-count-amount .ensures) (at-count-amount2 .ensures)))
-    (puts-more (puts-more (puts-more (at-put-map .ensures) (at-put-truth .ensures)) (at-put-amount .ensures)) (at-put-amount2 .ensures)))))
+    (puts-more (puts-more (puts-more (at-put-map .ensures .puts) (at-put-truth .ensures .puts)) (at-put-amount .ensures .puts)) (at-put-amount2 .ensures .puts)))))

@@ -15,4 +15,4 @@ put-success-spec =
     (λ c.
     let at-put-truth = c .before .before .put-truth in
     let at-put-map = c .before .before .before .before .before .before .put-map in
-    puts-wider outcomeRoom (omega arith) (puts-same clear-bytes (puts-more (at-put-map .ensures) (at-put-truth .ensures)))))
+    puts-wider outcomeRoom (omega arith) (puts-same clear-bytes (puts-more (at-put-map .ensures .puts) (at-put-truth .ensures .puts)))))

@@ -1,5 +1,5 @@
 -- Two heads, one behind the other.
-use Rattle.map_fields.proofs.Added.{puts-pair}
+use Rattle.map_fields.proofs.Added.{field-pair}
 use borrow.Author.Needs.{needs}
 use Rattle.map_fields.proofs.puts.put_pair.Statement.{statement}
 use Rattle.map_fields.proofs.puts.put_pair.Tie as tie
@@ -15,5 +15,5 @@ put-pair-spec =
     let back-8 = c .before .before .before .before .before .before .before .before in
     let at-args = back-8 .before .args in
     let at-pre = back-8 .before .pre in
-    puts-pair (at-args .out .now) _ _ (at-args .at) (at-args .key) (at-args .major) (at-args .arg) _ _ (at-pre) (at-put-head .ensures)
+    field-pair (at-args .out .now) _ _ (at-args .at) (at-args .key) (at-args .major) (at-args .arg) _ _ (at-pre) (at-put-head .ensures)
     (at-put-head2 .ensures)))

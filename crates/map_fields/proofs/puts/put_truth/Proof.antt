@@ -1,12 +1,12 @@
 -- A key and the head that the truth is.
 use Rattle.cbor.specs.Item.{encode}
-use Rattle.map_fields.specs.Puts.{pairBytes, fieldBytes}
+use Rattle.map_fields.specs.Puts.{pairBytes, fieldBytes, fieldPieces}
 use borrow.Author.Needs.{needs}
 use Rattle.map_fields.proofs.puts.put_truth.Statement.{statement}
 use Rattle.map_fields.proofs.puts.put_truth.Tie as tie
 
 pub put-truth-spec : {M : Type 1} → statement M
-unfolding pairBytes fieldBytes encode
+unfolding pairBytes fieldBytes fieldPieces encode
 put-truth-spec =
     tie.close
     (tie.spec

@@ -1,12 +1,12 @@
 -- A key and the head that the number is.
 use Rattle.cbor.specs.Item.{encode}
-use Rattle.map_fields.specs.Puts.{pairBytes, fieldBytes}
+use Rattle.map_fields.specs.Puts.{pairBytes, fieldBytes, fieldPieces}
 use borrow.Author.Needs.{needs}
 use Rattle.map_fields.proofs.puts.put_uint.Statement.{statement}
 use Rattle.map_fields.proofs.puts.put_uint.Tie as tie
 
 pub put-uint-spec : {M : Type 1} → statement M
-unfolding pairBytes fieldBytes encode
+unfolding pairBytes fieldBytes fieldPieces encode
 put-uint-spec =
     tie.close
     (tie.spec

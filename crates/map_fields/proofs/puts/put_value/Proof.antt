@@ -3,15 +3,15 @@ use mir.Syntax.{w64}
 use mir.Val.{SFits}
 use Rattle.map_fields.proofs.Signs.{minus-fits, minus-cast, minus-item, plain-cast, plain-item}
 use Rattle.map_fields.specs.Fields.{valueItem}
-use Rattle.map_fields.proofs.Added.{puts-none}
+use Rattle.map_fields.proofs.Added.{field-none}
 use Rattle.cbor.specs.Item.{encode}
-use Rattle.map_fields.specs.Puts.{pairBytes, fieldBytes}
+use Rattle.map_fields.specs.Puts.{pairBytes, fieldBytes, fieldPieces}
 use borrow.Author.Needs.{needs}
 use Rattle.map_fields.proofs.puts.put_value.Statement.{statement}
 use Rattle.map_fields.proofs.puts.put_value.Tie as tie
 
 pub put-value-spec : {M : Type 1} → statement M
-unfolding pairBytes fieldBytes encode valueItem
+unfolding pairBytes fieldBytes fieldPieces encode valueItem
 put-value-spec =
     tie.close
     (tie.spec
@@ -34,7 +34,7 @@ put-value-spec =
     (λ c κs. search needs)
     (λ c.
     let at-args = c .before .before .before .args in
-    rw (c .enum-told .given .1) (puts-none (at-args .out .now) (at-args .at) _))
+    rw (c .enum-told .given .1) (field-none (at-args .out .now) (at-args .at)))
     (λ c. search needs)
     (λ c.
     let at-put-pair = c .before .before .put-pair in
