@@ -17,6 +17,8 @@ use messages::LimitResult;
 use messages::Outcome;
 use messages::Response;
 use messages::SetpointResult;
+use prefix::PREFIX;
+use prefix::is_framed;
 ghost use mathlib.Core.Path.{_≡_};
 ghost use Rattle.messages.specs.declared.Outcome.{Outcome};
 ghost use Rattle.map_fields.specs.Sights.{Reads, Inside};
