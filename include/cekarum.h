@@ -76,7 +76,7 @@ enum {
     CEKARUM_NOT_SUPPORTED = 11,  /* limits or setpoints not accepted, or a named direction not supported */
     CEKARUM_OVERRIDDEN = 12,     /* SetLimit while an override is set */
     CEKARUM_BAD_VALUE = 13,      /* a Set command with a negative value or naming neither direction */
-    CEKARUM_BELOW_MINIMUM = 14,  /* a consumption limit below the minimum */
+    CEKARUM_BELOW_MINIMUM = 14,  /* a consumption limit below the minimum, 0 aside: that means off */
     CEKARUM_NO_ROOM = 15,        /* nothing else is refused, and the output is longer than the lent buffer */
     CEKARUM_BAD_SETTINGS = 16,   /* bad settings, or conformance inputs out of range */
     CEKARUM_NOT_ASCENDING = 17,  /* attribute list not strictly ascending */

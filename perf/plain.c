@@ -755,7 +755,9 @@ static uint64_t judge(const struct plain *d, const struct plain_zone *z, const s
         if (r->field[0].value < 0 || r->field[1].value < 0)
             return 13;
     }
-    if (r->command == 1 && r->field[0].kind == PLAIN_NUMBER && (uint64_t)r->field[0].value < s->minimum)
+    /* 0 means off, and is never too low. */
+    if (r->command == 1 && r->field[0].kind == PLAIN_NUMBER && r->field[0].value != 0
+        && (uint64_t)r->field[0].value < s->minimum)
         return 14;
     return 0;
 }

@@ -58,9 +58,9 @@ setsLimits c = ofLimits (kindOf c) && isSet c
 unfoldable pub invalid : Command → Bool
 invalid c = isSet c && (someOf (λ q. fieldNegative (says c q)) helds || not (someOf (λ q. fieldNames (says c q)) helds))
 
--- 14: "a consumption limit below the minimum": the rule for a single value
+-- 14: "a consumption limit below the minimum": the rule for a single value. 0 means off, and is never too low
 unfoldable pub tooLow : ℕ → ℕ → Bool
-tooLow minimum v = ltb v minimum
+tooLow minimum v = ltb 0 v && ltb v minimum
 
 abbrev pub fieldTooLow : ℕ → Field → Bool
 fieldTooLow minimum Field.Absent = false

@@ -47,11 +47,11 @@ pub fn field_negative(f: Field) -> bool
     }
 }
 
-// The rule for a single value.
+// The rule for a single value: 0 means off.
 fn is_too_low(minimum: u64, v: u64) -> bool
     ensures { λ r. ⌜ r ≡ tooLow minimum v ⌝ }
 {
-    v < minimum
+    0 < v && v < minimum
 }
 
 // A field with a number below the minimum.

@@ -152,9 +152,11 @@ table d =
     (limitAt (1 - d) 20) (pos 7000 ∷ [])
     -- P5 -1: refused 13
     ∷ case free (two []) (told 3 20 (limit d (Field.Value (negsuc 0)) 0)) (pos 13 ∷ [])
-    -- P6 minimum 1,380,000: that passes, 1,379,999 is 14
+    -- P6 minimum 1,380,000: that passes, 1,379,999 is 14; 0 passes, 1 is 14
     ∷ case (box 1380000 most) (two []) (told 3 20 (limit 0 (mw 1380000) 0)) (pos 0 ∷ [])
     ∷ case (box 1380000 most) (two []) (told 3 20 (limit 0 (mw 1379999) 0)) (pos 14 ∷ [])
+    ∷ case (box 1380000 most) (two []) (told 3 20 (limit 0 (mw 0) 0)) (pos 0 ∷ [])
+    ∷ case (box 1380000 most) (two []) (told 3 20 (limit 0 (mw 1) 0)) (pos 14 ∷ [])
     -- P7 maximum 43,000,000: 43,000,001 is stored as the maximum, reason 1; the maximum itself, no reason
     ∷ case (box 0 43000000) (two (tell 3 20 (limit d (mw 43000001) 0) ∷ [])) (limitAt d 20) (pos 43000000 ∷ [])
     ∷ case (box 0 43000000) (two []) (reason 3 20 (limit d (mw 43000001) 0)) (pos 1 ∷ [])

@@ -1,5 +1,5 @@
--- The comparison is the definition's.
-use borrow.Author.Needs.{needs}
+-- 0 is not above 0; of what is, the comparison is the definition's.
+use borrow.Author.Tests.{lt-ltb, le-ltb}
 use Rattle.command.specs.Content.{tooLow}
 use Rattle.command.proofs.fields.is_too_low.Statement.{statement}
 use Rattle.command.proofs.fields.is_too_low.Tie as tie
@@ -9,4 +9,4 @@ unfolding tooLow
 is-too-low-spec =
     tie.close
     (tie.spec
-    (λ c. search needs))
+    (λ c. rw (lt-ltb _ _ (c .if1 .taken))) (λ c. rw (le-ltb _ _ (c .if1 .left))))
