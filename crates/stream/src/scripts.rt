@@ -100,7 +100,7 @@ pub fn play(limit: u64) -> u64 {
     kernel::start(&mut d, settings());
     let mut buf = io::large_buffer();
     let mut page = io::large_buffer();
-    let mut out = [0u8; RESPONSE];
-    let mut rows = [0i64; PLAN];
+    let mut out = [0u8; FRAME];
+    let mut rows = [0i64; ROWS];
     play_with(&mut d, limit, &mut buf, &mut page, &mut out, &mut rows)
 }
