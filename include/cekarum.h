@@ -104,7 +104,7 @@ struct cekarum_settings {
     bool accepts_setpoints;
     uint64_t minimum; /* the smallest consumption limit that can be set */
     uint64_t maximum[2]; /* contractual: a higher limit is stored as this; CEKARUM_NONE: there is none */
-    uint64_t failsafe[2]; /* limits that hold while zones are joined and no link is up */
+    uint64_t failsafe[2]; /* the largest that a limit is while zones are joined and no link is up */
     uint64_t failsafe_duration; /* 7,200 to 86,400 s */
     bool energy_manager;
 };

@@ -661,19 +661,39 @@ static inline uint64_t zones_hold(const struct plain *d, uint64_t time, int64_t 
     return next;
 }
 
+/* No link up: the smallest of the failsafe limit and all unexpired limits; setpoints are absent. Gives back the next second at
+   which a limit or the failsafe expires. */
+static inline uint64_t failsafe_holds(const struct plain *d, uint64_t time, int64_t *v)
+{
+    uint64_t least[2] = {d->settings.failsafe[0], d->settings.failsafe[1]}, next = d->since + d->settings.duration;
+    for (const struct plain_zone *z = d->zones; z < d->zones + PLAIN_ZONES; z++) {
+        if (z->id == 0)
+            continue;
+        for (unsigned i = 0; i < 2; i++) {
+            const struct plain_held *l = &z->held[i];
+            if (time < l->until) {
+                if (l->value < least[i])
+                    least[i] = l->value;
+                if (l->until < next)
+                    next = l->until;
+            }
+        }
+    }
+    v[0] = 3;
+    for (unsigned i = 0; i < 2; i++)
+        if (supports(d, i))
+            v[1 + i] = (int64_t)least[i];
+    return next;
+}
+
 /* The five values at a second, and the next second at which they may change. */
 static inline uint64_t values(const struct plain *d, uint64_t time, int64_t *v)
 {
     if (d->up > 0)
         return zones_hold(d, time, v);
     v[1] = v[2] = v[3] = v[4] = -1;
-    if (d->joined > 0 && time < d->since + d->settings.duration) {
-        v[0] = 3;
-        for (unsigned i = 0; i < 2; i++)
-            if (supports(d, i))
-                v[1 + i] = (int64_t)d->settings.failsafe[i];
-        return d->since + d->settings.duration;
-    }
+    if (d->joined > 0 && time < d->since + d->settings.duration)
+        return failsafe_holds(d, time, v);
     v[0] = d->overridden ? 4 : 0;
     return FOREVER;
 }

@@ -7,11 +7,13 @@ use native.Mathlib.Omega.{arith}
 use lib.IntN.{pos}
 use lib.ListN.{length, getD}
 use borrow.Author.Tests.{ltb-false}
+use lib.Dec.{ltb}
+use Rattle.messages.specs.declared.Amount.{Amount}
 use Rattle.messages.specs.declared.Amount.the-variants.{Absent, Is}
 use Rattle.store.specs.declared.Zone.{Zone}
 use Rattle.store.specs.Sizes.{helds}
 use Rattle.store.specs.Zones.{idOf, any, freeZone, isJoined, isUp, anyJoined, anyUp}
-use Rattle.holds.specs.Holds.{isLimit, Claim, claimOf, goesBefore, winner, amountOf, Situation, inFailsafe, failsafeValue, valueAt, stateAt, shown, valuesAt}
+use Rattle.holds.specs.Holds.{isLimit, Claim, claimOf, goesBefore, winner, amountOf, Situation, inFailsafe, smallestWith, failsafeValue, valueAt, stateAt, shown, valuesAt}
 use Rattle.table_laws.specs.Table.{Unexpired}
 use Rattle.table_laws.proofs.Before.{not-earlier}
 use Rattle.table_laws.proofs.Winner.{claim-there, wins}
@@ -113,6 +115,19 @@ pub anyJoined-same : (l m : List Zone) → Within l m → Within m l → anyJoin
 unfolding anyJoined
 anyJoined-same l m there back = any-same isJoined (λ x e. e) l m there back
 
+-- the smallest with a failsafe limit goes by the claim's amount
+smallestOf : ℕ → Amount → ℕ
+smallestOf n Absent = n
+smallestOf n (Is v) = cond (ltb v n) v n
+
+smallest-by : (n : ℕ) (c : Claim) → smallestWith n c ≡ smallestOf n (amountOf c)
+unfolding smallestWith smallestOf
+smallest-by n c = go (c .there)
+  where
+    go : (b : Bool) → cond (b && ltb (c .value) n) (c .value) n ≡ smallestOf n (cond b (Is (c .value)) Absent)
+    go true = refl
+    go false = refl
+
 -- what holds at a second goes by the settings, the joined zones, since when no link is up, and the override
 pub record Alike (a b : Situation) : Type 0 where
   pub there : Within (a .zones) (b .zones)
@@ -130,13 +145,18 @@ module _ (a b : Situation) (k : Alike a b) where
       let j = anyJoined-same (a .zones) (b .zones) (k .there) (k .back) in
       rw (u, j, k .since, k .settings)
 
+  limit-same : (t q n : ℕ) → smallestWith n (winner t q (a .zones)) ≡ smallestWith n (winner t q (b .zones))
+  limit-same t q n =
+      let w = winner-same t q (a .zones) (b .zones) (k .there) (k .back) (k .one) in
+      smallest-by n (winner t q (a .zones)) ∙ ap (smallestOf n) w ∙ sym (smallest-by n (winner t q (b .zones)))
+
   value-same : (t q : ℕ) → valueAt a t q ≡ valueAt b t q
   unfolding valueAt failsafeValue
   value-same t q =
       let u = anyUp-same (a .zones) (b .zones) (k .there) (k .back) in
       let w = winner-same t q (a .zones) (b .zones) (k .there) (k .back) (k .one) in
       let f = failsafe-same t in
-      rw (u, f, w, k .settings)
+      rw (u, f, w, k .settings, limit-same t q (getD (b .settings .failsafe) q 0))
 
   state-same : (t : ℕ) → stateAt a t ≡ stateAt b t
   unfolding stateAt

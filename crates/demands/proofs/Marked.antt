@@ -3,7 +3,7 @@ use Prim.Native.Nat.{zero, suc}
 use native.Mathlib.Nat.{le-of-suc-le-suc, not-suc-le-zero}
 use Rattle.store.specs.Zones.{upTo, first, any, idOf, rankOf, isJoined, isUp, slotOf, joined, zoneOf, heldOf, anyJoined, anyUp}
 use Rattle.store.specs.Words.{settingsOf, heldIn, zoneAt, zonesOf, bit, heldWords, putZone, applied, after, settingWords, fresh}
-use Rattle.holds.specs.Holds.{supports, claimOf, goesBefore, better, winner, inFailsafe, failsafeValue, valueAt, present, stateAt, shown, valuesAt}
+use Rattle.holds.specs.Holds.{supports, claimOf, goesBefore, better, winner, inFailsafe, smallestWith, failsafeValue, valueAt, present, stateAt, shown, valuesAt}
 use Rattle.holds.specs.Dues.{zoneDues, heldDues, dues, nearer, nearest}
 use Rattle.device.specs.Refusals.{firstOf, late}
 use Rattle.holds.specs.Links.{sinceAfter}
@@ -26,7 +26,7 @@ use Rattle.demands.specs.Examples.{reached, found, table, Marked}
 pub marked : Marked
 unfolding found reached table numbersOf walk step nearest nearer alike sameNumber dues heldDues zoneDues upTo first any idOf rankOf isJoined isUp slotOf
     joined zoneOf heldOf anyJoined anyUp settingsOf heldIn zoneAt zonesOf bit heldWords putZone applied after settingWords fresh supports
-    claimOf goesBefore better winner inFailsafe failsafeValue valueAt present stateAt shown valuesAt firstOf late sinceAfter zoneChange
+    claimOf goesBefore better winner inFailsafe smallestWith failsafeValue valueAt present stateAt shown valuesAt firstOf late sinceAfter zoneChange
     headChange badJoin joinNumber joinAfter leaveNumber leaveAfter same linkNumber linkAfter says someOf unsupported invalid tooLow
     belowTheMinimum commandNumber fieldAction action untilOf done obeyed commandAfter isCapped reasonOf outcomeWith commandAnswer
     badMaximum badSettings startAfter

@@ -1,7 +1,7 @@
 -- No history stores a number of 2^63 or more, so each value is shown as it is.
 use mathlib.Core.Path.{_≡_, refl, sym, ap, _∙_, subst}
 use mathlib.Core.Logic.{_⊎_, ⊎-elim}
-use mathlib.Core.Bool.{Bool, true, false, cond, _||_}
+use mathlib.Core.Bool.{Bool, true, false, cond, _&&_, _||_}
 use mathlib.Core.List.{List, [], _∷_, List·Memᴰ, List·Memᴰ·cases-cons, List·Memᴰ·not-nil}
 use Prim.Native.Nat.{ℕ, zero, suc, _<_}
 use native.Mathlib.Nat.{le-of-suc-le-suc, not-suc-le-zero}
@@ -18,7 +18,7 @@ use Rattle.store.specs.declared.Zone.{Zone}
 use Rattle.store.specs.declared.Settings.{Settings}
 use Rattle.store.specs.Sizes.{helds, valueEnd}
 use Rattle.store.specs.Zones.{idOf, heldOf, anyUp}
-use Rattle.holds.specs.Holds.{isLimit, directionOf, supports, Claim, winner, amountOf, inFailsafe, failsafeValue, valueAt}
+use Rattle.holds.specs.Holds.{isLimit, directionOf, supports, Claim, winner, amountOf, inFailsafe, smallestWith, failsafeValue, valueAt}
 use Rattle.rules.specs.Rules.{badMaximum, badSettings}
 use Rattle.device.specs.Start.{refusedSettings}
 use Rattle.table_laws.proofs.Winner.{claim-there}
@@ -129,7 +129,7 @@ winner-small s h k t q v l e = go (winner t q (zonesBy s h) .there) refl e
     go false p e = absurd (let w : _≡_ {A = ℕ} 0 1 = cc in omega arith)
 
 pub value-small : (s : Settings) (calls : List Call) (t q v : ℕ) → q < helds → valueAt (situationBy (startedWith s) (log (startedWith s) calls)) t q ≡ Is v → v < valueEnd
-unfolding valueAt failsafeValue
+unfolding valueAt failsafeValue smallestWith
 value-small s calls t q v l e = go (supports (u .directions) (directionOf q)) (anyUp (zonesBy u h)) (inFailsafe (situationBy u h) t) (isLimit q) refl e
   where
     u : Settings
@@ -138,10 +138,25 @@ value-small s calls t q v l e = go (supports (u .directions) (directionOf q)) (a
     h : Log
     h = log u calls
 
+    n : ℕ
+    n = getD (u .failsafe) q 0
+
+    c₀ : Claim
+    c₀ = winner t q (zonesBy u h)
+
+    -- no larger than the failsafe limit
+    least-small : isLimit q ≡ true → smallestWith n c₀ < valueEnd
+    least-small p = least (c₀ .there) (ltb (c₀ .value) n) refl
+      where
+        least : (a b : Bool) → ltb (c₀ .value) n ≡ b → cond (a && b) (c₀ .value) n < valueEnd
+        least true true e = omega (arith, ltb-true (c₀ .value) n e, failsafe-small s q (ltb-true q 2 p))
+        least true false e = failsafe-small s q (ltb-true q 2 p)
+        least false b e = failsafe-small s q (ltb-true q 2 p)
+
     go : (a b c d : Bool) → isLimit q ≡ d
-        → cond a (cond b (amountOf (winner t q (zonesBy u h))) (cond c (cond d (Is (getD (u .failsafe) q 0)) Absent) Absent)) Absent ≡ Is v → v < valueEnd
+        → cond a (cond b (amountOf (winner t q (zonesBy u h))) (cond c (cond d (Is (smallestWith n c₀)) Absent) Absent)) Absent ≡ Is v → v < valueEnd
     go true true c d p e = winner-small u h (log-small u calls) t q v l e
-    go true false true true p e = let w : getD (u .failsafe) q 0 ≡ v = cc in omega (arith, failsafe-small s q (ltb-true q 2 p))
+    go true false true true p e = let w : smallestWith n c₀ ≡ v = cc in omega (arith, least-small p)
     go true false true false p e = absurd (let w : _≡_ {A = ℕ} 0 1 = cc in omega arith)
     go true false false d p e = absurd (let w : _≡_ {A = ℕ} 0 1 = cc in omega arith)
     go false b c d p e = absurd (let w : _≡_ {A = ℕ} 0 1 = cc in omega arith)

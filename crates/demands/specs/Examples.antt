@@ -165,6 +165,11 @@ table d =
     -- P8 all links lost at 1,000, 7,200 s: FAILSAFE at 8,199, AUTONOMOUS at 8,200
     ∷ case free (two (lost 3 900 ∷ lost 4 1000 ∷ [])) (controlAt 8199) (pos FAILSAFE ∷ [])
     ∷ case free (two (lost 3 900 ∷ lost 4 1000 ∷ [])) (controlAt 8200) (pos AUTONOMOUS ∷ [])
+    -- L3 the failsafe limit is 4,200,000 and 0: a standing 2,000,000 holds when all links are lost, 4,200,001 gives way, and 0 stays
+    ∷ case free (two (tell 3 10 (limit d (mw 2000000) 0) ∷ lost 3 900 ∷ lost 4 1000 ∷ [])) (limitAt d 1000) (cond (eqb d 0) (pos 2000000) (pos 0) ∷ [])
+    ∷ case free (two (tell 3 10 (limit d (mw 4200001) 0) ∷ lost 3 900 ∷ lost 4 1000 ∷ [])) (limitAt d 1000) (cond (eqb d 0) (pos 4200000) (pos 0) ∷ [])
+    ∷ case free (two (tell 3 10 (limit 0 (mw 2000000) 60) ∷ lost 3 15 ∷ lost 4 20 ∷ []))
+    (rows 20) (pos 70 ∷ pos 3 ∷ pos 4200000 ∷ pos 0 ∷ absent ∷ absent ∷ pos 7220 ∷ pos 0 ∷ absent ∷ absent ∷ absent ∷ absent ∷ [])
     -- P9 equal rank, zones 4 and 6: zone 4's setpoint
     ∷ case free (two (join 6 2 10 ∷ tell 6 10 (setpoint d 100) ∷ tell 4 10 (setpoint d 900) ∷ [])) (setpointAt d 10) (pos 900 ∷ [])
     -- P10 two equal limits, expiries 50 and 70: a row at 70 only

@@ -10,11 +10,11 @@ use borrow.Author.Tests.{lt-ltb, le-ltb, le-leb, lt-leb, ltb-true, ltb-false, eq
 use lib.Dec.{ltb, leb, eqb}
 use lib.ListN.{length, getD, set, take, replicate, length-set}
 use lib.Seq.{take-suc, take-all, getD-set-same, getD-set-other}
-use Rattle.store.specs.Sizes.{most, end}
+use Rattle.store.specs.Sizes.{helds, most}
 use Rattle.store.specs.Zones.{upTo, seatOf, idOf, rankOf, freeZone, isJoined, heldOf}
 use Rattle.holds.specs.Holds.{lows, leads, Claim, isLimit, noClaim, claimOf, goesBefore, better, winner}
-use Rattle.holds.specs.Dues.{zoneDues, heldDues, nearer, nearest}
-use Rattle.holds.specs.Pass.{lesser, takes, numberOf, placeOf, lowAt, leadAt, turns, lowStep, leadStep, lowsWith, leadsWith, Bounded, Leads, Meets, Adds}
+use Rattle.holds.specs.Dues.{zoneDues, heldDues, nearer}
+use Rattle.holds.specs.Pass.{lesser, takes, numberOf, placeOf, lowAt, leadAt, turns, lowStep, leadStep, lowsWith, leadsWith, Bounded, Leads, Meets, NoneMet, Adds}
 use Rattle.store.specs.declared.Held.{Held}
 use Rattle.store.specs.declared.Zone.{Zone}
 use Rattle.holds.specs.declared.tops.Met.{Met}
@@ -127,19 +127,19 @@ module _ (b : Bool) (l : List ℕ) (j v : ℕ) where
       go false = refl
 
 module _ (t : ℕ) (x : Zone) (g : Met) where
-  pub free-adds : isJoined x ≡ false → Adds t x g g
-  free-adds e f m =
+  pub free-adds : (n : ℕ) → isJoined x ≡ false → Adds n t x g g
+  free-adds n e f m =
       record {
         lowSize = m .lowSize;
         seatSize = m .seatSize;
         leadSize = m .leadSize;
         low = λ k h. rw (free-keeps t (lowAt k) (f (lowAt k)) x e) (m .low k h);
-        lead = λ k h. rw (free-keeps t (leadAt k) (f (leadAt k)) x e) (m .lead k h);
+        lead = λ k h l. rw (free-keeps t (leadAt k) (f (leadAt k)) x e) (m .lead k h l);
       }
 
-  pub free-ends : isJoined x ≡ false → g .next ≡ foldl (nearer t) (g .next) (zoneDues x)
+  pub free-ends : (n : ℕ) → isJoined x ≡ false → g .next ≡ foldl (nearer t) (g .next) (zoneDues n x)
   unfolding zoneDues
-  free-ends e = rw e
+  free-ends n e = rw e
 
   -- the limits of a joined zone: those below n are met, the others are as they were
   low-size : (n : ℕ) → length (lowsWith t x n g .low) ≡ length (g .low)
@@ -210,35 +210,51 @@ module _ (t : ℕ) (x : Zone) (g : Met) where
 
 module _ (t : ℕ) (x : Zone) (g : Met) (e : isJoined x ≡ true) where
   -- the numbers with a joined zone's
-  pub lows-add : Bounded x lows → (f : ℕ → Claim) → Meets g f → (k : ℕ) → k < lows
+  pub lows-add : (n : ℕ) → Bounded x lows → (f : ℕ → Claim) → Meets n g f → (k : ℕ) → k < lows
       → getD (lowsWith t x lows g .low) k 0 ≡ numberOf (better (lowAt k) (f (lowAt k)) (claimOf t (lowAt k) x))
-  lows-add a f m k h =
+  lows-add n a f m k h =
       low-below t x g lows k h (omega (arith, m .lowSize))
       ∙ limit-more t (lowAt k) (f (lowAt k)) x e (lt-ltb k lows h) (getD (g .low) k 0) (m .low k h) (a k h)
 
-  pub leads-add : x .seat ≤ most → (f : ℕ → Claim) → Meets g f → (k : ℕ) → k < leads
+  pub leads-add : x .seat ≤ most → (f : ℕ → Claim) → Meets helds g f → (k : ℕ) → k < leads
       → Leads (better (leadAt k) (f (leadAt k)) (claimOf t (leadAt k) x)) (getD (leadsWith t x leads g .seat) k 0) (getD (leadsWith t x leads g .lead) k 0)
   leads-add s f m k h =
       rw (seat-below t x g leads k h (omega (arith, m .seatSize)), lead-below t x g leads k h (omega (arith, m .leadSize)))
-      (lead-more t (leadAt k) (f (leadAt k)) x e (le-ltb (leadAt k) lows (omega arith)) (getD (g .seat) k 0) (getD (g .lead) k 0) (m .lead k h) s)
+      (lead-more t (leadAt k) (f (leadAt k)) x e (le-ltb (leadAt k) lows (omega arith)) (getD (g .seat) k 0) (getD (g .lead) k 0) (m .lead k h (omega arith)) s)
 
 -- limits first, then setpoints: neither touches what the other has met
-pub zone-adds : (t : ℕ) (x : Zone) (g : Met) → isJoined x ≡ true → Bounded x lows → x .seat ≤ most → Adds t x g (leadsWith t x leads (lowsWith t x lows g))
+pub zone-adds : (t : ℕ) (x : Zone) (g : Met) → isJoined x ≡ true → Bounded x lows → x .seat ≤ most → Adds helds t x g (leadsWith t x leads (lowsWith t x lows g))
 unfolding turns lowStep leadStep
 zone-adds t x g e a s f m =
     let low : Met = lowsWith t x lows g in
-    let same : Meets (record { low = g .low; seat = g .seat; lead = g .lead; next = low .next }) f = record { lowSize = m .lowSize; seatSize = m .seatSize; leadSize = m .leadSize; low = m .low; lead = m .lead } in
+    let same : Meets helds (record { low = g .low; seat = g .seat; lead = g .lead; next = low .next }) f = record { lowSize = m .lowSize; seatSize = m .seatSize; leadSize = m .leadSize; low = m .low; lead = m .lead } in
     record {
       lowSize = low-size t x g lows ∙ m .lowSize;
       seatSize = seat-size t x low leads ∙ m .seatSize;
       leadSize = lead-size t x low leads ∙ m .leadSize;
-      low = lows-add t x g e a f m;
-      lead = leads-add t x (record { low = g .low; seat = g .seat; lead = g .lead; next = low .next }) e s f same;
+      low = lows-add t x g e helds a f m;
+      lead = λ k h l. leads-add t x (record { low = g .low; seat = g .seat; lead = g .lead; next = low .next }) e s f same k h;
     }
 
-pub zone-ends : (t : ℕ) (x : Zone) (g : Met) → isJoined x ≡ true → leadsWith t x leads (lowsWith t x lows g) .next ≡ foldl (nearer t) (g .next) (zoneDues x)
+-- the limits alone
+pub limits-add : (t : ℕ) (x : Zone) (g : Met) → isJoined x ≡ true → Bounded x lows → Adds lows t x g (lowsWith t x lows g)
+unfolding turns lowStep
+limits-add t x g e a f m =
+    record {
+      lowSize = low-size t x g lows ∙ m .lowSize;
+      seatSize = m .seatSize;
+      leadSize = m .leadSize;
+      low = lows-add t x g e lows a f m;
+      lead = λ k h l. absurd (omega arith);
+    }
+
+pub zone-ends : (t : ℕ) (x : Zone) (g : Met) → isJoined x ≡ true → leadsWith t x leads (lowsWith t x lows g) .next ≡ foldl (nearer t) (g .next) (zoneDues helds x)
 unfolding zoneDues upTo turns lowStep leadStep
 zone-ends t x g e = rw e
+
+pub limits-end : (t : ℕ) (x : Zone) (g : Met) → isJoined x ≡ true → lowsWith t x lows g .next ≡ foldl (nearer t) (g .next) (zoneDues lows x)
+unfolding zoneDues upTo turns lowStep
+limits-end t x g e = rw e
 
 -- the loops over the limits and the setpoints of one zone
 pub lows-turn : (t : ℕ) (x : Zone) (k : ℕ) (g₀ g r : Met) (h : Held) → g ≡ lowsWith t x k g₀ → h ≡ heldOf x (lowAt k) → r ≡ lowStep t h k g → r ≡ lowsWith t x (k + 1) g₀
@@ -272,37 +288,40 @@ unfolding numberOf placeOf
 none-lead k h = record { place = all-most leads k h; number = all-most leads k h; small = omega arith }
 
 -- ALL ZONES
-meets-along : (g : Met) (f h : ℕ → Claim) → ((q : ℕ) → h q ≡ f q) → Meets g f → Meets g h
-meets-along g f h e m =
+meets-along : (n : ℕ) (g : Met) (f h : ℕ → Claim) → ((q : ℕ) → h q ≡ f q) → Meets n g f → Meets n g h
+meets-along n g f h e m =
     record {
       lowSize = m .lowSize;
       seatSize = m .seatSize;
       leadSize = m .leadSize;
       low = λ k l. rw (e (lowAt k)) (m .low k l);
-      lead = λ k l. rw (e (leadAt k)) (m .lead k l);
+      lead = λ k l b. rw (e (leadAt k)) (m .lead k l b);
     }
 
--- the claims that win among the first i zones, and the next end of their values
-abbrev pub Passed : ℕ → List Zone → ℕ → Met → Type 0
-Passed t zs i g = Meets g (λ q. winner t q (take i zs)) × (g .next ≡ nearest t (heldDues (take i zs)))
+-- the claims that win among the first i zones, and the next end of their first n quantities, or `start`
+abbrev pub Passed : ℕ → ℕ → ℕ → List Zone → ℕ → Met → Type 0
+Passed n start t zs i g = Meets n g (λ q. winner t q (take i zs)) × (g .next ≡ foldl (nearer t) start (heldDues n (take i zs)))
 
-pub pass-none : (t : ℕ) (zs : List Zone) (g : Met) → Meets g (λ q. noClaim) → g .next ≡ end → Passed t zs 0 g
-unfolding winner nearest heldDues
-pass-none t zs g m e = (m, e)
+pub pass-none : (n start t : ℕ) (zs : List Zone) (g : Met) → NoneMet g → g .next ≡ start → Passed n start t zs 0 g
+unfolding winner heldDues
+pass-none n start t zs g m e = (m n, e)
 
-dues-more : (zs : List Zone) (x : Zone) → heldDues (zs ++ (x ∷ [])) ≡ heldDues zs ++ zoneDues x
-unfolding heldDues
-dues-more [] x = append-nil (zoneDues x)
-dues-more (z ∷ zs) x = ap (λ (l : List ℕ). zoneDues z ++ l) (dues-more zs x) ∙ sym (append-assoc (zoneDues z) (heldDues zs) (zoneDues x))
+module _ (n : ℕ) where
+  dues-more : (zs : List Zone) (x : Zone) → heldDues n (zs ++ (x ∷ [])) ≡ heldDues n zs ++ zoneDues n x
+  unfolding heldDues
+  dues-more [] x = append-nil (zoneDues n x)
+  dues-more (z ∷ zs) x = ap (λ (l : List ℕ). zoneDues n z ++ l) (dues-more zs x) ∙ sym (append-assoc (zoneDues n z) (heldDues n zs) (zoneDues n x))
 
-module _ (t : ℕ) (zs : List Zone) (i : ℕ) where
-  pub pass-turn : (x : Zone) (g r : Met) → i < length zs → x ≡ getD zs i freeZone → Passed t zs i g → Adds t x g r → r .next ≡ foldl (nearer t) (g .next) (zoneDues x) → Passed t zs (i + 1) r
-  unfolding winner nearest
-  pass-turn x g r h e p a n =
+module _ (n start t : ℕ) (zs : List Zone) (i : ℕ) where
+  pub pass-turn : (x : Zone) (g r : Met) → i < length zs → x ≡ getD zs i freeZone → Passed n start t zs i g → Adds n t x g r
+      → r .next ≡ foldl (nearer t) (g .next) (zoneDues n x) → Passed n start t zs (i + 1) r
+  unfolding winner
+  pass-turn x g r h e p a d =
       let more : take (i + 1) zs ≡ take i zs ++ (x ∷ []) = rw (add-one i, e) (take-suc zs i freeZone h) in (
-        meets-along r (λ q. better q (winner t q (take i zs)) (claimOf t q x)) (λ q. winner t q (take (i + 1) zs)) (λ q. rw more (foldl-append _ _ (take i zs) (x ∷ []))) (a (λ q. winner t q (take i zs)) (p .0)),
-        n ∙ rw (p .1, more, dues-more (take i zs) x) (sym (foldl-append (nearer t) end (heldDues (take i zs)) (zoneDues x))),
+        meets-along n r (λ q. better q (winner t q (take i zs)) (claimOf t q x)) (λ q. winner t q (take (i + 1) zs)) (λ q. rw more (foldl-append _ _ (take i zs) (x ∷ [])))
+            (a (λ q. winner t q (take i zs)) (p .0)),
+        d ∙ rw (p .1, more, dues-more n (take i zs) x) (sym (foldl-append (nearer t) start (heldDues n (take i zs)) (zoneDues n x))),
       )
 
-  pub pass-end : (g : Met) → length zs ≤ i → Passed t zs i g → Meets g (λ q. winner t q zs) × (g .next ≡ nearest t (heldDues zs))
+  pub pass-end : (g : Met) → length zs ≤ i → Passed n start t zs i g → Meets n g (λ q. winner t q zs) × (g .next ≡ foldl (nearer t) start (heldDues n zs))
   pass-end g h p = rw (take-all i zs h) at p

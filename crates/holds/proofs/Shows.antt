@@ -4,9 +4,9 @@ use mathlib.Core.Bool.{Bool, true, false, cond, not, _&&_, _||_}
 use mathlib.Core.Path.{_≡_, refl, sym, ap, _∙_}
 use mathlib.Core.List.{List, [], _∷_, foldl}
 use native.Mathlib.Omega.{arith}
-use native.Mathlib.Decide.{ℕ-discrete}
+use native.Mathlib.Decide.{decLt, ℕ-discrete}
 use native.Mathlib.Numerals.{add-one}
-use borrow.Author.Tests.{le-leb, ltb-true, ltb-false}
+use borrow.Author.Tests.{le-leb, lt-ltb, le-ltb, ltb-true, ltb-false}
 use Rattle.store.proofs.Runs.{upTo-list, upTo-cong}
 use lib.Dec.{ltb, eqb}
 use lib.IntN.{ℤ, pos, negsuc}
@@ -19,11 +19,12 @@ use Rattle.messages.specs.declared.Amount.the-variants.{Absent, Is}
 use Rattle.store.specs.Sizes.{helds, most, end, valueEnd}
 use Rattle.store.specs.Zones.{upTo, anyJoined, anyUp}
 use Rattle.holds.specs.Links.{linkRow}
-use Rattle.holds.specs.Holds.{lows, Claim, isLimit, directionOf, supports, winner, amountOf, Situation, inFailsafe, failsafeValue, valueAt, present, stateAt, shown, valuesAt}
+use Rattle.holds.specs.Holds.{lows, Claim, isLimit, directionOf, supports, winner, amountOf, Situation, inFailsafe, smallestWith, failsafeValue, valueAt, present, stateAt, shown, valuesAt}
 use Rattle.holds.specs.Dues.{heldDues, dues, nearer, nearest}
-use Rattle.holds.specs.Pass.{numberOf, Meets, shownIf, stateUp, stateDown, numberIn, shownIn, valuesUp, valuesDown}
+use Rattle.holds.specs.Pass.{lesser, numberOf, Meets, shownIf, stateUp, stateDown, numberIn, shownIn, valuesUp, valuesNone, shownSafe, valuesDown}
 use Rattle.holds.specs.declared.tops.Met.{Met}
 use Rattle.store.proofs.Tests.{never}
+use Rattle.holds.proofs.Ends.{lesser-swap}
 
 -- an array filled behind its first place, which is stored last
 abbrev pub Filled : (ℕ → ℤ) → List ℤ → ℕ → Type 0
@@ -54,6 +55,22 @@ number-shown a = go (a .there)
     go : (b : Bool) → shown (Is (cond b (a .value) most)) ≡ shown (cond b (Is (a .value)) Absent)
     go true = refl
     go false = refl
+
+-- the largest word is no smaller than a failsafe limit
+pub low-safe : (safe : ℕ) (a : Claim) → safe ≤ most → lesser safe (numberOf a) ≡ smallestWith safe a
+unfolding lesser numberOf smallestWith
+low-safe safe a h = go (a .there)
+  where
+    go : (b : Bool) → cond (ltb safe (cond b (a .value) most)) safe (cond b (a .value) most) ≡ cond (b && ltb (a .value) safe) (a .value) safe
+    go true = swapped
+      where
+        swapped : lesser safe (a .value) ≡ lesser (a .value) safe
+        swapped = lesser-swap safe (a .value)
+    go false =
+        elim (decLt safe most) [
+          | yes k ↦ rw (lt-ltb safe most k)
+          | no k ↦ rw (le-ltb safe most (omega arith)) (omega arith)
+        ]
 
 -- a number at least 0
 pub is-natural : (z : ℤ) → leZ (pos 0) z ≡ nonNeg z
@@ -93,7 +110,7 @@ module _ (s : Situation) (t : ℕ) where
         go false true = refl
         go false false = refl
 
-    module _ (g : Met) (m : Meets g (λ q. winner t q (s .zones))) where
+    module _ (g : Met) (m : Meets helds g (λ q. winner t q (s .zones))) where
       number-up : (q : ℕ) → q < helds → numberIn g q ≡ numberOf (winner t q (s .zones))
       unfolding numberIn
       number-up q h = go (isLimit q) refl
@@ -103,7 +120,7 @@ module _ (s : Situation) (t : ℕ) where
           go false e =
               let past : lows ≤ q = ltb-false q lows e in
               let back : lows + (q - lows) ≡ q = omega arith in
-              rw back at (m .lead (q - lows) (omega arith) .number)
+              rw back at (m .lead (q - lows) (omega arith) (omega arith) .number)
 
       shown-up : (q : ℕ) → q < helds → shownIn has g q ≡ shown (valueAt s t q)
       unfolding shownIn
@@ -122,11 +139,14 @@ module _ (s : Situation) (t : ℕ) where
     unfolding inFailsafe
     failsafe-is = rw down
 
-    limit-down : (q : ℕ) → isLimit q ≡ true → safe ≡ true → shownIf has (directionOf q) (getD (s .settings .failsafe) q 0) ≡ shown (valueAt s t q)
+    abbrev safeLimit : ℕ → ℕ
+    safeLimit q = smallestWith (getD (s .settings .failsafe) q 0) (winner t q (s .zones))
+
+    limit-down : (q : ℕ) → isLimit q ≡ true → safe ≡ true → shownIf has (directionOf q) (safeLimit q) ≡ shown (valueAt s t q)
     unfolding shownIf valueAt failsafeValue shown
     limit-down q l e = rw (down, failsafe-is, e, l) (go (supports has (directionOf q)))
       where
-        go : (b : Bool) → cond b (shown (Is (getD (s .settings .failsafe) q 0))) (negsuc 0) ≡ shown (cond b (Is (getD (s .settings .failsafe) q 0)) Absent)
+        go : (b : Bool) → cond b (shown (Is (safeLimit q))) (negsuc 0) ≡ shown (cond b (Is (safeLimit q)) Absent)
         go true = refl
         go false = refl
 
@@ -134,18 +154,18 @@ module _ (s : Situation) (t : ℕ) where
     unfolding valueAt failsafeValue
     absent-down q = rw (down, failsafe-is) (go (supports has (directionOf q)) safe (isLimit q))
       where
-        go : (a b l : Bool) → (b && l) ≡ false → cond a (cond b (cond l (Is (getD (s .settings .failsafe) q 0)) Absent) Absent) Absent ≡ Absent
+        go : (a b l : Bool) → (b && l) ≡ false → cond a (cond b (cond l (Is (safeLimit q)) Absent) Absent) Absent ≡ Absent
         go false b l e = refl
         go true true true e = absurd (never e)
         go true true false e = refl
         go true false l e = refl
 
-    values-safe : safe ≡ true → valuesDown (s .settings) (s .override) true ≡ valuesAt s t
-    unfolding valuesDown valuesAt stateAt shown upTo
+    values-safe : safe ≡ true → valuesDown (s .settings) (s .override) true (λ q. winner t q (s .zones)) ≡ valuesAt s t
+    unfolding valuesDown shownSafe valuesAt stateAt shown upTo
     values-safe e = rw (failsafe-is ∙ e, limit-down 0 refl e, limit-down 1 refl e, absent-down 2 (rw e), absent-down 3 (rw e))
 
-    values-open : safe ≡ false → valuesDown (s .settings) (s .override) false ≡ valuesAt s t
-    unfolding valuesDown valuesAt stateAt stateDown present shown upTo
+    values-open : safe ≡ false → valuesNone (s .override) ≡ valuesAt s t
+    unfolding valuesNone valuesAt stateAt stateDown present shown upTo
     values-open e =
         rw (failsafe-is ∙ e, down, absent-down 0 (rw e), absent-down 1 (rw e), absent-down 2 (rw e), absent-down 3 (rw e)) (go (not (eqb (s .override) 0)))
       where
@@ -153,12 +173,17 @@ module _ (s : Situation) (t : ℕ) where
         go true = refl
         go false = refl
 
-    pub values-down : valuesDown (s .settings) (s .override) safe ≡ valuesAt s t
-    values-down = go safe refl
+    pub values-down : anyJoined (s .zones) ≡ true
+        → valuesDown (s .settings) (s .override) (ltb t (s .since + s .settings .duration)) (λ q. winner t q (s .zones)) ≡ valuesAt s t
+    unfolding valuesDown
+    values-down j = go (ltb t (s .since + s .settings .duration)) refl
       where
-        go : (b : Bool) → safe ≡ b → valuesDown (s .settings) (s .override) b ≡ valuesAt s t
-        go true e = values-safe e
-        go false e = values-open e
+        go : (b : Bool) → ltb t (s .since + s .settings .duration) ≡ b → valuesDown (s .settings) (s .override) b (λ q. winner t q (s .zones)) ≡ valuesAt s t
+        go true e = values-safe (rw (j, e))
+        go false e = values-open (rw (j, e))
+
+    pub values-none : anyJoined (s .zones) ≡ false → valuesNone (s .override) ≡ valuesAt s t
+    values-none j = values-open (rw j)
 
 -- THE ROW, AND WHAT IS DUE IN IT
 module _ (s : Situation) where
@@ -171,30 +196,33 @@ module _ (s : Situation) where
       go false true e = absurd (omega arith)
       go false false e = absurd (omega arith)
 
-  pub down-of : (linkRow (s .zones) ≡ 2 → ⊥) → anyUp (s .zones) ≡ false
+  pub down-of : linkRow (s .zones) ≡ 1 → (anyUp (s .zones) ≡ false) × (anyJoined (s .zones) ≡ true)
   unfolding linkRow
   down-of = go (anyUp (s .zones)) (anyJoined (s .zones))
     where
-      go : (a b : Bool) → (_≡_ {A = ℕ} (cond a 2 (cond b 1 0)) 2 → ⊥) → a ≡ false
-      go true b n = absurd (n refl)
-      go false b n = refl
+      go : (a b : Bool) → _≡_ {A = ℕ} (cond a 2 (cond b 1 0)) 1 → (a ≡ false) × (b ≡ true)
+      go true b e = absurd (omega arith)
+      go false true e = (refl, refl)
+      go false false e = absurd (omega arith)
 
-  pub joined-of : anyUp (s .zones) ≡ false → eqb (linkRow (s .zones)) 1 ≡ anyJoined (s .zones)
+  pub none-of : (linkRow (s .zones) ≡ 2 → ⊥) → (linkRow (s .zones) ≡ 1 → ⊥) → (anyUp (s .zones) ≡ false) × (anyJoined (s .zones) ≡ false)
   unfolding linkRow
-  joined-of e = rw e (go (anyJoined (s .zones)))
+  none-of = go (anyUp (s .zones)) (anyJoined (s .zones))
     where
-      go : (b : Bool) → eqb (cond b 1 0) 1 ≡ b
-      go true = refl
-      go false = refl
+      go : (a b : Bool) → (_≡_ {A = ℕ} (cond a 2 (cond b 1 0)) 2 → ⊥) → (_≡_ {A = ℕ} (cond a 2 (cond b 1 0)) 1 → ⊥) → (a ≡ false) × (b ≡ false)
+      go true b n m = absurd (n refl)
+      go false true n m = absurd (m refl)
+      go false false n m = (refl, refl)
 
-  pub due-up : (t : ℕ) → anyUp (s .zones) ≡ true → nearest t (heldDues (s .zones)) ≡ nearest t (dues s)
+  pub due-up : (t : ℕ) → anyUp (s .zones) ≡ true → nearest t (heldDues helds (s .zones)) ≡ nearest t (dues s)
   unfolding dues
   due-up t e = rw e
 
-  pub due-down : (t : ℕ) → anyUp (s .zones) ≡ false → cond (anyJoined (s .zones)) (nearer t end (s .since + s .settings .duration)) end ≡ nearest t (dues s)
+  pub due-down : (t : ℕ) → anyUp (s .zones) ≡ false → anyJoined (s .zones) ≡ true
+      → foldl (nearer t) (nearer t end (s .since + s .settings .duration)) (heldDues lows (s .zones)) ≡ nearest t (dues s)
   unfolding dues nearest
-  due-down t e = rw e (go (anyJoined (s .zones)))
-    where
-      go : (b : Bool) → cond b (nearer t end (s .since + s .settings .duration)) end ≡ foldl (nearer t) end (cond b ((s .since + s .settings .duration) ∷ []) [])
-      go true = refl
-      go false = refl
+  due-down t e j = rw (e, j)
+
+  pub due-none : (t : ℕ) → anyUp (s .zones) ≡ false → anyJoined (s .zones) ≡ false → end ≡ nearest t (dues s)
+  unfolding dues nearest
+  due-none t e j = rw (e, j)

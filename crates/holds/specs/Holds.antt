@@ -83,16 +83,20 @@ withZone s i x = record { settings = s .settings; zones = set (s .zones) i x; si
 unfoldable pub inFailsafe : Situation → ℕ → Bool
 inFailsafe s t = not (anyUp (s .zones)) && (anyJoined (s .zones) && ltb t (s .since + s .settings .duration))
 
--- the second row of a quantity: "the failsafe limit"; setpoints are absent
-unfoldable pub failsafeValue : Settings → ℕ → Amount
-failsafeValue s q = cond (isLimit q) (Is (getD (s .failsafe) q 0)) Absent
+-- "the limit is the smallest of the failsafe limit and all unexpired limits of joined zones": the failsafe limit beside the claim that wins among theirs
+unfoldable pub smallestWith : ℕ → Claim → ℕ
+smallestWith safe c = cond (c .there && ltb (c .value) safe) (c .value) safe
+
+-- the second row of a quantity; setpoints are absent
+unfoldable pub failsafeValue : Situation → ℕ → ℕ → Amount
+failsafeValue s t q = cond (isLimit q) (Is (smallestWith (getD (s .settings .failsafe) q 0) (winner t q (s .zones)))) Absent
 
 -- the four rows; "an unsupported direction is always absent"
 unfoldable pub valueAt : Situation → ℕ → ℕ → Amount
 valueAt s t q =
     cond (supports (s .settings .directions) (directionOf q))
     (cond (anyUp (s .zones)) (amountOf (winner t q (s .zones)))
-    (cond (inFailsafe s t) (failsafeValue (s .settings) q) Absent))
+    (cond (inFailsafe s t) (failsafeValue s t q) Absent))
     Absent
 
 -- a number past the largest value, which no history stores, is none

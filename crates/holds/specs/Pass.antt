@@ -11,7 +11,8 @@ use Rattle.messages.specs.Numbers.{AUTONOMOUS, CONTROLLED, LIMITED, FAILSAFE, O
 use Rattle.messages.specs.declared.Amount.the-variants.{Is}
 use Rattle.store.specs.Sizes.{helds, ids, most}
 use Rattle.store.specs.Zones.{upTo, seatOf, heldOf}
-use Rattle.holds.specs.Holds.{lows, leads, isLimit, directionOf, Claim, claimOf, better, supports, shown}
+use Rattle.store.specs.Words.{settingsOf, sinceOf, overrideOf}
+use Rattle.holds.specs.Holds.{lows, leads, isLimit, directionOf, Claim, noClaim, claimOf, better, supports, shown, smallestWith}
 use Rattle.holds.specs.Dues.{nearer}
 use Rattle.store.specs.declared.Held.{Held}
 use Rattle.store.specs.declared.Zone.{Zone}
@@ -81,17 +82,21 @@ pub record Leads (a : Claim) (seat value : ℕ) : Type 0 where
   pub number : value ≡ numberOf a
   pub small : a .id < ids
 
--- the numbers met so far stand for the claim f q of each quantity q
-pub record Meets (g : Met) (f : ℕ → Claim) : Type 0 where
+-- the numbers met so far stand for the claim f q of each limit q, and of each setpoint below n
+pub record Meets (n : ℕ) (g : Met) (f : ℕ → Claim) : Type 0 where
   pub lowSize : length (g .low) ≡ lows
   pub seatSize : length (g .seat) ≡ leads
   pub leadSize : length (g .lead) ≡ leads
   pub low : (k : ℕ) → k < lows → getD (g .low) k 0 ≡ numberOf (f (lowAt k))
-  pub lead : (k : ℕ) → k < leads → Leads (f (leadAt k)) (getD (g .seat) k 0) (getD (g .lead) k 0)
+  pub lead : (k : ℕ) → k < leads → leadAt k < n → Leads (f (leadAt k)) (getD (g .seat) k 0) (getD (g .lead) k 0)
+
+-- the numbers before the first zone, however many quantities count
+abbrev pub NoneMet : Met → Type 0
+NoneMet g = (n : ℕ) → Meets n g (λ q. noClaim)
 
 -- one zone more: the numbers r stand for the better of what g stood for and what the zone claims
-abbrev pub Adds : ℕ → Zone → Met → Met → Type 0
-Adds t x g r = (f : ℕ → Claim) → Meets g f → Meets r (λ q. better q (f q) (claimOf t q x))
+abbrev pub Adds : ℕ → ℕ → Zone → Met → Met → Type 0
+Adds n t x g r = (f : ℕ → Claim) → Meets n g f → Meets n r (λ q. better q (f q) (claimOf t q x))
 
 -- a number shown where its direction is supported
 unfoldable pub shownIf : ℕ → ℕ → ℕ → ℤ
@@ -108,15 +113,27 @@ stateDown o = cond (not (eqb o 0)) (pos OVERRIDE) (pos AUTONOMOUS)
 unfoldable pub numberIn : Met → ℕ → ℕ
 numberIn g q = cond (isLimit q) (getD (g .low) q 0) (getD (g .lead) (q - lows) 0)
 
--- the values of the first row; of the second row and of the others
+-- the values of the first row
 unfoldable pub shownIn : ℕ → Met → ℕ → ℤ
 shownIn has g q = shownIf has (directionOf q) (numberIn g q)
 
 unfoldable pub valuesUp : ℕ → ℕ → Met → List ℤ
 valuesUp has o g = stateUp o (shownIn has g 0) (shownIn has g 1) ∷ upTo (shownIn has g) helds
 
-unfoldable pub valuesDown : Settings → ℕ → Bool → List ℤ
-valuesDown s o safe =
-    cond safe
-    (pos FAILSAFE ∷ shownIf (s .directions) 0 (getD (s .failsafe) 0 0) ∷ shownIf (s .directions) 1 (getD (s .failsafe) 1 0) ∷ negsuc 0 ∷ negsuc 0 ∷ [])
-    (stateDown o ∷ negsuc 0 ∷ negsuc 0 ∷ negsuc 0 ∷ negsuc 0 ∷ [])
+-- of the last two rows; of the second, where the claims f win among the zones' limits
+unfoldable pub valuesNone : ℕ → List ℤ
+valuesNone o = stateDown o ∷ negsuc 0 ∷ negsuc 0 ∷ negsuc 0 ∷ negsuc 0 ∷ []
+
+unfoldable pub shownSafe : Settings → (ℕ → Claim) → ℕ → ℤ
+shownSafe s f q = shownIf (s .directions) q (smallestWith (getD (s .failsafe) q 0) (f q))
+
+unfoldable pub valuesDown : Settings → ℕ → Bool → (ℕ → Claim) → List ℤ
+valuesDown s o safe f = cond safe (pos FAILSAFE ∷ shownSafe s f 0 ∷ shownSafe s f 1 ∷ negsuc 0 ∷ negsuc 0 ∷ []) (valuesNone o)
+
+-- the number `low` stands for a claim: what is shown is the smaller of it and the failsafe limit
+abbrev pub ShowsLow : ℕ → ℕ → ℕ → ℕ → ℤ → Type 0
+ShowsLow has d safe low v = (a : Claim) → low ≡ numberOf a → v ≡ shownIf has d (smallestWith safe a)
+
+-- the numbers g stand for the limits' claims: the values of zones joined and none up
+abbrev pub ShowsDown : List ℕ → ℕ → Met → List ℤ → Type 0
+ShowsDown ws t g v = (f : ℕ → Claim) → Meets lows g f → v ≡ valuesDown (settingsOf ws) (overrideOf ws) (ltb t (sinceOf ws + settingsOf ws .duration)) f

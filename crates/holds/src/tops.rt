@@ -12,12 +12,12 @@ ghost use mathlib.Core.Path.{_≡_};
 ghost use Prim.Native.Nat.{_<_, _≤_};
 ghost use mathlib.Core.List.{foldl};
 ghost use lib.ListN.{getD, set};
-ghost use Rattle.store.specs.Sizes.{slots, most, end};
+ghost use Rattle.store.specs.Sizes.{slots, helds, most, end};
 ghost use Rattle.store.specs.Zones.{freeZone};
 ghost use Rattle.store.specs.Words.{zonesOf};
-ghost use Rattle.holds.specs.Holds.{lows, leads, noClaim, winner};
+ghost use Rattle.holds.specs.Holds.{lows, leads, winner};
 ghost use Rattle.holds.specs.Dues.{zoneDues, heldDues, nearer, nearest};
-ghost use Rattle.holds.specs.Pass.{lesser, lowStep, leadStep, lowsWith, leadsWith, Bounded, Meets, Adds};
+ghost use Rattle.holds.specs.Pass.{lesser, lowStep, leadStep, lowsWith, leadsWith, Bounded, Meets, NoneMet, Adds};
 
 // How many quantities go by the smallest value (the limits), and how many by the seat (the setpoints).
 pub const LOWS: usize = 2;
@@ -32,7 +32,8 @@ pub struct Met {
     pub next: u64,
 }
 
-fn least(a: u64, b: u64) -> u64
+// The smaller of two numbers.
+pub fn least(a: u64, b: u64) -> u64
     ensures { λ r. ⌜ r ≡ lesser a b ⌝ }
 {
     if a < b { a } else { b }
@@ -121,8 +122,8 @@ fn with_leads(t: u64, zone: Zone, start: Met) -> Met
 
 // One zone more. A free slot claims nothing.
 fn with_zone(t: u64, zone: Zone, g: Met) -> Met
-    ensures { λ r. ⌜ Adds t zone g r ⌝ }
-    ensures { λ r. ⌜ r .next ≡ foldl (nearer t) (g .next) (zoneDues zone) ⌝ }
+    ensures { λ r. ⌜ Adds helds t zone g r ⌝ }
+    ensures { λ r. ⌜ r .next ≡ foldl (nearer t) (g .next) (zoneDues helds zone) ⌝ }
 {
     if zone.seat % IDS == 0 {
         return g;
@@ -130,24 +131,35 @@ fn with_zone(t: u64, zone: Zone, g: Met) -> Met
     with_leads(t, zone, with_lows(t, zone, g))
 }
 
-fn none_met() -> Met
-    ensures { λ r. ⌜ Meets r (λ q. noClaim) ⌝ }
-    ensures { λ r. ⌜ r .next ≡ end ⌝ }
+// The limits of one zone more.
+fn with_limits(t: u64, zone: Zone, g: Met) -> Met
+    ensures { λ r. ⌜ Adds lows t zone g r ⌝ }
+    ensures { λ r. ⌜ r .next ≡ foldl (nearer t) (g .next) (zoneDues lows zone) ⌝ }
+{
+    if zone.seat % 256 == 0 {
+        return g;
+    }
+    with_lows(t, zone, g)
+}
+
+fn none_met(next: u64) -> Met
+    ensures { λ r. ⌜ NoneMet r ⌝ }
+    ensures { λ r. ⌜ r .next ≡ next ⌝ }
 {
     Met {
         low: [MOST; LOWS],
         seat: [MOST; LEADS],
         lead: [MOST; LEADS],
-        next: END,
+        next: next,
     }
 }
 
 // The pass over the zones as they stand.
 pub fn tops(d: &State, t: u64) -> Met
-    ensures { λ r. ⌜ Meets r (λ q. winner t q (zonesOf (now (d .entry)))) ⌝ }
-    ensures { λ r. ⌜ r .next ≡ nearest t (heldDues (zonesOf (now (d .entry)))) ⌝ }
+    ensures { λ r. ⌜ Meets helds r (λ q. winner t q (zonesOf (now (d .entry)))) ⌝ }
+    ensures { λ r. ⌜ r .next ≡ nearest t (heldDues helds (zonesOf (now (d .entry)))) ⌝ }
 {
-    let mut g = none_met();
+    let mut g = none_met(END);
     let mut i = 0;
     while i < SLOTS {
         g = with_zone(t, zone_at(d, i), g);
@@ -159,8 +171,8 @@ pub fn tops(d: &State, t: u64) -> Met
 // Slot i, the given record in its slot's place.
 fn with_slot(d: &State, slot: usize, zone: Zone, i: usize, t: u64, g: Met) -> Met
     requires { ⌜ i < slots ⌝ }
-    ensures { λ r. ⌜ Adds t (getD (set (zonesOf (now (d .entry))) slot zone) i freeZone) g r ⌝ }
-    ensures { λ r. ⌜ r .next ≡ foldl (nearer t) (g .next) (zoneDues (getD (set (zonesOf (now (d .entry))) slot zone) i freeZone)) ⌝ }
+    ensures { λ r. ⌜ Adds helds t (getD (set (zonesOf (now (d .entry))) slot zone) i freeZone) g r ⌝ }
+    ensures { λ r. ⌜ r .next ≡ foldl (nearer t) (g .next) (zoneDues helds (getD (set (zonesOf (now (d .entry))) slot zone) i freeZone)) ⌝ }
 {
     if i == slot {
         return with_zone(t, zone, g);
@@ -170,13 +182,52 @@ fn with_slot(d: &State, slot: usize, zone: Zone, i: usize, t: u64, g: Met) -> Me
 
 // The pass over the zones with the given record in its slot's place.
 pub fn tops_with(d: &State, slot: usize, zone: Zone, t: u64) -> Met
-    ensures { λ r. ⌜ Meets r (λ q. winner t q (set (zonesOf (now (d .entry))) slot zone)) ⌝ }
-    ensures { λ r. ⌜ r .next ≡ nearest t (heldDues (set (zonesOf (now (d .entry))) slot zone)) ⌝ }
+    ensures { λ r. ⌜ Meets helds r (λ q. winner t q (set (zonesOf (now (d .entry))) slot zone)) ⌝ }
+    ensures { λ r. ⌜ r .next ≡ nearest t (heldDues helds (set (zonesOf (now (d .entry))) slot zone)) ⌝ }
 {
-    let mut g = none_met();
+    let mut g = none_met(END);
     let mut i = 0;
     while i < SLOTS {
         g = with_slot(d, slot, zone, i, t, g);
+        i += 1;
+    }
+    g
+}
+
+// The pass over the limits alone, where no setpoint counts; `next` is the nearest end known before it.
+pub fn limits(d: &State, t: u64, next: u64) -> Met
+    ensures { λ r. ⌜ Meets lows r (λ q. winner t q (zonesOf (now (d .entry)))) ⌝ }
+    ensures { λ r. ⌜ r .next ≡ foldl (nearer t) next (heldDues lows (zonesOf (now (d .entry)))) ⌝ }
+{
+    let mut g = none_met(next);
+    let mut i = 0;
+    while i < SLOTS {
+        g = with_limits(t, zone_at(d, i), g);
+        i += 1;
+    }
+    g
+}
+
+fn with_slot_limits(d: &State, slot: usize, zone: Zone, i: usize, t: u64, g: Met) -> Met
+    requires { ⌜ i < slots ⌝ }
+    ensures { λ r. ⌜ Adds lows t (getD (set (zonesOf (now (d .entry))) slot zone) i freeZone) g r ⌝ }
+    ensures { λ r. ⌜ r .next ≡ foldl (nearer t) (g .next) (zoneDues lows (getD (set (zonesOf (now (d .entry))) slot zone) i freeZone)) ⌝ }
+{
+    if i == slot {
+        return with_limits(t, zone, g);
+    }
+    with_limits(t, zone_at(d, i), g)
+}
+
+// The limits with the given record in its slot's place.
+pub fn limits_with(d: &State, slot: usize, zone: Zone, t: u64) -> Met
+    ensures { λ r. ⌜ Meets lows r (λ q. winner t q (set (zonesOf (now (d .entry))) slot zone)) ⌝ }
+    ensures { λ r. ⌜ r .next ≡ nearest t (heldDues lows (set (zonesOf (now (d .entry))) slot zone)) ⌝ }
+{
+    let mut g = none_met(END);
+    let mut i = 0;
+    while i < SLOTS {
+        g = with_slot_limits(d, slot, zone, i, t, g);
         i += 1;
     }
     g

@@ -4,6 +4,9 @@ use crate::links::link_row;
 use crate::links::link_row_with;
 use crate::tops::LOWS;
 use crate::tops::Met;
+use crate::tops::least;
+use crate::tops::limits;
+use crate::tops::limits_with;
 use crate::tops::tops;
 use crate::tops::tops_with;
 use messages::Amount;
@@ -18,14 +21,13 @@ use store::overridden;
 use store::settings_at;
 use store::since;
 ghost use mathlib.Core.Path.{_≡_};
-ghost use mathlib.Core.Bool.{cond, _&&_};
 ghost use Prim.Native.Nat.{_+_, _<_};
 ghost use lib.Dec.{ltb};
 ghost use Rattle.store.specs.Sizes.{helds, end};
-ghost use Rattle.store.specs.Words.{sinceOf, overrideOf, settingsOf};
+ghost use Rattle.store.specs.Words.{overrideOf, settingsOf};
 ghost use Rattle.holds.specs.Holds.{supports, shown, situationOf, withZone, valuesAt};
 ghost use Rattle.holds.specs.Dues.{nearer, viewAt};
-ghost use Rattle.holds.specs.Pass.{shownIf, stateUp, stateDown, numberIn, shownIn, valuesUp, valuesDown};
+ghost use Rattle.holds.specs.Pass.{shownIf, stateUp, stateDown, numberIn, shownIn, valuesUp, valuesNone, ShowsLow, ShowsDown};
 
 // Of the supported directions, 2 is both.
 pub fn supports(has: u64, d: u64) -> bool
@@ -128,23 +130,32 @@ fn state_down(overridden: u64) -> i64
     0
 }
 
-// The other rows: no zone up.
-fn values_down(d: &State, joined: bool, t: u64) -> [i64; VALUES]
-    ensures { λ r. ⌜ r ≡ valuesDown (settingsOf (now (d .entry))) (overrideOf (now (d .entry))) (joined && ltb t (sinceOf (now (d .entry)) + settingsOf (now (d .entry)) .duration)) ⌝ }
+// The last two rows: nothing holds.
+fn values_none(d: &State) -> [i64; VALUES]
+    ensures { λ r. ⌜ r ≡ valuesNone (overrideOf (now (d .entry))) ⌝ }
+{
+    [state_down(overridden(d)), -1, -1, -1, -1]
+}
+
+// A limit of the second row: the failsafe limit, or the smallest of the zones' where that is smaller. MOST is none.
+fn shown_low(has: u64, d: u64, safe: u64, low: u64) -> i64
+    ensures { λ r. ⌜ ShowsLow has d safe low r ⌝ }
+{
+    shown_if(has, d, least(safe, low))
+}
+
+// Zones joined and none up: the second row while the failsafe lasts, the third behind it.
+fn values_down(d: &State, g: Met, t: u64) -> [i64; VALUES]
+    ensures { λ r. ⌜ ShowsDown (now (d .entry)) t g r ⌝ }
 {
     let s = settings_at(d);
-    if joined {
-        if failsafe_holds(since(d), s.duration, t) {
-            return [
-                3,
-                shown_if(s.directions, 0, s.failsafe[0]),
-                shown_if(s.directions, 1, s.failsafe[1]),
-                -1,
-                -1,
-            ];
-        }
+    let low = g.low;
+    if failsafe_holds(since(d), s.duration, t) {
+        let a = shown_low(s.directions, 0, s.failsafe[0], low[0]);
+        let b = shown_low(s.directions, 1, s.failsafe[1], low[1]);
+        return [3, a, b, -1, -1];
     }
-    [state_down(overridden(d)), -1, -1, -1, -1]
+    values_none(d)
 }
 
 // What holds at t.
@@ -155,7 +166,10 @@ pub fn values_at(d: &State, t: u64) -> [i64; VALUES]
     if n == 2 {
         return values_up(d, tops(d, t));
     }
-    values_down(d, n == 1, t)
+    if n == 1 {
+        return values_down(d, limits(d, t, END), t);
+    }
+    values_none(d)
 }
 
 // What would hold at t with the given record in a slot's place; SLOTS and above are no slot.
@@ -166,7 +180,10 @@ pub fn values_with(d: &State, slot: usize, zone: Zone, t: u64) -> [i64; VALUES]
     if n == 2 {
         return values_up(d, tops_with(d, slot, zone, t));
     }
-    values_down(d, n == 1, t)
+    if n == 1 {
+        return values_down(d, limits_with(d, slot, zone, t), t);
+    }
+    values_none(d)
 }
 
 fn nearer(cur: u64, r: u64, e: u64) -> u64
@@ -194,15 +211,6 @@ fn failsafe_end(since: u64, duration: u64, cur: u64) -> u64
     END
 }
 
-fn next_down(d: &State, joined: bool, t: u64) -> u64
-    ensures { λ r. ⌜ r ≡ cond joined (nearer t end (sinceOf (now (d .entry)) + settingsOf (now (d .entry)) .duration)) end ⌝ }
-{
-    if joined {
-        return failsafe_end(since(d), settings_at(d).duration, t);
-    }
-    END
-}
-
 // What holds at t, and until when it cannot change.
 pub fn view_at(d: &State, t: u64) -> View
     ensures { λ r. ⌜ r ≡ viewAt (situationOf (now (d .entry))) t ⌝ }
@@ -215,8 +223,15 @@ pub fn view_at(d: &State, t: u64) -> View
             next: g.next,
         };
     }
+    if n == 1 {
+        let g = limits(d, t, failsafe_end(since(d), settings_at(d).duration, t));
+        return View {
+            values: values_down(d, g, t),
+            next: g.next,
+        };
+    }
     View {
-        values: values_down(d, n == 1, t),
-        next: next_down(d, n == 1, t),
+        values: values_none(d),
+        next: END,
     }
 }

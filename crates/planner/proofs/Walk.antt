@@ -1,5 +1,5 @@
 -- The walk from due to due finds the plan of values that are steady between them.
-use Prim.Native.Nat.{ℕ, zero, suc, _*_, _≤_}
+use Prim.Native.Nat.{ℕ, zero, suc, _+_, _*_, _≤_}
 use mathlib.Core.Bool.{Bool, true, false, cond}
 use mathlib.Core.Path.{_≡_, refl, sym, ap, _∙_}
 use mathlib.Core.Logic.{⊎-elim}
@@ -10,9 +10,11 @@ use lib.IntN.{ℤ}
 use lib.ListN.{length}
 use borrow.Author.Tests.{ltb-true, ltb-false, le-ltb}
 use Rattle.store.specs.Sizes.{end, slots, helds}
-use Rattle.holds.specs.Holds.{Situation, situationOf, valuesAt}
+use Rattle.store.specs.Zones.{anyUp}
+use Rattle.store.specs.Words.{zonesOf}
+use Rattle.holds.specs.Holds.{lows, Situation, situationOf, valuesAt}
 use Rattle.holds.specs.Dues.{dues, nearest}
-use Rattle.holds.proofs.Steady.{Idle, values-steady, dues-few}
+use Rattle.holds.proofs.Steady.{Idle, values-steady, dues-few, dues-few-down}
 use Rattle.planner.specs.Rows.{plan}
 use Rattle.planner.specs.Plan.{planOf}
 use Rattle.planner.specs.Walk.{alike, step, walk}
@@ -81,3 +83,9 @@ pub planOf-few : (ws : List ℕ) (now : ℕ) → length (planOf (situationOf ws)
 planOf-few ws now =
     let s = situationOf ws in
     omega (arith, ap length (planOf-walk s now), walk-few (valuesAt s) (dues s) (length (dues s)) now, dues-few ws)
+
+-- "A plan made in FAILSAFE may now hold .. 17 at most", likewise
+pub planOf-few-down : (ws : List ℕ) (now : ℕ) → anyUp (zonesOf ws) ≡ false → length (planOf (situationOf ws) now) ≤ 1 + slots * lows
+planOf-few-down ws now e =
+    let s = situationOf ws in
+    omega (arith, ap length (planOf-walk s now), walk-few (valuesAt s) (dues s) (length (dues s)) now, dues-few-down ws e)

@@ -1,3 +1,4 @@
 pub mod Before
 pub mod Winner
 pub mod Rows
+pub mod Lost

@@ -6,15 +6,15 @@ use mathlib.Core.Path.{_≡_, refl, sym, ap, _∙_}
 use mathlib.Core.List.{List, [], _∷_}
 use native.Mathlib.Decide.{decLt}
 use native.Mathlib.Omega.{arith}
-use borrow.Author.Tests.{lt-ltb, le-ltb, ltb-false}
+use borrow.Author.Tests.{lt-ltb, le-ltb, ltb-true, ltb-false}
 use lib.Dec.{ltb, eqb}
 use lib.ListN.{getD}
 use Rattle.messages.specs.Numbers.{AUTONOMOUS, CONTROLLED, LIMITED, FAILSAFE, OVERRIDE}
 use Rattle.messages.specs.declared.Amount.the-variants.{Absent, Is}
 use Rattle.store.specs.Zones.{idOf, rankOf, freeZone, any, isJoined, isUp, anyJoined, anyUp, heldOf}
-use Rattle.holds.specs.Holds.{isLimit, directionOf, supports, Claim, claimOf, goesBefore, winner, amountOf, Situation, inFailsafe, failsafeValue, valueAt, present, stateAt}
+use Rattle.holds.specs.Holds.{isLimit, directionOf, supports, Claim, claimOf, goesBefore, winner, amountOf, Situation, inFailsafe, smallestWith, failsafeValue, valueAt, present, stateAt}
 use Rattle.messages.specs.Refusals.{firstOf}
-use Rattle.table_laws.specs.Table.{Unexpired, Some, SmallestLimit, NoBetter, BestSetpoint, SomeUp, NoneUp, StateOrder, Table}
+use Rattle.table_laws.specs.Table.{Unexpired, Some, Each, SmallestLimit, NoBetter, BestSetpoint, SomeUp, SmallestSource, Failsafe, NoneUp, StateOrder, Table}
 use Rattle.store.specs.declared.Zone.{Zone}
 use Rattle.store.proofs.Tests.{never}
 use Rattle.table_laws.proofs.Before.{not-earlier}
@@ -34,12 +34,26 @@ module _ (s : Situation) (t : ℕ) where
   abbrev supported : ℕ → Bool
   supported q = supports (s .settings .directions) (directionOf q)
 
-  -- SOME ZONE UP
-  module _ (up : anyUp (s .zones) ≡ true) (q : ℕ) where
+  -- THE BEST CLAIM is that of a zone, and no unexpired limit is smaller
+  module _ (q : ℕ) where
     abbrev best : Claim
     best = winner t q (s .zones)
 
-    from-best : supported q ≡ true → valueAt s t q ≡ amountOf best
+    same-value : (x : Zone) → Unexpired t q x → claimOf t q x ≡ best → heldOf x q .value ≡ best .value
+    same-value x u e = ap (λ (c : Claim). c .value) (sym (claim-there t q x u) ∙ e)
+
+    held-by : best .there ≡ true → Some t q (s .zones) (λ x. heldOf x q .value ≡ best .value)
+    held-by e =
+        let w : Some t q (s .zones) (λ x. claimOf t q x ≡ best) = wins t q (s .zones) .held e in
+        (w .0, w .1, w .2, same-value (getD (s .zones) (w .0) freeZone) (w .2) (w .3))
+
+    none-smaller : isLimit q ≡ true → Each t q (s .zones) (λ y. best .value ≤ heldOf y q .value)
+    unfolding goesBefore
+    none-smaller l i h u = ltb-false _ _ (rw (l, claim-there t q (getD (s .zones) i freeZone) u) at (wins t q (s .zones) .first i h u))
+
+  -- SOME ZONE UP
+  module _ (up : anyUp (s .zones) ≡ true) (q : ℕ) where
+    from-best : supported q ≡ true → valueAt s t q ≡ amountOf (best q)
     unfolding valueAt
     from-best e = rw (e, up)
 
@@ -57,25 +71,21 @@ module _ (s : Situation) (t : ℕ) where
         go true e f = let z : _≡_ {A = ℕ} 0 1 = cc in absurd (omega arith)
         go false e f = refl
 
-    value-there : (v : ℕ) → valueAt s t q ≡ Is v → (best .there ≡ true) × (best .value ≡ v)
+    pub value-there : (v : ℕ) → valueAt s t q ≡ Is v → (supported q ≡ true) × (best q .there ≡ true) × (best q .value ≡ v)
     unfolding valueAt
     value-there v = go (supported q) refl
       where
-        go : (b : Bool) → supported q ≡ b → cond b (cond (anyUp (s .zones)) (amountOf best) (cond (inFailsafe s t) (failsafeValue (s .settings) q) Absent)) Absent ≡ Is v → (best .there ≡ true) × (best .value ≡ v)
-        go true e f = amount-there best v (rw up at f)
+        go : (b : Bool) → supported q ≡ b → cond b (cond (anyUp (s .zones)) (amountOf (best q)) (cond (inFailsafe s t) (failsafeValue s t q) Absent)) Absent ≡ Is v
+            → (b ≡ true) × (best q .there ≡ true) × (best q .value ≡ v)
+        go true e f = let b : (best q .there ≡ true) × (best q .value ≡ v) = amount-there (best q) v (rw up at f) in (refl, b .0, b .1)
         go false e f = let z : _≡_ {A = ℕ} 0 1 = cc in absurd (omega arith)
 
-    -- the best claim is that of a zone
-    same-value : (x : Zone) → Unexpired t q x → claimOf t q x ≡ best → heldOf x q .value ≡ best .value
-    same-value x u e = ap (λ (c : Claim). c .value) (sym (claim-there t q x u) ∙ e)
-
-    smallest-limit : isLimit q ≡ true → SmallestLimit s t q
-    unfolding goesBefore
+    pub smallest-limit : isLimit q ≡ true → SmallestLimit s t q
     smallest-limit l v e =
-        let b : (best .there ≡ true) × (best .value ≡ v) = value-there v e in
-        let w : Some t q (s .zones) (λ x. claimOf t q x ≡ best) = wins t q (s .zones) .held (b .0) in (
-          (w .0, w .1, w .2, same-value (getD (s .zones) (w .0) freeZone) (w .2) (w .3) ∙ b .1),
-          (λ i h u. rw (← b .1) (ltb-false _ _ (rw (l, claim-there t q (getD (s .zones) i freeZone) u) at (wins t q (s .zones) .first i h u)))),
+        let b : (supported q ≡ true) × (best q .there ≡ true) × (best q .value ≡ v) = value-there v e in
+        let w : Some t q (s .zones) (λ x. heldOf x q .value ≡ best q .value) = held-by q (b .1) in (
+          (w .0, w .1, w .2, w .3 ∙ b .2),
+          (λ i h u. rw (← b .2) (none-smaller q l i h u)),
         )
 
     no-better : (x y : Zone) → (rankOf x ≤ rankOf y) → (rankOf y ≡ rankOf x → idOf x ≤ idOf y) → NoBetter x y
@@ -88,19 +98,19 @@ module _ (s : Situation) (t : ℕ) where
     best-setpoint : isLimit q ≡ false → BestSetpoint s t q
     unfolding goesBefore
     best-setpoint l v e =
-        let b : (best .there ≡ true) × (best .value ≡ v) = value-there v e in
-        let w : Some t q (s .zones) (λ x. claimOf t q x ≡ best) = wins t q (s .zones) .held (b .0) in
+        let b : (supported q ≡ true) × (best q .there ≡ true) × (best q .value ≡ v) = value-there v e in
+        let w : Some t q (s .zones) (λ x. claimOf t q x ≡ best q) = wins t q (s .zones) .held (b .1) in
         let x : Zone = getD (s .zones) (w .0) freeZone in
-        let r : rankOf x ≡ best .rank = ap (λ (c : Claim). c .rank) (sym (claim-there t q x (w .2)) ∙ w .3) in
-        let j : idOf x ≡ best .id = ap (λ (c : Claim). c .id) (sym (claim-there t q x (w .2)) ∙ w .3) in (
+        let r : rankOf x ≡ best q .rank = ap (λ (c : Claim). c .rank) (sym (claim-there t q x (w .2)) ∙ w .3) in
+        let j : idOf x ≡ best q .id = ap (λ (c : Claim). c .id) (sym (claim-there t q x (w .2)) ∙ w .3) in (
           w .0,
           w .1,
           w .2,
           (
-            same-value x (w .2) (w .3) ∙ b .1,
+            same-value q x (w .2) (w .3) ∙ b .2,
             λ i h u.
                 let y : Zone = getD (s .zones) i freeZone in
-                let n : (best .rank ≤ rankOf y) × (rankOf y ≡ best .rank → best .id ≤ idOf y) = not-earlier (rankOf y) (idOf y) (best .rank) (best .id) (rw (l, claim-there t q y u) at (wins t q (s .zones) .first i h u)) in
+                let n : (best q .rank ≤ rankOf y) × (rankOf y ≡ best q .rank → best q .id ≤ idOf y) = not-earlier (rankOf y) (idOf y) (best q .rank) (best q .id) (rw (l, claim-there t q y u) at (wins t q (s .zones) .first i h u)) in
                 no-better x y (rw r (n .0)) (λ k. rw j (n .1 (k ∙ r))),
           ),
         )
@@ -110,7 +120,7 @@ module _ (s : Situation) (t : ℕ) where
         record {
           limit = smallest-limit;
           setpoint = best-setpoint;
-          absent = λ e. (λ f. wins t q (s .zones) .none .0 (amount-none best (sym (from-best e) ∙ f)), λ f. from-best e ∙ rw (wins t q (s .zones) .none .1 f));
+          absent = λ e. (λ f. wins t q (s .zones) .none .0 (amount-none (best q) (sym (from-best e) ∙ f)), λ f. from-best e ∙ rw (wins t q (s .zones) .none .1 f));
         }
 
   -- ZONES JOINED, NONE UP
@@ -119,11 +129,32 @@ module _ (s : Situation) (t : ℕ) where
     unfolding inFailsafe
     row-is = rw (down, joined)
 
-    in-row : t < s .since + s .settings .duration → (stateAt s t ≡ FAILSAFE) × ((q : ℕ) → supported q ≡ true → valueAt s t q ≡ failsafeValue (s .settings) q)
-    unfolding stateAt valueAt
+    -- the failsafe limit, or the best claim where that is smaller
+    smallest-source : (q : ℕ) → isLimit q ≡ true → SmallestSource s t q (smallestWith (getD (s .settings .failsafe) q 0) (best q))
+    unfolding smallestWith
+    smallest-source q l = go (best q .there) (ltb (best q .value) n) refl refl
+      where
+        n : ℕ
+        n = getD (s .settings .failsafe) q 0
+
+        go : (a b : Bool) → best q .there ≡ a → ltb (best q .value) n ≡ b → SmallestSource s t q (cond (a && b) (best q .value) n)
+        go true true e f = record { held = inr (held-by q e); safe = omega (arith, ltb-true (best q .value) n f); first = none-smaller q l }
+        go true false e f = record { held = inl refl; safe = omega arith; first = λ i h u. omega (arith, ltb-false (best q .value) n f, none-smaller q l i h u) }
+        go false b e f = record { held = inl refl; safe = omega arith; first = λ i h u. absurd (wins t q (s .zones) .none .0 e i h u) }
+
+    setpoint-absent : inFailsafe s t ≡ true → (q : ℕ) → isLimit q ≡ false → valueAt s t q ≡ Absent
+    unfolding valueAt failsafeValue
+    setpoint-absent r q l = rw (down, r, l) (go (supported q))
+      where
+        go : (b : Bool) → cond b Absent Absent ≡ Absent
+        go true = refl
+        go false = refl
+
+    in-row : t < s .since + s .settings .duration → Failsafe s t
+    unfolding stateAt valueAt failsafeValue
     in-row h =
         let r : inFailsafe s t ≡ true = row-is ∙ lt-ltb t (s .since + s .settings .duration) h in
-        (rw r, λ q e. rw (e, down, r))
+        record { state = rw r; limit = λ q e l. (smallestWith (getD (s .settings .failsafe) q 0) (best q), rw (e, down, r, l), smallest-source q l); setpoint = setpoint-absent r }
 
     out-of-row : inFailsafe s t ≡ false → (q : ℕ) → valueAt s t q ≡ Absent
     unfolding valueAt

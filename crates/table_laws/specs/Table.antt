@@ -10,7 +10,7 @@ use Rattle.messages.specs.Numbers.{CONTROLLED, LIMITED, FAILSAFE, OVERRIDE}
 use Rattle.messages.specs.declared.Amount.the-variants.{Absent, Is}
 use Rattle.store.specs.Sizes.{helds, most}
 use Rattle.store.specs.Zones.{idOf, rankOf, freeZone, isJoined, anyJoined, anyUp, heldOf}
-use Rattle.holds.specs.Holds.{isLimit, directionOf, supports, noClaim, claimOf, goesBefore, winner, Situation, inFailsafe, failsafeValue, valueAt, present, stateAt}
+use Rattle.holds.specs.Holds.{isLimit, directionOf, supports, noClaim, claimOf, goesBefore, winner, Situation, inFailsafe, valueAt, present, stateAt}
 use Rattle.messages.specs.Refusals.{firstOf}
 use Rattle.store.specs.declared.Zone.{Zone}
 use Rattle.store.specs.declared.Settings.{Settings}
@@ -51,9 +51,21 @@ pub record SomeUp (s : Situation) (t q : ℕ) : Type 0 where
   pub setpoint : isLimit q ≡ false → BestSetpoint s t q
   pub absent : supports (s .settings .directions) (directionOf q) ≡ true → (valueAt s t q ≡ Absent) ↔ Each t q (s .zones) (λ x. ⊥)
 
--- the second and third rows: the failsafe limit holds below since + duration, and from that second on nothing does
+-- "the smallest of the failsafe limit and all unexpired limits of joined zones": some source holds it, and none is smaller
+pub record SmallestSource (s : Situation) (t q v : ℕ) : Type 0 where
+  pub held : (v ≡ getD (s .settings .failsafe) q 0) ⊎ Some t q (s .zones) (λ x. heldOf x q .value ≡ v)
+  pub safe : v ≤ getD (s .settings .failsafe) q 0
+  pub first : Each t q (s .zones) (λ y. v ≤ heldOf y q .value)
+
+-- the second row: in a supported direction there is a limit; setpoints are absent
+pub record Failsafe (s : Situation) (t : ℕ) : Type 0 where
+  pub state : stateAt s t ≡ FAILSAFE
+  pub limit : (q : ℕ) → supports (s .settings .directions) (directionOf q) ≡ true → isLimit q ≡ true → (v : ℕ) × (valueAt s t q ≡ Is v) × SmallestSource s t q v
+  pub setpoint : (q : ℕ) → isLimit q ≡ false → valueAt s t q ≡ Absent
+
+-- the second and third rows: the failsafe holds below since + duration, and from that second on nothing does
 pub record NoneUp (s : Situation) (t : ℕ) : Type 0 where
-  pub before : t < s .since + s .settings .duration → (stateAt s t ≡ FAILSAFE) × ((q : ℕ) → supports (s .settings .directions) (directionOf q) ≡ true → valueAt s t q ≡ failsafeValue (s .settings) q)
+  pub before : t < s .since + s .settings .duration → Failsafe s t
   pub past : s .since + s .settings .duration ≤ t → (stateAt s t ≡ FAILSAFE → ⊥) × ((q : ℕ) → valueAt s t q ≡ Absent)
 
 -- "FAILSAFE in the second row; else OVERRIDE if set; else LIMITED if a limit is present; else CONTROLLED if a zone is up"; else AUTONOMOUS, which is 0
@@ -74,3 +86,18 @@ pub record Table (s : Situation) (t : ℕ) : Type 0 where
   pub noneJoined : anyJoined (s .zones) ≡ false → (q : ℕ) → valueAt s t q ≡ Absent
   pub unsupported : (q : ℕ) → supports (s .settings .directions) (directionOf q) ≡ false → valueAt s t q ≡ Absent
   pub state : StateOrder s t
+
+-- two situations that differ in links, and in since when none is up, alone
+pub record ButForLinks (a b : Situation) : Type 0 where
+  pub settings : a .settings ≡ b .settings
+  pub override : a .override ≡ b .override
+  pub slots : length (a .zones) ≡ length (b .zones)
+  pub seats : (i : ℕ) → getD (a .zones) i freeZone .seat ≡ getD (b .zones) i freeZone .seat
+  pub held : (i : ℕ) → getD (a .zones) i freeZone .held ≡ getD (b .zones) i freeZone .held
+
+-- "Losing the link must not loosen a limit": while the failsafe lasts, a limit that held with a link up holds without one, and is no larger
+abbrev pub LosingLinks : Type 0
+LosingLinks =
+    (lost linked : Situation) → ButForLinks lost linked → anyUp (lost .zones) ≡ false → anyUp (linked .zones) ≡ true
+    → (t : ℕ) → t < lost .since + lost .settings .duration
+    → (q v : ℕ) → isLimit q ≡ true → valueAt linked t q ≡ Is v → (w : ℕ) × (valueAt lost t q ≡ Is w) × (w ≤ v)

@@ -10,4 +10,4 @@ pub none-met-spec : {M : Type 1} → statement M
 none-met-spec =
     tie.close
     (tie.spec
-    (λ c. (record { lowSize = refl; seatSize = refl; leadSize = refl; low = none-low; lead = none-lead }, refl)))
+    (λ c. (λ n. record { lowSize = refl; seatSize = refl; leadSize = refl; low = none-low; lead = λ k h l. none-lead k h }, refl)))

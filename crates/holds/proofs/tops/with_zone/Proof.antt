@@ -3,6 +3,7 @@ use mathlib.Core.Bool.{true, false}
 use mathlib.Core.Path.{_≡_}
 use borrow.Author.Needs.{needs}
 use borrow.Author.Tests.{eq-eqb, ne-eqb}
+use Rattle.store.specs.Sizes.{helds}
 use Rattle.store.specs.Zones.{idOf, isJoined}
 use Rattle.holds.proofs.Claims.{free-adds, free-ends, zone-adds, zone-ends}
 use Rattle.holds.proofs.tops.with_zone.Statement.{statement}
@@ -15,7 +16,8 @@ with-zone-spec =
     (tie.spec
     (λ c.
     let at-args = c .before .before .args in
-    let free : isJoined (at-args .zone) ≡ false = rw (eq-eqb _ _ (c .if1 .taken)) in (free-adds _ _ _ free, free-ends _ _ (at-args .g) free))
+    let free : isJoined (at-args .zone) ≡ false = rw (eq-eqb _ _ (c .if1 .taken)) in
+    (free-adds _ _ _ helds free, free-ends _ _ (at-args .g) helds free))
     (λ c κs. search needs) (λ c κs. search needs)
     (λ c.
     let at-if1 = c .before .before .if1 in

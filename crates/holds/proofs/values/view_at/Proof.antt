@@ -1,42 +1,81 @@
--- One pass gives what is shown and the next end of it; the other rows hang on the failsafe alone.
+-- The row of the table of links decides; a pass over the zones gives the first row and the second their numbers and the next end.
 use mathlib.Core.Bool.{true, false}
-use mathlib.Core.Path.{_≡_}
+use mathlib.Core.Path.{_≡_, _∙_}
 use borrow.Author.Needs.{needs}
-use Rattle.store.specs.Zones.{anyUp}
-use Rattle.store.specs.Words.{zonesOf}
-use Rattle.holds.specs.Holds.{situationOf}
+use Rattle.store.specs.Zones.{anyJoined, anyUp}
+use Rattle.holds.specs.Holds.{winner, Situation, situationOf}
 use Rattle.store.proofs.Tests.{via}
-use Rattle.holds.proofs.Shows.{values-up, values-down, up-of, down-of, joined-of, due-up, due-down}
+use Rattle.holds.proofs.Shows.{values-up, values-down, values-none, up-of, down-of, none-of, due-up, due-down, due-none}
 use Rattle.holds.proofs.values.view_at.Statement.{statement}
 use Rattle.holds.proofs.values.view_at.Tie as tie
+
+link-row-requires : tie.Need-link-row-requires
+link-row-requires c κs = search needs
+
+tops-requires : tie.Need-tops-requires
+tops-requires c κs = search needs
+
+values-up-requires : tie.Need-values-up-requires
+values-up-requires c κs = search needs
+
+returns : tie.Need-returns
+returns c =
+    let at-if1 = c .before .before .if1 in
+    let at-link-row = c .before .before .before .link-row in
+    let at-args = c .before .before .before .before .args in
+    let s : Situation = situationOf (at-args .d .now) in
+    let up : anyUp (s .zones) ≡ true = up-of s (via (at-link-row .ensures) (at-if1 .taken)) in
+    rw (c .values-up .ensures, values-up s (at-args .t) up (c .before .tops .result) (c .before .tops .ensures .0), c .before .tops .ensures .1, due-up s (at-args .t) up)
+
+since-requires : tie.Need-since-requires
+since-requires c κs = search needs
+
+settings-at-requires : tie.Need-settings-at-requires
+settings-at-requires c κs = search needs
+
+failsafe-end-requires : tie.Need-failsafe-end-requires
+failsafe-end-requires c κs = search needs
+
+limits-requires : tie.Need-limits-requires
+limits-requires c κs = search needs
+
+values-down-requires : tie.Need-values-down-requires
+values-down-requires c κs = search needs
+
+returns-2 : tie.Need-returns-2
+returns-2 c =
+    let at-failsafe-end = c .before .before .failsafe-end in
+    let at-settings-at = c .before .before .before .settings-at in
+    let at-since = c .before .before .before .before .since in
+    let at-if2 = c .before .before .before .before .before .if2 in
+    let at-link-row = c .before .before .before .before .before .before .before .link-row in
+    let at-args = c .before .before .before .before .before .before .before .before .args in
+    let s : Situation = situationOf (at-args .d .now) in
+    let down : (anyUp (s .zones) ≡ false) × (anyJoined (s .zones) ≡ true) = down-of s (via (at-link-row .ensures) (at-if2 .taken)) in
+    rw (
+      c .values-down .ensures (λ q. winner (at-args .t) q (s .zones)) (c .before .limits .ensures .0) ∙ values-down s (at-args .t) (down .0) (down .1),
+      c .before .limits .ensures .1,
+      at-failsafe-end .ensures,
+      at-since .ensures,
+      at-settings-at .ensures,
+      due-down s (at-args .t) (down .0) (down .1),
+    )
+
+values-none-requires : tie.Need-values-none-requires
+values-none-requires c κs = search needs
+
+returns-3 : tie.Need-returns-3
+returns-3 c =
+    let at-if1 = c .before .before .if1 in
+    let at-link-row = c .before .before .before .link-row in
+    let at-args = c .before .before .before .before .args in
+    let s : Situation = situationOf (at-args .d .now) in
+    let down : (anyUp (s .zones) ≡ false) × (anyJoined (s .zones) ≡ false) = none-of s (rw (← at-link-row .ensures) (at-if1 .left)) (rw (← at-link-row .ensures) (c .before .if2 .left)) in
+    rw (c .values-none .ensures ∙ values-none s (at-args .t) (down .0) (down .1), due-none s (at-args .t) (down .0) (down .1))
 
 pub view-at-spec : {M : Type 1} → statement M
 view-at-spec =
     tie.close
     (tie.spec
-    (λ c κs. search needs) (λ c κs. search needs) (λ c κs. search needs)
-    (λ c.
-    let at-if1 = c .before .before .if1 in
-    let at-link-row = c .before .before .before .link-row in
-    let at-args = c .before .before .before .before .args in
-    let up : anyUp (zonesOf (at-args .d .now)) ≡ true = up-of (situationOf (at-args .d .now)) (via (at-link-row .ensures) (at-if1 .taken)) in
-    rw (
-      c .values-up .ensures,
-      values-up (situationOf (at-args .d .now)) (at-args .t) up (c .before .tops .result) (c .before .tops .ensures .0),
-      c .before .tops .ensures .1,
-      due-up (situationOf (at-args .d .now)) (at-args .t) up,
-    ))
-    (λ c κs. search needs) (λ c κs. search needs)
-    (λ c.
-    let at-if1 = c .before .before .if1 in
-    let at-link-row = c .before .before .before .link-row in
-    let at-args = c .before .before .before .before .args in
-    let down : anyUp (zonesOf (at-args .d .now)) ≡ false = down-of (situationOf (at-args .d .now)) (rw (← at-link-row .ensures) (at-if1 .left)) in
-    rw (
-      c .before .values-down .ensures,
-      c .next-down .ensures,
-      at-link-row .ensures,
-      joined-of (situationOf (at-args .d .now)) down,
-      values-down (situationOf (at-args .d .now)) (at-args .t) down,
-      due-down (situationOf (at-args .d .now)) (at-args .t) down,
-    )))
+    link-row-requires tops-requires values-up-requires returns since-requires settings-at-requires failsafe-end-requires limits-requires values-down-requires returns-2 values-none-requires
+    returns-3)

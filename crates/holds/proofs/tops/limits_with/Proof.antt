@@ -1,0 +1,45 @@
+-- Each turn meets one slot's limits, the given record in its slot's place.
+use Prim.Native.Nat.{_-_, _≤_}
+use mathlib.Core.Path.{refl}
+use native.Mathlib.Omega.{arith}
+use borrow.Author.Needs.{needs}
+use lib.ListN.{set}
+use Rattle.store.specs.Sizes.{slots, end}
+use Rattle.holds.specs.Holds.{lows}
+use Rattle.holds.specs.Dues.{nearest}
+use Rattle.store.specs.Words.{zonesOf}
+use Rattle.holds.proofs.Placed.{placed-length}
+use Rattle.holds.proofs.Claims.{Passed, pass-none, pass-turn, pass-end}
+use Rattle.holds.proofs.tops.limits_with.Statement.{statement}
+use Rattle.holds.proofs.tops.limits_with.Tie as tie
+
+abbrev Inv-loop : tie.InvT-loop
+Inv-loop d slot zone t g₀ i₀ g i = (i ≤ slots) × Passed lows end t (set (zonesOf d) slot zone) i g
+
+abbrev μ-loop : tie.MeasureT-loop
+μ-loop d slot zone t g₀ i₀ g i = slots - i
+
+pub limits-with-spec : {M : Type 1} → statement M
+unfolding nearest
+limits-with-spec =
+    tie.close
+    (tie.spec
+    Inv-loop μ-loop (λ c κs. search needs)
+    (λ c. (
+      omega arith,
+      pass-none lows end (c .before .args .t)
+          (set (zonesOf (c .before .args .d .now)) (c .before .args .slot) (c .before .args .zone)) _ (c .none-met .ensures .0) (c .none-met .ensures .1),
+    ))
+    (λ c κs. omega arith) (λ c. omega arith) (λ c. omega arith)
+    (λ c.
+    let at-loop = c .before .before .loop in
+    let at-args = c .before .before .before .before .args in (
+      omega arith,
+      pass-turn lows end (at-args .t) (set (zonesOf (at-args .d .now)) (at-args .slot) (at-args .zone)) (at-loop .i) _ _ _
+          (omega (arith, placed-length (at-args .d .now) (at-args .slot) (at-args .zone))) refl (at-loop .inv .1) (c .with-slot-limits .ensures .0)
+          (c .with-slot-limits .ensures .1),
+    ))
+    (λ c.
+    let at-args = c .before .before .before .args in
+    pass-end lows end (at-args .t) (set (zonesOf (at-args .d .now)) (at-args .slot) (at-args .zone)) (c .before .loop .i) _
+    (omega (arith, placed-length (at-args .d .now) (at-args .slot) (at-args .zone))) (c .before .loop .inv .1)))
