@@ -12,7 +12,7 @@ ghost use Rattle.conformance.specs.Report.{flat};
 use crate::Inputs;
 use crate::attributes::flag;
 use crate::attributes::row_at;
-use crate::rules::broken_bit;
+use crate::bit_rules::broken_bit;
 use crate::sizes::ATTRIBUTE_GROUP;
 use crate::sizes::BIT_GROUPS;
 use crate::sizes::BITS;

@@ -3,7 +3,7 @@ mod attributes;
 mod breaches;
 mod endpoints;
 mod features;
-mod rules;
+mod bit_rules;
 mod sizes;
 
 ghost use mathlib.Core.Path.{_≡_};

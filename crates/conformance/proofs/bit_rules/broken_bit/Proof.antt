@@ -3,8 +3,8 @@ use mathlib.Core.Path.{_≡_}
 use native.Mathlib.Omega.{arith}
 use Rattle.conformance.specs.Rules.{bitRules}
 use borrow.Author.Needs.{needs}
-use Rattle.conformance.proofs.rules.broken_bit.Statement.{statement}
-use Rattle.conformance.proofs.rules.broken_bit.Tie as tie
+use Rattle.conformance.proofs.bit_rules.broken_bit.Statement.{statement}
+use Rattle.conformance.proofs.bit_rules.broken_bit.Tie as tie
 
 pub broken-bit-spec : {M : Type 1} → statement M
 unfolding bitRules

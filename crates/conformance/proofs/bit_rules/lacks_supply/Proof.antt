@@ -1,8 +1,8 @@
 -- The tests are the definition's, bit by bit.
 use Rattle.conformance.specs.Rules.{lacksSupply}
 use borrow.Author.Needs.{needs}
-use Rattle.conformance.proofs.rules.lacks_supply.Statement.{statement}
-use Rattle.conformance.proofs.rules.lacks_supply.Tie as tie
+use Rattle.conformance.proofs.bit_rules.lacks_supply.Statement.{statement}
+use Rattle.conformance.proofs.bit_rules.lacks_supply.Tie as tie
 
 pub lacks-supply-spec : {M : Type 1} → statement M
 unfolding lacksSupply

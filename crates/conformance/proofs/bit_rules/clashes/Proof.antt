@@ -1,8 +1,8 @@
 -- The tests are the definition's, bit by bit.
 use Rattle.conformance.specs.Rules.{clashes}
 use borrow.Author.Needs.{needs}
-use Rattle.conformance.proofs.rules.clashes.Statement.{statement}
-use Rattle.conformance.proofs.rules.clashes.Tie as tie
+use Rattle.conformance.proofs.bit_rules.clashes.Statement.{statement}
+use Rattle.conformance.proofs.bit_rules.clashes.Tie as tie
 
 pub clashes-spec : {M : Type 1} → statement M
 unfolding clashes

@@ -1,7 +1,7 @@
 -- The two answers are the two choices of the definition.
 use borrow.Author.Tests.{eq-eqb, ne-eqb}
-use Rattle.conformance.proofs.rules.need.Statement.{statement}
-use Rattle.conformance.proofs.rules.need.Tie as tie
+use Rattle.conformance.proofs.bit_rules.need.Statement.{statement}
+use Rattle.conformance.proofs.bit_rules.need.Tie as tie
 
 pub need-spec : {M : Type 1} → statement M
 need-spec =

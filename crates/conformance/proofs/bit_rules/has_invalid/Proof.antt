@@ -1,8 +1,8 @@
 -- The bit is forbidden and set.
 use Rattle.conformance.specs.Rules.{hasInvalid}
 use borrow.Author.Needs.{needs}
-use Rattle.conformance.proofs.rules.has_invalid.Statement.{statement}
-use Rattle.conformance.proofs.rules.has_invalid.Tie as tie
+use Rattle.conformance.proofs.bit_rules.has_invalid.Statement.{statement}
+use Rattle.conformance.proofs.bit_rules.has_invalid.Tie as tie
 
 pub has-invalid-spec : {M : Type 1} → statement M
 unfolding hasInvalid

@@ -1,8 +1,8 @@
 -- The bit is required and clear.
 use Rattle.conformance.specs.Rules.{lacksRequired}
 use borrow.Author.Needs.{needs}
-use Rattle.conformance.proofs.rules.lacks_required.Statement.{statement}
-use Rattle.conformance.proofs.rules.lacks_required.Tie as tie
+use Rattle.conformance.proofs.bit_rules.lacks_required.Statement.{statement}
+use Rattle.conformance.proofs.bit_rules.lacks_required.Tie as tie
 
 pub lacks-required-spec : {M : Type 1} → statement M
 unfolding lacksRequired

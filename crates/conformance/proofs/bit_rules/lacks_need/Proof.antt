@@ -6,8 +6,8 @@ use lib.Dec.{eqb}
 use Rattle.conformance.specs.Features.{CORE, EMOB, V2X}
 use Rattle.conformance.specs.Rules.{lacksNeed}
 use borrow.Author.Needs.{needs}
-use Rattle.conformance.proofs.rules.lacks_need.Statement.{statement}
-use Rattle.conformance.proofs.rules.lacks_need.Tie as tie
+use Rattle.conformance.proofs.bit_rules.lacks_need.Statement.{statement}
+use Rattle.conformance.proofs.bit_rules.lacks_need.Tie as tie
 
 -- src/rules.rt:28:27
 small : (t : Bool) → cond t EMOB CORE < 64
