@@ -460,6 +460,30 @@ static void set_frame(uint64_t command, uint64_t consumption, uint64_t productio
     ask.in.n = first_kernel.write_request(&r, ask.in.at, MIX_MOST).length;
 }
 
+static void crowd_plans(void)
+{
+    for (unsigned i = 0; i < 6; i++) {
+        ask.call = PLAN;
+        ask.time = clock_now + mix_below(2);
+        ask.room = i == 5 ? 6 * PLAIN_ROWS : mix_below(6 * PLAIN_ROWS + 2);
+        both();
+    }
+}
+
+/* Every link goes while limits stand: up to 17 rows in the failsafe. */
+static void crowd_lost(void)
+{
+    for (unsigned i = 0; i < 8; i++) {
+        ask.call = LOST;
+        ask.zone = 1 + i;
+        ask.time = clock_now;
+        both();
+    }
+    ask.call = ASK;
+    both();
+    crowd_plans();
+}
+
 /* Eight zones whose values give way to one another, so that plans grow long: up to 32 rows where all parts differ. */
 static void crowd(void)
 {
@@ -484,12 +508,10 @@ static void crowd(void)
             ask.in.n = first_kernel.write_request(&r, ask.in.at, MIX_MOST).length;
             both();
         }
-    for (unsigned i = 0; i < 6; i++) {
-        ask.call = PLAN;
-        ask.time = clock_now + mix_below(2);
-        ask.room = i == 5 ? 6 * PLAIN_ROWS : mix_below(6 * PLAIN_ROWS + 2);
-        both();
-    }
+    if (mix_chance(300))
+        crowd_lost();
+    else
+        crowd_plans();
     if (mix_chance(500)) {
         ask.call = FRAME;
         ask.zone = 1 + mix_below(8);

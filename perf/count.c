@@ -224,6 +224,17 @@ static void rows_8(void)
 
 static void rows_32(void) { zones(8, 1); }
 
+/* Every link lost, the limits below the failsafe limit still standing. */
+static void eight_lost(uint64_t step)
+{
+    zones(8, step);
+    for (uint64_t i = 0; i < 8; i++)
+        CALL(lost)(DEVICE, i + 1, NOW);
+}
+
+static void lost_zones(void) { eight_lost(0); }
+static void rows_lost(void) { eight_lost(1); }
+
 /* ---- the calls ---- */
 
 static void frames(uint64_t times)
@@ -342,9 +353,11 @@ static const struct {
     {"ask0", "ask, no zone", 0, no_zone, asks},
     {"ask2", "ask, 2 zones, all values held", 0, two_zones, asks},
     {"ask8", "ask, 8 zones, all values held", 0, eight_zones, asks},
+    {"asklost", "ask, 8 zones, all links lost", 0, lost_zones, asks},
     {"plan1", "plan, 1 row", 0, rows_1, plans},
     {"plan8", "plan, 8 rows", 0, rows_8, plans},
     {"plan32", "plan, 32 rows", 0, rows_32, plans},
+    {"planlost", "plan, 9 rows, all links lost", 0, rows_lost, plans},
     {"join0", "join and leave, alone", 0, no_zone, joins_and_leaves},
     {"join7", "join and leave, 7 others", 0, seven_zones, joins_and_leaves},
     {"lost", "lost and back, 2 zones", 0, two_zones, losts_and_backs},

@@ -661,9 +661,9 @@ static inline uint64_t zones_hold(const struct plain *d, uint64_t time, int64_t 
     return next;
 }
 
-/* No link up: the smallest of the failsafe limit and all unexpired limits; setpoints are absent. Gives back the next second at
-   which a limit or the failsafe expires. */
-static inline uint64_t failsafe_holds(const struct plain *d, uint64_t time, int64_t *v)
+/* No link up: the smallest of the failsafe limit and all unexpired limits. Gives back the next second at which a limit or the
+   failsafe expires. Not inlined, so that the row of a link that is up stays in registers. */
+static __attribute__((noinline)) uint64_t failsafe_holds(const struct plain *d, uint64_t time, int64_t *limit)
 {
     uint64_t least[2] = {d->settings.failsafe[0], d->settings.failsafe[1]}, next = d->since + d->settings.duration;
     for (const struct plain_zone *z = d->zones; z < d->zones + PLAIN_ZONES; z++) {
@@ -679,10 +679,8 @@ static inline uint64_t failsafe_holds(const struct plain *d, uint64_t time, int6
             }
         }
     }
-    v[0] = 3;
     for (unsigned i = 0; i < 2; i++)
-        if (supports(d, i))
-            v[1 + i] = (int64_t)least[i];
+        limit[i] = supports(d, i) ? (int64_t)least[i] : -1;
     return next;
 }
 
@@ -692,8 +690,14 @@ static inline uint64_t values(const struct plain *d, uint64_t time, int64_t *v)
     if (d->up > 0)
         return zones_hold(d, time, v);
     v[1] = v[2] = v[3] = v[4] = -1;
-    if (d->joined > 0 && time < d->since + d->settings.duration)
-        return failsafe_holds(d, time, v);
+    if (d->joined > 0 && time < d->since + d->settings.duration) {
+        int64_t limit[2];
+        uint64_t next = failsafe_holds(d, time, limit);
+        v[0] = 3;
+        v[1] = limit[0];
+        v[2] = limit[1];
+        return next;
+    }
     v[0] = d->overridden ? 4 : 0;
     return FOREVER;
 }
