@@ -73,7 +73,7 @@ fn unless_below(v: u64, least: u64) -> u64
     v
 }
 
-// The same as `wide`, for arguments of four and eight bytes.
+// The rest of `wide`: four bytes (26), eight bytes (27), and what has no argument.
 fn wider(s: &[u8], at: usize, info: u64) -> u64
     requires { ⌜ (at ≤ length (now s)) × (25 < info) ⌝ }
     ensures { λ r. ⌜ r ≡ argOrZero (argAt (now (s .entry)) at info) ⌝ }
@@ -94,14 +94,12 @@ fn wider(s: &[u8], at: usize, info: u64) -> u64
     0
 }
 
-// The argument of a head of more than one byte; 0 where it is not there or not in shortest form.
+// The argument behind a first byte, in the order of RFC 8949, section 3: additional information 24, 25, 26, 27, then the rest; 0 to 23 are
+// the argument themselves. It is 0 where its bytes are not there, or a shorter head would hold it.
 pub(crate) fn wide(s: &[u8], at: usize, info: u64) -> u64
     requires { ⌜ (at ≤ length (now s)) × (24 ≤ info) ⌝ }
     ensures { λ r. ⌜ r ≡ argOrZero (argAt (now (s .entry)) at info) ⌝ }
 {
-    if 25 < info {
-        return wider(s, at, info);
-    }
     let left = s.len() - at;
     if info == 24 {
         if left < 1 {
@@ -109,10 +107,13 @@ pub(crate) fn wide(s: &[u8], at: usize, info: u64) -> u64
         }
         return unless_below(s[at] as u64, 24);
     }
-    if left < 2 {
-        return 0;
+    if info == 25 {
+        if left < 2 {
+            return 0;
+        }
+        return unless_below(get_u16(s, at), 256);
     }
-    unless_below(get_u16(s, at), 256)
+    wider(s, at, info)
 }
 
 // The head at `at`.

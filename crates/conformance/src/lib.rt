@@ -1,9 +1,9 @@
 // The conformance report: which of document 01's six groups of rules a device breaks, and for which bit or attribute.
 mod attributes;
+mod bit_rules;
 mod breaches;
 mod endpoints;
 mod features;
-mod bit_rules;
 mod sizes;
 
 ghost use mathlib.Core.Path.{_≡_};
