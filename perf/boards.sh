@@ -143,6 +143,34 @@ deepest() { # TARGET
     echo "$most"
 }
 
+# All instructions of one run on the emulated Cortex-M4, counted as perf/README.md says of the kit's emulator.
+m4_instructions() { # PROGRAM CASE TIMES
+    local pipe=$boards/trace
+    rm -f "$pipe"
+    mkfifo "$pipe"
+    semihosting "qemu-system-arm -singlestep -d exec,nochain -D $pipe" mps2-an386 "$@" >/dev/null &
+    grep -c '^Trace' "$pipe"
+    wait $! || die "$* ended with status $?"
+}
+
+# Instructions per call on the Cortex-M4, plain.c beside the archive that run_boards has left.
+board_count() { # [CASE...]
+    local at=$boards/cortex-m4 names=() name kernel few many
+    [ -f "$at/libcekarum.a" ] || die "no $at/libcekarum.a (perf/run boards)"
+    board_cc cortex-m4 "$here/count.c" "$at/count_plain.o"
+    board_link cortex-m4 "$at/count_plain" "$at/count_plain.o" "$at/plain.o"
+    [ $# -gt 0 ] || mapfile -t names < <(board_run cortex-m4 "$at/count" | cut -f1)
+    for name in "$@" "${names[@]}"; do
+        printf '%s' "$name"
+        for kernel in count_plain count; do
+            few=$(m4_instructions "$at/$kernel" "$name" 10)
+            many=$(m4_instructions "$at/$kernel" "$name" 30)
+            printf ' %d' $(((many - few + 10) / 20))
+        done
+        echo
+    done
+}
+
 # What a target's archive takes, where that can be measured.
 sizes() { # TARGET
     local code plain kept stack
@@ -174,6 +202,15 @@ board_build() { # TARGET
     board_link "$1" "$at/compare" "$at/compare.o" "$at/mix.o" "$at/kernel_plain.o" "$at/plain.o" "$at/kernel_proved.o" "$at/libcekarum.a"
 }
 
+# The bare board of examples/, built as docs/BOARDS.md says and run for its first seconds. It never ends by itself.
+board_example() {
+    local at=$boards/cortex-m4
+    arm-none-eabi-gcc -mcpu=cortex-m4 -mthumb -Os -Wall -Wextra -specs=picolibc.specs -nostartfiles -T "$root/examples/board_m4.ld" -I "$at" \
+        "$root/examples/board_m4.c" "$at/libcekarum.a" -Wl,--gc-sections -o "$at/board" 2>"$at/link.log" || { cat "$at/link.log"; return 1; }
+    timeout 15 qemu-system-arm -M mps2-an386 -display none -monitor none -serial stdio -kernel "$at/board" </dev/null >"$at/board.out" 2>/dev/null || true
+    cmp "$root/examples/board_m4.txt" "$at/board.out" && echo "cortex-m4: examples/board_m4.c prints what it should"
+}
+
 # Builds and runs one target; what differs from the first target's text is a failure.
 board() { # TARGET CALLS
     local at=$boards/$1 first=$boards/x86_64-linux status=0
@@ -183,6 +220,7 @@ board() { # TARGET CALLS
     echo "$1: $(tail -n 1 "$at/compare.out")"
     [ "$status" -eq 0 ] || { echo "$1: ended with status $status"; return 1; }
     sizes "$1"
+    [ "$1" != cortex-m4 ] || board_example || return 1
     ! natively "$1" || board_run "$1" "$at/compare" $((10 * $2)) 2 | sed -n "s/^.* compared, .*/$1, natively: &/p" || return 1
     cmp "$first/driver.out" "$at/driver.out" && cmp "$first/compare.out" "$at/compare.out"
 }
