@@ -8,6 +8,10 @@
 #include <stdlib.h>
 #include <string.h>
 
+/* Numbers as printf takes them on every board. */
+#define U(n) ((unsigned long long)(n))
+#define S(n) ((long long)(n))
+
 enum { OUT = 128, ROWS = 6 * PLAIN_ROWS + 16, PAIRS = 2 * PLAIN_PAIRS + 16, CALLS = 16, NUMBERS = 19 };
 
 enum call {
@@ -200,14 +204,15 @@ static void complain(const char *what)
     differ++;
     if (differ > 10)
         return;
-    printf("call %lu, %s: %s\n", compared, call_names[ask.call], what);
-    printf("  zone %lu time %lu a %lu b %lu room %lu\n", ask.zone, ask.time, ask.a, ask.b, ask.room);
+    printf("call %llu, %s: %s\n", U(compared), call_names[ask.call], what);
+    printf("  zone %llu time %llu a %llu b %llu room %llu\n", U(ask.zone), U(ask.time), U(ask.a), U(ask.b), U(ask.room));
     if (ask.call == FRAME || ask.call == READ_REQUEST || ask.call == READ_RESPONSE)
         print_bytes("in", ask.in.at, ask.in.n);
     for (unsigned i = 0; i < 2; i++) {
         struct side *s = &sides[i];
-        printf("  %s: number %lu, length %lu, values %ld %ld %ld %ld %ld\n", s->k->name, s->number, s->length, s->value[0],
-               s->value[1], s->value[2], s->value[3], s->value[4]);
+        printf("  %s: number %llu, length %llu, values", s->k->name, U(s->number), U(s->length));
+        for (unsigned j = 0; j < 5; j++)
+            printf(" %lld%s", S(s->value[j]), j == 4 ? "\n" : "");
         if (s->length > 0 && s->length <= OUT && ask.call != PLAN && ask.call != REPORT)
             print_bytes("out", s->out, s->length);
     }
@@ -299,7 +304,7 @@ static uint64_t some_time(void)
 
 static uint64_t some_zone(void)
 {
-    static const uint64_t odd[] = {0, 255, 256, 257, 259, 65536 + 3, (1UL << 32) + 4, UINT64_MAX, 254};
+    static const uint64_t odd[] = {0, 255, 256, 257, 259, 65536 + 3, (UINT64_C(1) << 32) + 4, UINT64_MAX, 254};
     if (mix_chance(30))
         return odd[mix_below(sizeof odd / sizeof *odd)];
     return 1 + mix_below(mix_chance(800) ? 8 : 12);
@@ -537,16 +542,16 @@ static void print_counts(void)
             if (v == 0)
                 printf("       .");
             else
-                printf(" %7lu", v);
+                printf(" %7llu", U(v));
         }
         putchar('\n');
     }
     printf("frames refused with a response:");
     for (unsigned n = 1; n < NUMBERS; n++)
         if (answered[n] > 0)
-            printf(" %u: %lu (and %lu without room)", n, answered[n], unanswered[n]);
-    printf("\nlongest plan %lu rows, longest report %lu pairs, longest accepted frame %lu bytes\n", most_rows, most_pairs,
-           longest_in);
+            printf(" %u: %llu (and %llu without room)", n, U(answered[n]), U(unanswered[n]));
+    printf("\nlongest plan %llu rows, longest report %llu pairs, longest accepted frame %llu bytes\n", U(most_rows), U(most_pairs),
+           U(longest_in));
     printf("every number reached: %s\n", all ? "yes" : "NO");
 }
 
@@ -573,6 +578,6 @@ int main(int argc, char **argv)
         both();
     }
     print_counts();
-    printf("%lu compared, %lu differ\n", compared, differ);
+    printf("%llu compared, %llu differ\n", U(compared), U(differ));
     return differ != 0;
 }

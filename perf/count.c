@@ -378,18 +378,34 @@ __attribute__((noinline)) static void run_once(void) { to_run(1); }
 
 __attribute__((noinline)) static void nothing(uint64_t times) { kept = times; }
 
+/* Calls run_once on the stack below an address. */
+static void on_stack(uint8_t *top)
+{
+#if defined __x86_64__
+    __asm__ volatile("movq %%rsp, %%rbx\n\tmovq %0, %%rsp\n\tcall *%1\n\tmovq %%rbx, %%rsp"
+                     :
+                     : "r"(top), "r"(run_once)
+                     : "rbx", "rax", "rcx", "rdx", "rsi", "rdi", "r8", "r9", "r10", "r11", "xmm0", "xmm1", "xmm2", "xmm3", "xmm4",
+                       "xmm5", "xmm6", "xmm7", "xmm8", "xmm9", "xmm10", "xmm11", "xmm12", "xmm13", "xmm14", "xmm15", "cc",
+                       "memory");
+#elif defined __arm__
+    __asm__ volatile("mov r4, sp\n\tmov sp, %0\n\tblx %1\n\tmov sp, r4"
+                     :
+                     : "r"(top), "r"(run_once)
+                     : "r4", "r0", "r1", "r2", "r3", "r12", "lr", "cc", "memory");
+#else
+    (void)top; /* not measured there */
+    run_once();
+#endif
+}
+
 /* Bytes of stack below the caller's that run_once reached. */
 static size_t stack_of(void (*run)(uint64_t))
 {
     size_t untouched = 0;
     memset(own_stack, 0xa5, sizeof own_stack);
     to_run = run;
-    __asm__ volatile("movq %%rsp, %%rbx\n\tmovq %0, %%rsp\n\tcall *%1\n\tmovq %%rbx, %%rsp"
-                     :
-                     : "r"(own_stack + DEEP), "r"(run_once)
-                     : "rbx", "rax", "rcx", "rdx", "rsi", "rdi", "r8", "r9", "r10", "r11", "xmm0", "xmm1", "xmm2", "xmm3", "xmm4",
-                       "xmm5", "xmm6", "xmm7", "xmm8", "xmm9", "xmm10", "xmm11", "xmm12", "xmm13", "xmm14", "xmm15", "cc",
-                       "memory");
+    on_stack(own_stack + DEEP);
     while (untouched < DEEP && own_stack[untouched] == 0xa5)
         untouched++;
     return DEEP - untouched;
@@ -408,7 +424,7 @@ int main(int argc, char **argv)
         if (strcmp(argv[2], "stack") == 0) {
             size_t base = stack_of(nothing);
             cases[i].before();
-            printf("%lu\n", stack_of(cases[i].run) - base);
+            printf("%u\n", (unsigned)(stack_of(cases[i].run) - base));
         } else {
             cases[i].run(strtoul(argv[2], NULL, 10));
         }

@@ -28,6 +28,7 @@ bool mix_chance(unsigned of_thousand)
 }
 
 #define PICK(list) ((list)[mix_below(sizeof(list) / sizeof *(list))])
+#define BIT(n) (UINT64_C(1) << (n))
 
 /* ---- numbers near the edges ---- */
 
@@ -35,8 +36,8 @@ static uint64_t edge(void)
 {
     static const uint64_t edges[] = {0,          1,          2,          3,          4,           5,
                                      14,         22,         23,         24,         255,         256,
-                                     65535,      65536,      4294967295, 4294967296, 1UL << 40,   (1UL << 63) - 1,
-                                     1UL << 63,  UINT64_MAX, 9,          10,         UINT64_MAX - 1};
+                                     65535,      65536,      4294967295, 4294967296, BIT(40),     BIT(63) - 1,
+                                     BIT(63),    UINT64_MAX, 9,          10,         UINT64_MAX - 1};
     return mix_chance(900) ? PICK(edges) : mix_any() >> mix_below(64);
 }
 
@@ -251,7 +252,7 @@ static void amount_field(struct entries *e, uint64_t k, const struct plain_setti
     else if (mix_chance(15))
         item(&e->body, 2);
     else if (mix_chance(10))
-        head(&e->body, (unsigned)mix_below(2), mix_chance(500) ? 1UL << 63 : UINT64_MAX);
+        head(&e->body, (unsigned)mix_below(2), mix_chance(500) ? BIT(63) : UINT64_MAX);
     else
         number(&e->body, amount(s));
 }

@@ -15,6 +15,6 @@ typedef __UINTPTR_TYPE__ uintptr_t;
 #define UINT64_MAX __UINT64_MAX__
 #define UINT64_C(v) __UINT64_C(v)
 #ifndef __UINT64_C
-#define __UINT64_C(v) v##UL
+#define __UINT64_C(v) v##ULL
 #endif
 #endif

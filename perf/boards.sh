@@ -1,0 +1,247 @@
+# shellcheck shell=bash disable=SC2154
+# The archive of each board, linked with plain.c, the comparison and the driver, and run: read by perf/run.
+# All C is compiled by the kit's compiler with the flags of bin/archive, so that the mix is the same on every board; a
+# board's own tools (Debian's packages) link and run it. What the comparison prints must be the same text everywhere.
+
+boards=$work/boards
+
+# A command and the package that has it.
+tool() { # COMMAND PACKAGE
+    command -v "$1" >/dev/null || missing="$missing $2"
+}
+
+# A file and the package that has it.
+part() { # FILE PACKAGE
+    [ -e "$1" ] || missing="$missing $2"
+}
+
+natively() { [ "$(uname -m)" = "${1%-linux}" ]; } # TARGET
+
+# What a target needs to be linked and run.
+tools_of() { # TARGET
+    missing=
+    case $1 in
+    x86_64-linux) ;;
+    aarch64-linux)
+        tool aarch64-linux-gnu-gcc gcc-aarch64-linux-gnu
+        natively "$1" || tool qemu-aarch64 qemu-user
+        natively "$1" || part /usr/aarch64-linux-gnu/lib/libc.a libc6-dev-arm64-cross
+        ;;
+    riscv64-linux)
+        tool riscv64-linux-gnu-gcc gcc-riscv64-linux-gnu
+        natively "$1" || tool qemu-riscv64 qemu-user
+        natively "$1" || part /usr/riscv64-linux-gnu/lib/libc.a libc6-dev-riscv64-cross
+        ;;
+    cortex-*)
+        tool arm-none-eabi-gcc gcc-arm-none-eabi
+        tool qemu-system-arm qemu-system-arm
+        part /usr/lib/picolibc/arm-none-eabi picolibc-arm-none-eabi
+        ;;
+    riscv32imac)
+        tool riscv64-unknown-elf-gcc gcc-riscv64-unknown-elf
+        tool qemu-system-riscv32 qemu-system-misc
+        part /usr/lib/picolibc/riscv64-unknown-elf picolibc-riscv64-unknown-elf
+        ;;
+    wasm32) tool node nodejs ;;
+    *) die "no such target: $1" ;;
+    esac
+}
+
+flags_of() { "$root/bin/archive" --list | sed -n "s/^$1  *//p"; } # TARGET
+
+board_cc() { # TARGET SOURCE OBJECT [FLAGS...]
+    local target=$1 source=$2 object=$3
+    shift 3
+    case $target in cortex-*) set -- -fshort-enums "$@" ;; esac # as picolibc is compiled
+    # shellcheck disable=SC2046
+    "$tools/bin/clang" $(flags_of "$target") -ffunction-sections -fdata-sections -std=gnu11 -Wall -Wextra -Wno-gnu-case-range \
+        -nostdinc -isystem "$here/headers" -I "$here" -I "$boards/$target" "$@" -c "$source" -o "$object"
+}
+
+# Where code and data lie on the boards that qemu has. None has a Cortex-M0+ and room for the comparison: it runs on an M4,
+# which has all of its instructions.
+places() { # TARGET
+    case $1 in
+    cortex-m0plus | cortex-m4 | cortex-m7) echo 0x0 0x400000 0x20000000 0x400000 ;;
+    cortex-m33) echo 0x10000000 0x400000 0x38000000 0x200000 ;;
+    riscv32imac) echo 0x80000000 0x400000 0x80400000 0x400000 ;;
+    esac
+}
+
+picolibc() { # TARGET COMPILER PROGRAM FILE...
+    local target=$1 compiler=$2 program=$3 flash flash_size ram ram_size
+    shift 3
+    read -r flash flash_size ram ram_size <<<"$(places "$target")"
+    # shellcheck disable=SC2086
+    $compiler -specs=picolibc.specs --crt0=semihost --oslib=semihost "$@" -Wl,--gc-sections \
+        -Wl,--defsym=__flash="$flash" -Wl,--defsym=__flash_size="$flash_size" \
+        -Wl,-Map="$program.map" -Wl,--defsym=__ram="$ram" -Wl,--defsym=__ram_size="$ram_size" -Wl,--defsym=__stack_size=0x10000 -o "$program"
+}
+
+board_link() { # TARGET PROGRAM FILE...
+    link_board "$@" 2>"$boards/$1/link.log" || { cat "$boards/$1/link.log"; return 1; }
+}
+
+link_board() { # TARGET PROGRAM FILE...
+    local target=$1
+    shift
+    case $target in
+    x86_64-linux) link "$@" ;;
+    aarch64-linux | riscv64-linux) "${target%-linux}-linux-gnu-gcc" -static -Wl,--gc-sections -Wl,-Map="$1.map" -o "$@" ;;
+    cortex-*) picolibc "$target" "arm-none-eabi-gcc -mcpu=$target -mthumb -mfloat-abi=soft" "$@" ;;
+    riscv32imac) picolibc "$target" "riscv64-unknown-elf-gcc -march=rv32imac -mabi=ilp32" "$@" ;;
+    wasm32)
+        ln -sf "$tools/bin/clang" "$boards/wasm-ld"
+        "$boards/wasm-ld" --no-entry --gc-sections -z stack-size=65536 --export-if-defined=__main_argc_argv \
+            --export-if-defined=__main_void -o "$@" "$boards/$target/wasm.o"
+        ;;
+    esac
+}
+
+# Semihosting hands a program its words and takes its output and its status.
+semihosting() { # EMULATOR MACHINE PROGRAM WORDS...
+    local emulator=$1 machine=$2 program=$3 config=enable=on,target=native,chardev=out word
+    shift 3
+    for word in "$@"; do config=$config,arg=$word; done
+    # shellcheck disable=SC2086
+    $emulator -M "$machine" -display none -monitor none -serial none -chardev stdio,id=out -semihosting-config "$config" \
+        -kernel "$program" </dev/null
+}
+
+# Code bytes of an object or an archive with nothing left out.
+code_bytes() { # TARGET FILE
+    local prefix
+    case $1 in
+    aarch64-linux | riscv64-linux) prefix=${1%-linux}-linux-gnu- ;;
+    cortex-*) prefix=arm-none-eabi- ;;
+    riscv32imac) prefix=riscv64-unknown-elf- ;;
+    x86_64-linux) prefix= ;;
+    *) return ;;
+    esac
+    if command -v "${prefix}size" >/dev/null; then "${prefix}size" -A "$2" | awk '/^\.text/ { n += $2 } END { print n }'; fi
+}
+
+# Of the archive's, what the linked driver keeps: from the linker's map.
+kept_bytes() { # TARGET
+    local bytes sum=0
+    [ -f "$boards/$1/driver.map" ] || return 0
+    while read -r bytes; do sum=$((sum + bytes)); done < <(awk '$1 ~ /^\.[a-zA-Z]/ { code = $1 ~ /^\.text/ }
+        /libcekarum\.a\(kernel\.o\)$/ && code && $(NF - 2) !~ /^0x0*$/ { print $(NF - 1) }' "$boards/$1/driver.map")
+    echo "$sum"
+}
+
+# The deepest stack of any case of count.c.
+deepest() { # TARGET
+    local at=$boards/$1 name most=0 bytes
+    case $1 in cortex-*) ;; *) return 0 ;; esac
+    board_cc "$1" "$here/count.c" "$at/count.o" -DPROVED
+    board_link "$1" "$at/count" "$at/count.o" "$at/plain.o" "$at/libcekarum.a"
+    for name in $(board_run "$1" "$at/count" | cut -f1); do
+        bytes=$(board_run "$1" "$at/count" "$name" stack)
+        [ "$bytes" -le "$most" ] || most=$bytes
+    done
+    echo "$most"
+}
+
+# All instructions of one run on the emulated Cortex-M4, counted as perf/README.md says of the kit's emulator.
+m4_instructions() { # PROGRAM CASE TIMES
+    local pipe=$boards/trace
+    rm -f "$pipe"
+    mkfifo "$pipe"
+    semihosting "qemu-system-arm -singlestep -d exec,nochain -D $pipe" mps2-an386 "$@" >/dev/null &
+    grep -c '^Trace' "$pipe"
+    wait $! || die "$* ended with status $?"
+}
+
+# Instructions per call on the Cortex-M4, plain.c beside the archive that run_boards has left.
+board_count() { # [CASE...]
+    local at=$boards/cortex-m4 names=() name kernel few many
+    [ -f "$at/libcekarum.a" ] || die "no $at/libcekarum.a (perf/run boards)"
+    board_cc cortex-m4 "$here/count.c" "$at/count_plain.o"
+    board_link cortex-m4 "$at/count_plain" "$at/count_plain.o" "$at/plain.o"
+    [ $# -gt 0 ] || mapfile -t names < <(board_run cortex-m4 "$at/count" | cut -f1)
+    for name in "$@" "${names[@]}"; do
+        printf '%s' "$name"
+        for kernel in count_plain count; do
+            few=$(m4_instructions "$at/$kernel" "$name" 10)
+            many=$(m4_instructions "$at/$kernel" "$name" 30)
+            printf ' %d' $(((many - few + 10) / 20))
+        done
+        echo
+    done
+}
+
+# What a target's archive takes, where that can be measured.
+sizes() { # TARGET
+    local code plain kept stack
+    code=$(code_bytes "$1" "$boards/$1/libcekarum.a") plain=$(code_bytes "$1" "$boards/$1/plain.o")
+    kept=$(kept_bytes "$1") stack=$(deepest "$1")
+    echo "$1: code ${code:-unknown}, in the driver ${kept:-unknown}, plain.c ${plain:-unknown}; deepest stack ${stack:-not measured}"
+}
+
+board_run() { # TARGET PROGRAM WORDS...
+    local target=$1
+    shift
+    case $target in
+    x86_64-linux) go "$@" ;;
+    aarch64-linux | riscv64-linux) if natively "$target"; then "$@"; else "qemu-${target%-linux}" "$@"; fi ;;
+    cortex-m0plus | cortex-m4) semihosting qemu-system-arm mps2-an386 "$@" ;;
+    cortex-m7) semihosting qemu-system-arm mps2-an500 "$@" ;;
+    cortex-m33) semihosting qemu-system-arm mps2-an505 "$@" ;;
+    riscv32imac) semihosting "qemu-system-riscv32 -bios none" virt "$@" ;;
+    wasm32) node "$here/wasm.mjs" "$@" ;;
+    esac
+}
+
+board_build() { # TARGET
+    local at=$boards/$1 part
+    for part in plain kernel_plain kernel_proved mix compare; do board_cc "$1" "$here/$part.c" "$at/$part.o" || return 1; done
+    board_cc "$1" "$root/examples/driver.c" "$at/driver.o" || return 1
+    [ "$1" != wasm32 ] || board_cc "$1" "$here/wasm.c" "$at/wasm.o" -fno-builtin || return 1
+    board_link "$1" "$at/driver" "$at/driver.o" "$at/libcekarum.a" || return 1
+    board_link "$1" "$at/compare" "$at/compare.o" "$at/mix.o" "$at/kernel_plain.o" "$at/plain.o" "$at/kernel_proved.o" "$at/libcekarum.a"
+}
+
+# The bare board of examples/, built as docs/BOARDS.md says and run for its first seconds. It never ends by itself.
+board_example() {
+    local at=$boards/cortex-m4
+    arm-none-eabi-gcc -mcpu=cortex-m4 -mthumb -Os -Wall -Wextra -specs=picolibc.specs -nostartfiles -T "$root/examples/board_m4.ld" -I "$at" \
+        "$root/examples/board_m4.c" "$at/libcekarum.a" -Wl,--gc-sections -o "$at/board" 2>"$at/link.log" || { cat "$at/link.log"; return 1; }
+    timeout 15 qemu-system-arm -M mps2-an386 -display none -monitor none -serial stdio -kernel "$at/board" </dev/null >"$at/board.out" 2>/dev/null || true
+    cmp "$root/examples/board_m4.txt" "$at/board.out" && echo "cortex-m4: examples/board_m4.c prints what it should"
+}
+
+# Builds and runs one target; what differs from the first target's text is a failure.
+board() { # TARGET CALLS
+    local at=$boards/$1 first=$boards/x86_64-linux status=0
+    board_build "$1" || return 1
+    board_run "$1" "$at/driver" >"$at/driver.out" || status=$?
+    board_run "$1" "$at/compare" "$2" 1 >"$at/compare.out" || status=$?
+    echo "$1: $(tail -n 1 "$at/compare.out")"
+    [ "$status" -eq 0 ] || { echo "$1: ended with status $status"; return 1; }
+    sizes "$1"
+    [ "$1" != cortex-m4 ] || board_example || return 1
+    ! natively "$1" || board_run "$1" "$at/compare" $((10 * $2)) 2 | sed -n "s/^.* compared, .*/$1, natively: &/p" || return 1
+    cmp "$first/driver.out" "$at/driver.out" && cmp "$first/compare.out" "$at/compare.out"
+}
+
+run_boards() { # [N] [TARGET...]
+    local calls=${1:-100000} target skipped="" failed="" ran=0
+    [ $# -eq 0 ] || shift
+    # shellcheck disable=SC2086
+    "$root/bin/archive" ${UNPROVED:+--unproved} all "$boards"
+    # the first target's text is what the others are held to
+    for target in $(echo x86_64-linux "${@:-$("$root/bin/archive" --list | cut -d' ' -f1)}" | tr ' ' '\n' | awk '!seen[$0]++'); do
+        tools_of "$target"
+        if [ -n "$missing" ]; then
+            echo "$target: SKIPPED; packages that are missing:$missing"
+            skipped="$skipped $target"
+        elif board "$target" "$calls"; then
+            ran=$((ran + 1))
+        else
+            failed="$failed $target"
+        fi
+    done
+    echo "boards: $ran ran and printed the same; skipped:${skipped:- none}; failed:${failed:- none}"
+    [ -z "$failed" ]
+}
