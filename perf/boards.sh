@@ -4,6 +4,7 @@
 # board's own tools (Debian's packages) link and run it. What the comparison prints must be the same text everywhere.
 
 boards=$work/boards
+trace=() # words for the emulator, where instructions are counted
 
 # A command and the package that has it.
 tool() { # COMMAND PACKAGE
@@ -104,7 +105,7 @@ semihosting() { # EMULATOR MACHINE PROGRAM WORDS...
     shift 3
     for word in "$@"; do config=$config,arg=$word; done
     # shellcheck disable=SC2086
-    $emulator -M "$machine" -display none -monitor none -serial none -chardev stdio,id=out -semihosting-config "$config" \
+    $emulator "${trace[@]}" -M "$machine" -display none -monitor none -serial none -chardev stdio,id=out -semihosting-config "$config" \
         -kernel "$program" </dev/null
 }
 
@@ -143,31 +144,42 @@ deepest() { # TARGET
     echo "$most"
 }
 
-# All instructions of one run on the emulated Cortex-M4, counted as perf/README.md says of the kit's emulator.
-m4_instructions() { # PROGRAM CASE TIMES
+# All instructions of one run on the emulator, counted as perf/README.md says of the kit's.
+board_instructions() { # TARGET PROGRAM CASE TIMES
     local pipe=$boards/trace
+    # shellcheck disable=SC2054
+    local trace=(-singlestep -d exec,nochain -D "$pipe")
     rm -f "$pipe"
     mkfifo "$pipe"
-    semihosting "qemu-system-arm -singlestep -d exec,nochain -D $pipe" mps2-an386 "$@" >/dev/null &
+    board_run "$@" >/dev/null &
     grep -c '^Trace' "$pipe"
     wait $! || die "$* ended with status $?"
 }
 
-# Instructions per call on the Cortex-M4, plain.c beside the archive that run_boards has left.
-board_count() { # [CASE...]
-    local at=$boards/cortex-m4 names=() name kernel few many
+board_per_call() { # TARGET PROGRAM CASE
+    local few many
+    few=$(board_instructions "$@" 10)
+    many=$(board_instructions "$@" 30)
+    echo $(((many - few + 10) / 20))
+}
+
+# Instructions per call under qemu, plain.c beside the archive that run_boards has left.
+board_count() { # TARGET [CASE...]
+    local target=${1:?TARGET} at=$boards/$1 names name plain proved
+    shift
+    case $target in x86_64-linux | wasm32) die "$target is not counted here (perf/run count)" ;; esac
     [ -f "$at/libcekarum.a" ] || die "no $at/libcekarum.a (perf/run boards)"
-    board_cc cortex-m4 "$here/count.c" "$at/count_plain.o"
-    board_link cortex-m4 "$at/count_plain" "$at/count_plain.o" "$at/plain.o"
-    [ $# -gt 0 ] || mapfile -t names < <(board_run cortex-m4 "$at/count" | cut -f1)
-    for name in "$@" "${names[@]}"; do
-        printf '%s' "$name"
-        for kernel in count_plain count; do
-            few=$(m4_instructions "$at/$kernel" "$name" 10)
-            many=$(m4_instructions "$at/$kernel" "$name" 30)
-            printf ' %d' $(((many - few + 10) / 20))
-        done
-        echo
+    board_cc "$target" "$here/plain.c" "$at/plain.o"
+    board_cc "$target" "$here/count.c" "$at/count_plain.o"
+    board_cc "$target" "$here/count.c" "$at/count.o" -DPROVED
+    board_link "$target" "$at/count_plain" "$at/count_plain.o" "$at/plain.o"
+    board_link "$target" "$at/count" "$at/count.o" "$at/plain.o" "$at/libcekarum.a"
+    names=("$@")
+    [ $# -gt 0 ] || mapfile -t names < <(board_run "$target" "$at/count" | cut -f1)
+    for name in "${names[@]}"; do
+        plain=$(board_per_call "$target" "$at/count_plain" "$name")
+        proved=$(board_per_call "$target" "$at/count" "$name")
+        printf '%-12s %8d %8d %6s\n' "$name" "$plain" "$proved" "$(awk "BEGIN { printf \"%.2f\", $proved / $plain }")"
     done
 }
 
@@ -184,7 +196,9 @@ board_run() { # TARGET PROGRAM WORDS...
     shift
     case $target in
     x86_64-linux) go "$@" ;;
-    aarch64-linux | riscv64-linux) if natively "$target"; then "$@"; else "qemu-${target%-linux}" "$@"; fi ;;
+    aarch64-linux | riscv64-linux)
+        if natively "$target" && [ ${#trace[@]} -eq 0 ]; then "$@"; else "qemu-${target%-linux}" "${trace[@]}" "$@"; fi
+        ;;
     cortex-m0plus | cortex-m4) semihosting qemu-system-arm mps2-an386 "$@" ;;
     cortex-m7) semihosting qemu-system-arm mps2-an500 "$@" ;;
     cortex-m33) semihosting qemu-system-arm mps2-an505 "$@" ;;
