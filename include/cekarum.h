@@ -1,6 +1,6 @@
 /* Cekarum: the control kernel for one energy endpoint, for C11 and C++17.
  *
- * Link libcapi.a (rt staticlib capi; x86-64). The kernel has no state of its own, takes no memory and calls nothing: all that
+ * Link libcekarum.a (bin/archive TARGET makes it for each board). The kernel has no state of its own, takes no memory and calls nothing: all that
  * it reads and writes is what a call lends it. Every call ends with an answer, for every number and every byte it is given;
  * nothing has to be checked first.
  *
