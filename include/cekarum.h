@@ -1,8 +1,8 @@
 /* Cekarum: the control kernel for one energy endpoint, for C11 and C++17.
  *
- * Link libcekarum.a (bin/archive TARGET makes it for each board). The kernel has no state of its own, takes no memory and calls nothing: all that
- * it reads and writes is what a call lends it. Every call ends with an answer, for every number and every byte it is given;
- * nothing has to be checked first.
+ * Link libcekarum.a (bin/archive TARGET makes it for each board). The kernel has no state of its own, takes no memory and calls
+ * nothing but the compiler's memcpy and memset: all that it reads and writes is what a call lends it. Every call ends with an
+ * answer, for every number and every byte it is given; nothing has to be checked first.
  *
  * What a driver must keep, all of it:
  * - no pointer is NULL, not even beside the count 0 (lend any valid address);
