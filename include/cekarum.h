@@ -12,8 +12,8 @@
  * - calls on one device do not overlap in time; calls on two devices may.
  *
  * A refusal changes nothing: neither the device nor its clock nor a lent buffer, except that cekarum_frame may write a response
- * frame to the front of its output, and that cekarum_receive closes its receiver at a bad length. Beside a refusal values are -1 and lengths 0, except the length of such a response. What
- * lies behind a response, the rows or the pairs stays as it was.
+ * frame to the front of its output, and that cekarum_receive closes its receiver at a bad length. Beside a refusal values are -1
+ * and lengths 0, except the length of such a response. What lies behind a response, the rows or the pairs stays as it was.
  */
 #ifndef CEKARUM_H
 #define CEKARUM_H
