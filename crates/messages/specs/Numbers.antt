@@ -2,14 +2,16 @@
 use Prim.Native.Nat.{ℕ}
 use mathlib.Core.Bool.{Bool, true, false}
 use Rattle.messages.specs.declared.Command.{Command}
-use Rattle.messages.specs.declared.Command.the-variants.{SetLimit, ClearLimit, SetSetpoint, ClearSetpoint, Unserved}
+use Rattle.messages.specs.declared.Command.the-variants.{SetLimit, ClearLimit, SetSetpoint, ClearSetpoint, SetCurrentLimits, ClearCurrentLimits, Unserved}
 
--- "SetLimit, ClearLimit, SetSetpoint, ClearSetpoint (commands 1 to 4)"
+-- "SetLimit, ClearLimit, SetSetpoint, ClearSetpoint (commands 1 to 4)", and L5: "commands 5 and 6 ..: SetCurrentLimits and ClearCurrentLimits"
 abbrev pub wireNumber : Command → ℕ
 wireNumber (SetLimit m) = 1
 wireNumber (ClearLimit a) = 2
 wireNumber (SetSetpoint m) = 3
 wireNumber (ClearSetpoint a) = 4
+wireNumber (SetCurrentLimits m) = 5
+wireNumber (ClearCurrentLimits a) = 6
 wireNumber (Unserved n) = n
 
 -- "One energy endpoint, number 1, feature 0x0005"

@@ -37,6 +37,21 @@ pub struct Setpoints {
     pub cause: u64,
 }
 
+// A field for each phase.
+pub struct Phases {
+    pub a: Field,
+    pub b: Field,
+    pub c: Field,
+}
+
+// The parameters of SetCurrentLimits, all in one direction. An omitted duration is 0.
+pub struct CurrentLimits {
+    pub phases: Phases,
+    pub direction: u64,
+    pub duration: u64,
+    pub cause: u64,
+}
+
 // What a clear names: one direction, or none and so both.
 pub enum Aim {
     Both,
@@ -49,6 +64,8 @@ pub enum Command {
     ClearLimit(Aim),
     SetSetpoint(Setpoints),
     ClearSetpoint(Aim),
+    SetCurrentLimits(CurrentLimits),
+    ClearCurrentLimits(Aim),
     Unserved(u64),
 }
 
@@ -80,11 +97,19 @@ pub struct SetpointResult {
     pub production: Amount,
 }
 
+// The result of SetCurrentLimits: the effective currents of its direction, for each phase.
+pub struct CurrentResult {
+    pub a: Amount,
+    pub b: Amount,
+    pub c: Amount,
+}
+
 // The result that stands in a response, if one does.
 pub enum Outcome {
     Nothing,
     Limit(LimitResult),
     Setpoint(SetpointResult),
+    Current(CurrentResult),
     Success,
 }
 
@@ -103,6 +128,8 @@ pub fn wire_number(c: Command) -> u64
         Command::ClearLimit(_) => 2,
         Command::SetSetpoint(_) => 3,
         Command::ClearSetpoint(_) => 4,
+        Command::SetCurrentLimits(_) => 5,
+        Command::ClearCurrentLimits(_) => 6,
         Command::Unserved(n) => n,
     }
 }
