@@ -74,5 +74,11 @@ pub fn is_bad_settings(s: Settings) -> bool
     if 86400 < s.duration {
         return true;
     }
+    if s.phases < 1 {
+        return true;
+    }
+    if MOST_PHASES < s.phases {
+        return true;
+    }
     maxima[0] < s.minimum
 }

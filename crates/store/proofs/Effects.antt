@@ -63,6 +63,8 @@ settings-cong vs ws same =
       same 10 (omega arith) (omega arith),
       same 11 (omega arith) (omega arith),
       same 12 (omega arith) (omega arith),
+      same 13 (omega arith) (omega arith),
+      same 14 (omega arith) (omega arith),
     )
 
 -- "settings that then stay"
@@ -121,4 +123,5 @@ fresh-zones s = refl
 
 pub fresh-settings : (s : Settings) → length (s .maxima) ≡ 2 → length (s .failsafe) ≡ 2 → settingsOf (fresh s) ≡ s
 unfolding fresh settingWords settingsOf
-fresh-settings s m f = rw (bit-back (s .limits), bit-back (s .setpoints), bit-back (s .manager), two-list (s .maxima) m, two-list (s .failsafe) f)
+fresh-settings s m f =
+    rw (bit-back (s .limits), bit-back (s .setpoints), bit-back (s .manager), bit-back (s .currents), two-list (s .maxima) m, two-list (s .failsafe) f)

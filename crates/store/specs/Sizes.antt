@@ -1,9 +1,8 @@
--- How many values a zone holds, how many zones there are, and the words of a zone, of the head and of the whole device.
+-- How many zones there are, and the words of a zone, of the head and of the whole device.
 use Prim.Native.Nat.{ℕ, _+_, _*_, _-_, _^_}
+use Rattle.quantities.specs.Quantities.{helds}
 
--- limit of consumption and of production, setpoint of consumption and of production
-abbrev pub helds : ℕ
-helds = 4
+pub use Rattle.quantities.specs.Quantities.{helds}
 
 -- "Zones: 8 joined at once"
 abbrev pub slots : ℕ
@@ -17,7 +16,7 @@ abbrev pub marks : ℕ
 marks = 3
 
 abbrev pub settings : ℕ
-settings = 10
+settings = 12
 
 abbrev pub headSize : ℕ
 headSize = marks + settings

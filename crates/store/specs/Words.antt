@@ -34,6 +34,8 @@ settingsOf ws =
       failsafe = getD ws 9 0 ∷ getD ws 10 0 ∷ [];
       duration = getD ws 11 0;
       manager = ltb 0 (getD ws 12 0);
+      phases = getD ws 13 0;
+      currents = ltb 0 (getD ws 14 0);
     }
 
 -- where a slot's words start
@@ -86,7 +88,8 @@ after ws n c = cond (eqb n 0) (applied ws c) ws
 unfoldable pub settingWords : Settings → List ℕ
 settingWords s =
     s .directions ∷ bit (s .limits) ∷ bit (s .setpoints) ∷ s .minimum ∷ getD (s .maxima) 0 0 ∷ getD (s .maxima) 1 0
-    ∷ getD (s .failsafe) 0 0 ∷ getD (s .failsafe) 1 0 ∷ s .duration ∷ bit (s .manager) ∷ []
+    ∷ getD (s .failsafe) 0 0 ∷ getD (s .failsafe) 1 0 ∷ s .duration ∷ bit (s .manager) ∷ s .phases
+    ∷ bit (s .currents) ∷ []
 
 unfoldable pub fresh : Settings → List ℕ
 fresh s = sets (replicate words 0) marks (settingWords s)

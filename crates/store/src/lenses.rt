@@ -71,6 +71,8 @@ pub fn settings_at(d: &State) -> Settings
         failsafe: failsafe,
         duration: word(d, 11),
         manager: 0 < word(d, 12),
+        phases: word(d, 13),
+        currents: 0 < word(d, 14),
     }
 }
 

@@ -19,11 +19,10 @@ pub use lenses::zone_at;
 pub use puts::apply;
 pub use puts::apply_head;
 pub use puts::fresh;
+pub use quantities::HELDS;
 pub use times::is_late;
 
-// How many values a zone holds, how many zones there are, and the words of a zone, of the head and of the whole device.
-pub const HELDS: usize = 4;
-
+// How many zones there are, and the words of a zone, of the head and of the whole device.
 pub const SLOTS: usize = 8;
 
 // The control state and each quantity: what holds at a second.
@@ -34,7 +33,7 @@ pub const ZONE: usize = 2 + 2 * HELDS;
 // The head: clock, since when no link is up, override; then the settings.
 pub const MARKS: usize = 3;
 
-pub const SETTINGS: usize = 10;
+pub const SETTINGS: usize = 12;
 
 pub const HEAD: usize = MARKS + SETTINGS;
 
@@ -66,7 +65,8 @@ pub struct Zone {
     pub held: [Held; HELDS],
 }
 
-// What a device starts with. Maxima and failsafe limits go by direction; MOST is no maximum.
+// What a device starts with. Maxima and failsafe limits go by direction; MOST is no maximum. `currents`: current limits are
+// accepted, for so many phases.
 #[repr(C)]
 pub struct Settings {
     pub directions: u64,
@@ -77,6 +77,8 @@ pub struct Settings {
     pub failsafe: [u64; 2],
     pub duration: u64,
     pub manager: bool,
+    pub phases: u64,
+    pub currents: bool,
 }
 
 // One whole change of the device: a slot's new record (none where slot is SLOTS), since when no link is up, override, clock.

@@ -112,6 +112,8 @@ fn setting_words(s: Settings) -> [u64; SETTINGS]
         failsafe[1],
         s.duration,
         bit_of(s.manager),
+        s.phases,
+        bit_of(s.currents),
     ]
 }
 

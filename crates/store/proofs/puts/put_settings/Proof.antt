@@ -1,24 +1,25 @@
--- To store the words from i on now is to store all ten in the words of the start.
+-- To store the words from i on now is to store all of them in the words of the start.
 use Prim.Native.Nat.{_+_, _-_, _≤_}
 use mathlib.Core.Path.{_≡_, refl}
 use native.Mathlib.Omega.{arith}
 use lib.ListN.{length, drop}
 use lib.Seq.{sets}
 use borrow.Author.Needs.{needs}
+use Rattle.store.specs.Sizes.{marks, settings}
 use Rattle.store.proofs.Stores.{run-turn, run-end}
 use Rattle.store.proofs.puts.put_settings.Statement.{statement}
 use Rattle.store.proofs.puts.put_settings.Tie as tie
 
 abbrev Inv-loop : tie.InvT-loop
-Inv-loop d₀ vs i₀ d i = (i ≤ 10) × (sets d (3 + i) (drop i vs) ≡ sets d₀ 3 vs)
+Inv-loop d₀ vs i₀ d i = (i ≤ settings) × (sets d (marks + i) (drop i vs) ≡ sets d₀ marks vs)
 
 abbrev μ-loop : tie.MeasureT-loop
-μ-loop d₀ vs i₀ d i = 10 - i
+μ-loop d₀ vs i₀ d i = settings - i
 
 pub put-settings-spec : {M : Type 1} → statement M
 put-settings-spec =
     tie.close
     (tie.spec
     Inv-loop μ-loop (λ c. (omega arith, refl)) (λ c. omega arith) (λ c. omega arith) (λ c. omega arith) (λ c κs. tt) (λ c. omega arith) (λ c. omega arith)
-    (λ c. (omega arith, run-turn _ _ 3 _ _ (c .before .before .before .loop .i) 0 (let l : length (c .before .before .before .before .args .t2) ≡ 10 = search needs in omega arith) (c .before .before .before .loop .inv .1) (c .put-word .ensures)))
-    (λ c. run-end _ _ 3 _ (c .before .loop .i) (let l : length (c .before .before .args .t2) ≡ 10 = search needs in omega arith) (c .before .loop .inv .1)))
+    (λ c. (omega arith, run-turn _ _ marks _ _ (c .before .before .before .loop .i) 0 (let l : length (c .before .before .before .before .args .t2) ≡ settings = search needs in omega arith) (c .before .before .before .loop .inv .1) (c .put-word .ensures)))
+    (λ c. run-end _ _ marks _ (c .before .loop .i) (let l : length (c .before .before .args .t2) ≡ settings = search needs in omega arith) (c .before .loop .inv .1)))

@@ -9,5 +9,5 @@ unfolding settingWords
 setting-words-spec =
     tie.close
     (tie.spec
-    (λ c κs. tt) (λ c κs. tt) (λ c. search needs) (λ c. search needs) (λ c. search needs) (λ c. search needs) (λ c κs. tt)
-    (λ c. rw (c .before .before .bit-of .ensures, c .before .bit-of2 .ensures, c .bit-of3 .ensures)))
+    (λ c κs. tt) (λ c κs. tt) (λ c. search needs) (λ c. search needs) (λ c. search needs) (λ c. search needs) (λ c κs. tt) (λ c κs. tt)
+    (λ c. rw (c .before .before .before .bit-of .ensures, c .before .before .bit-of2 .ensures, c .before .bit-of3 .ensures, c .bit-of4 .ensures)))
