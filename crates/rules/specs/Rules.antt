@@ -3,6 +3,7 @@ use Prim.Native.Nat.{ℕ}
 use mathlib.Core.Bool.{Bool, not, _&&_, _||_}
 use lib.Dec.{ltb, leb, eqb}
 use lib.ListN.{getD}
+use Rattle.quantities.specs.Quantities.{phases}
 use Rattle.store.specs.Sizes.{most, valueEnd}
 use Rattle.store.specs.declared.Settings.{Settings}
 
@@ -10,7 +11,11 @@ use Rattle.store.specs.declared.Settings.{Settings}
 unfoldable pub badMaximum : ℕ → Bool
 badMaximum m = leb valueEnd m && not (eqb m most)
 
--- 16: "A setting out of range, or a contractual consumption maximum below the minimum, is bad settings"
+-- below the lowest or above the highest
+unfoldable pub outside : ℕ → ℕ → ℕ → Bool
+outside low v high = ltb v low || ltb high v
+
+-- 16: "A setting out of range, or a contractual consumption maximum below the minimum, is bad settings"; L5: "the phase count (1 to 3 ..)"
 unfoldable pub badSettings : Settings → Bool
 badSettings s =
     ltb 2 (s .directions)
@@ -19,8 +24,8 @@ badSettings s =
     || (badMaximum (getD (s .maxima) 1 0)
     || (leb valueEnd (getD (s .failsafe) 0 0)
     || (leb valueEnd (getD (s .failsafe) 1 0)
-    || (ltb (s .duration) 7200
-    || (ltb 86400 (s .duration)
+    || (outside 7200 (s .duration) 86400
+    || (outside 1 (s .phases) phases
     || ltb (getD (s .maxima) 0 0) (s .minimum))))))))
 
 -- 6: "id outside 1 to 255, or rank outside 1 to 4"

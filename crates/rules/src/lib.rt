@@ -1,10 +1,13 @@
 // What a start, a join and an override may say: one function for each rule of a refusal, over plain numbers.
 ghost use mathlib.Core.Path.{_≡_};
 ghost use Rattle.rules.specs.Rules.{badJoin, goTogether};
-ghost use Rattle.rules.specs.Rules.{badMaximum, badSettings};
+ghost use Rattle.rules.specs.Rules.{badMaximum, outside, badSettings};
 use store::MOST;
 use store::Settings;
 use store::VALUE_END;
+
+// As many phases as a current limit can name.
+const MOST_PHASES: u64 = 3;
 
 // 6: an id outside 1 to 255, or a rank outside 1 to 4.
 pub fn is_bad_join(zone: u64, rank: u64) -> bool
@@ -44,6 +47,12 @@ fn is_bad_maximum(m: u64) -> bool
     VALUE_END <= m && m != MOST
 }
 
+fn is_outside(low: u64, v: u64, high: u64) -> bool
+    ensures { λ r. ⌜ r ≡ outside low v high ⌝ }
+{
+    v < low || high < v
+}
+
 // 16: a setting out of range, or a contractual consumption maximum below the minimum.
 pub fn is_bad_settings(s: Settings) -> bool
     ensures { λ r. ⌜ r ≡ badSettings s ⌝ }
@@ -68,16 +77,10 @@ pub fn is_bad_settings(s: Settings) -> bool
     if VALUE_END <= failsafe[1] {
         return true;
     }
-    if s.duration < 7200 {
+    if is_outside(7200, s.duration, 86400) {
         return true;
     }
-    if 86400 < s.duration {
-        return true;
-    }
-    if s.phases < 1 {
-        return true;
-    }
-    if MOST_PHASES < s.phases {
+    if is_outside(1, s.phases, MOST_PHASES) {
         return true;
     }
     maxima[0] < s.minimum

@@ -1,7 +1,6 @@
 -- How many zones there are, and the words of a zone, of the head and of the whole device.
 use Prim.Native.Nat.{ℕ, _+_, _*_, _-_, _^_}
 use Rattle.quantities.specs.Quantities.{helds}
-
 pub use Rattle.quantities.specs.Quantities.{helds}
 
 -- "Zones: 8 joined at once"
