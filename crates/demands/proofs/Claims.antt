@@ -10,10 +10,11 @@ use borrow.Author.Tests.{ltb-false}
 use lib.Dec.{ltb}
 use Rattle.messages.specs.declared.Amount.{Amount}
 use Rattle.messages.specs.declared.Amount.the-variants.{Absent, Is}
+use Rattle.quantities.specs.Quantities.{isSetpoint}
 use Rattle.store.specs.declared.Zone.{Zone}
 use Rattle.store.specs.Sizes.{helds}
 use Rattle.store.specs.Zones.{idOf, any, freeZone, isJoined, isUp, anyJoined, anyUp}
-use Rattle.holds.specs.Holds.{isLimit, Claim, claimOf, goesBefore, winner, amountOf, Situation, inFailsafe, smallestWith, failsafeValue, valueAt, stateAt, shown, valuesAt}
+use Rattle.holds.specs.Holds.{Claim, claimOf, goesBefore, winner, amountOf, Situation, inFailsafe, smallestWith, failsafeValue, valueAt, stateAt, shown, valuesAt}
 use Rattle.table_laws.specs.Table.{Unexpired}
 use Rattle.table_laws.proofs.Before.{not-earlier}
 use Rattle.table_laws.proofs.Winner.{claim-there, wins}
@@ -45,11 +46,11 @@ beaten t q l m w e =
     stands true p i h u = refl
     stands false p i h u = absurd (wins t q m .none .0 p i h u)
 
-equal-limits : (q : ℕ) (a b : Claim) → isLimit q ≡ true → goesBefore q a b ≡ false → goesBefore q b a ≡ false → a .value ≡ b .value
+equal-limits : (q : ℕ) (a b : Claim) → isSetpoint q ≡ false → goesBefore q a b ≡ false → goesBefore q b a ≡ false → a .value ≡ b .value
 unfolding goesBefore
 equal-limits q a b e p r = let x = ltb-false (a .value) (b .value) (rw e at p) in let y = ltb-false (b .value) (a .value) (rw e at r) in omega arith
 
-equal-ids : (q : ℕ) (a b : Claim) → isLimit q ≡ false → goesBefore q a b ≡ false → goesBefore q b a ≡ false → a .id ≡ b .id
+equal-ids : (q : ℕ) (a b : Claim) → isSetpoint q ≡ true → goesBefore q a b ≡ false → goesBefore q b a ≡ false → a .id ≡ b .id
 unfolding goesBefore
 equal-ids q a b e p r =
     let x = not-earlier (a .rank) (a .id) (b .rank) (b .id) (rw e at p) in
@@ -70,9 +71,9 @@ winner-same t q l m there back one = go (winner t q l .there) refl (winner t q m
     claim-id : (x : Zone) → Unexpired t q x → idOf x ≡ claimOf t q x .id
     claim-id x u = sym (ap (λ (k : Claim). k .id) (claim-there t q x u))
 
-    both : c .there ≡ true → d .there ≡ true → (b : Bool) → isLimit q ≡ b → c .value ≡ d .value
-    both p r true e = equal-limits q c d e (beaten t q l m there p .1) (beaten t q m l back r .1)
-    both p r false e =
+    both : c .there ≡ true → d .there ≡ true → (b : Bool) → isSetpoint q ≡ b → c .value ≡ d .value
+    both p r false e = equal-limits q c d e (beaten t q l m there p .1) (beaten t q m l back r .1)
+    both p r true e =
         let x = standing t q l p in
         let y = standing t q m r in
         let i : c .id ≡ d .id = equal-ids q c d e (beaten t q l m there p .1) (beaten t q m l back r .1) in
@@ -81,7 +82,7 @@ winner-same t q l m there back one = go (winner t q l .there) refl (winner t q m
         ap (λ (k : Claim). k .value) (sym (x .3) ∙ ap (claimOf t q) same ∙ y .3)
 
     go : (a : Bool) → c .there ≡ a → (b : Bool) → d .there ≡ b → cond a (Is (c .value)) Absent ≡ cond b (Is (d .value)) Absent
-    go true p true r = ap Is (both p r (isLimit q) refl)
+    go true p true r = ap Is (both p r (isSetpoint q) refl)
     go true p false r = never (sym r ∙ beaten t q l m there p .0)
     go false p true r = never (sym p ∙ beaten t q m l back r .0)
     go false p false r = refl

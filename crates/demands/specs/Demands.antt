@@ -113,14 +113,15 @@ pub record Lists (f : ℕ → List ℤ) (now : ℕ) (before after : List ℤ) (c
   pub only : (others : List (ℕ × List ℤ)) → IsPlan f now others → others ≡ rows
   pub slice : after ≡ front (numbersOf rows) before
   pub counted : count ≡ length rows
-  pub few : length rows ≤ 32
+  -- "the bound on rows is 80"
+  pub few : length rows ≤ 80
 
 -- the device that calls lead to, beside what the history of those calls tells
 pub record FromHistory (s : Settings) (calls : List Call) : Type 0 where
   -- "a plan that fits its buffer lists every later second the clock can show at which the control state, a limit or a setpoint would change"
   pub plan : (t : ℕ) (out : List ℤ) → planNumber (run s calls) t (length out) ≡ 0
       → Lists (valuesAt (told s calls)) t out (planSlice (run s calls) t out) (planAnswer (run s calls) t (length out) .count)
-  -- "Those values come from the history alone": the control state, each limit and each setpoint, at every second
+  -- "Those values come from the history alone": the control state and all ten quantities, phase by phase too, at every second
   pub values : (t : ℕ) → valuesAt (situationOf (run s calls)) t ≡ valuesAt (told s calls) t
   -- an accepted ask shows them
   pub ask : (t : ℕ) → askNumber (run s calls) t ≡ 0 → askAnswer (run s calls) t .values ≡ valuesAt (told s calls) t

@@ -1,16 +1,18 @@
--- Document 01's marked examples P1 to P10 and the bench's: one table of cases, over the definitions that the calls' contracts cite. d is the direction.
+-- Document 01's marked examples P1 to P10, the bench's, and those of L3 and L5: one table of cases, over the definitions that the calls' contracts cite. d is the direction.
 use Prim.Native.Nat.{ℕ, _+_, _-_, _<_}
 use mathlib.Core.Path.{_≡_}
 use mathlib.Core.Bool.{true, false, cond}
-use mathlib.Core.List.{List, [], _∷_, foldl, map}
+use mathlib.Core.List.{List, [], _∷_, _++_, foldl, map}
 use lib.Dec.{eqb}
 use lib.IntN.{ℤ, pos, negsuc}
-use Rattle.messages.specs.Numbers.{AUTONOMOUS, FAILSAFE}
+use lib.ListN.{replicate}
+use Rattle.messages.specs.Numbers.{AUTONOMOUS, CONTROLLED, FAILSAFE}
 use Rattle.messages.specs.declared.Amount.{Amount}
 use Rattle.messages.specs.declared.Field.{Field}
 use Rattle.messages.specs.declared.Target.{Target}
 use Rattle.messages.specs.declared.Command.{Command}
 use Rattle.messages.specs.declared.Outcome.{Outcome}
+use Rattle.quantities.specs.Quantities.{currentAt}
 use Rattle.store.specs.declared.Settings.{Settings}
 use Rattle.store.specs.Sizes.{most}
 use Rattle.holds.specs.Holds.{situationOf, valueAt, stateAt, shown}
@@ -36,7 +38,7 @@ reached c = foldl (λ d call. call d) (startAfter (c .settings)) (c .calls)
 unfoldable pub found : Case → List ℤ
 found c = c .question (reached c)
 
--- THE DEVICES: both directions, all accepted, failsafe 4,200,000 and 0 for 7,200 s, no energy manager
+-- THE DEVICES: both directions, all accepted, failsafe 4,200,000 and 0 for 7,200 s, no energy manager, three phases
 abbrev pub device : ℕ → List ℕ → Settings
 device minimum maxima =
     record {
@@ -48,6 +50,24 @@ device minimum maxima =
       failsafe = 4200000 ∷ 0 ∷ [];
       duration = 7200;
       manager = false;
+      phases = 3;
+      currents = true;
+    }
+
+-- the same with one phase
+abbrev pub single : Settings
+single =
+    record {
+      directions = 2;
+      limits = true;
+      setpoints = true;
+      minimum = 0;
+      maxima = most ∷ most ∷ [];
+      failsafe = 0 ∷ 0 ∷ [];
+      duration = 7200;
+      manager = false;
+      phases = 1;
+      currents = true;
     }
 
 -- one minimum, and one maximum for both directions
@@ -87,16 +107,34 @@ setpoint d v =
       cause = 0;
     })
 
+-- SetCurrentLimits with a field for phase p (none where there is no such phase), in direction d
+abbrev pub current : ℕ → ℕ → Field → ℕ → Command
+current p d f n =
+    Command.SetCurrentLimits (record {
+      phases =
+        record {
+          a = cond (eqb p 0) f Field.Absent;
+          b = cond (eqb p 1) f Field.Absent;
+          c = cond (eqb p 2) f Field.Absent;
+        };
+      direction = d;
+      duration = n;
+      cause = 0;
+    })
+
 -- THE QUESTIONS
 abbrev pub absent : ℤ
 absent = negsuc 0
 
--- the limit and the setpoint of direction d, and the control state, at second t
+-- the limit and the setpoint of direction d, its current limit on phase p, and the control state, at second t
 abbrev pub limitAt : ℕ → ℕ → List ℕ → List ℤ
 limitAt d t = λ ws. shown (valueAt (situationOf ws) t d) ∷ []
 
 abbrev pub setpointAt : ℕ → ℕ → List ℕ → List ℤ
 setpointAt d t = λ ws. shown (valueAt (situationOf ws) t (2 + d)) ∷ []
+
+abbrev pub currentOf : ℕ → ℕ → ℕ → List ℕ → List ℤ
+currentOf p d t = λ ws. shown (valueAt (situationOf ws) t (currentAt p d)) ∷ []
 
 abbrev pub controlAt : ℕ → List ℕ → List ℤ
 controlAt t = λ ws. pos (stateAt (situationOf ws) t) ∷ []
@@ -114,10 +152,15 @@ abbrev pub reasonIn : Outcome → ℤ
 reasonIn Outcome.Nothing = absent
 reasonIn (Outcome.Limit l) = amount (l .reason)
 reasonIn (Outcome.Setpoint l) = absent
+reasonIn (Outcome.Current l) = absent
 reasonIn Outcome.Success = absent
 
 abbrev pub reason : ℕ → ℕ → Command → List ℕ → List ℤ
 reason z t c = λ ws. reasonIn (commandAnswer ws z t c .outcome) ∷ []
+
+-- n values that are absent
+abbrev pub none : ℕ → List ℤ
+none n = replicate n absent
 
 -- the plan's rows after second t
 abbrev pub rows : ℕ → List ℕ → List ℤ
@@ -133,6 +176,10 @@ two calls = join 3 1 10 ∷ join 4 2 10 ∷ calls
 
 abbrev pub free : Settings
 free = box 0 most
+
+-- 16,000 mA of zone 3 and 10,000 of zone 4 on phase B, in direction d
+abbrev pub amps : ℕ → List Step → List Step
+amps d calls = two (tell 3 10 (current 1 d (mw 16000) 0) ∷ tell 4 20 (current 1 d (mw 10000) 0) ∷ calls)
 
 unfoldable pub table : ℕ → List Case
 table d =
@@ -169,16 +216,31 @@ table d =
     ∷ case free (two (tell 3 10 (limit d (mw 2000000) 0) ∷ lost 3 900 ∷ lost 4 1000 ∷ [])) (limitAt d 1000) (cond (eqb d 0) (pos 2000000) (pos 0) ∷ [])
     ∷ case free (two (tell 3 10 (limit d (mw 4200001) 0) ∷ lost 3 900 ∷ lost 4 1000 ∷ [])) (limitAt d 1000) (cond (eqb d 0) (pos 4200000) (pos 0) ∷ [])
     ∷ case free (two (tell 3 10 (limit 0 (mw 2000000) 60) ∷ lost 3 15 ∷ lost 4 20 ∷ []))
-    (rows 20) (pos 70 ∷ pos 3 ∷ pos 4200000 ∷ pos 0 ∷ absent ∷ absent ∷ pos 7220 ∷ pos 0 ∷ absent ∷ absent ∷ absent ∷ absent ∷ [])
+    (rows 20) (pos 70 ∷ pos 3 ∷ pos 4200000 ∷ pos 0 ∷ none 8 ++ pos 7220 ∷ pos 0 ∷ none 10)
     -- P9 equal rank, zones 4 and 6: zone 4's setpoint
     ∷ case free (two (join 6 2 10 ∷ tell 6 10 (setpoint d 100) ∷ tell 4 10 (setpoint d 900) ∷ [])) (setpointAt d 10) (pos 900 ∷ [])
     -- P10 two equal limits, expiries 50 and 70: a row at 70 only
     ∷ case free (two (tell 3 10 (limit d (mw 7000) 40) ∷ tell 4 10 (limit d (mw 7000) 60) ∷ []))
-    (rows 10) (pos 70 ∷ pos 1 ∷ absent ∷ absent ∷ absent ∷ absent ∷ [])
+    (rows 10) (pos 70 ∷ pos 1 ∷ none 10)
     -- the bench program's input, of which the last two lines of output are the plan at 110
     ∷ case bench (join 3 1 100 ∷ join 9 2 100 ∷ tell 3 100 (limit 0 (mw 11040000) 60) ∷ tell 9 100 (limit 0 (mw 4600000) 20) ∷ [])
     (rows 110)
-    (pos 120 ∷ pos 2 ∷ pos 11040000 ∷ absent ∷ absent ∷ absent ∷ pos 160 ∷ pos 1 ∷ absent ∷ absent ∷ absent ∷ absent ∷ [])
+    (pos 120 ∷ pos 2 ∷ pos 11040000 ∷ none 9 ++ pos 160 ∷ pos 1 ∷ none 10)
+    -- L5 16,000 and 10,000 mA on phase B: 10,000 holds, in FAILSAFE too and not behind it; the other phases stay absent
+    ∷ case free (amps d []) (currentOf 1 d 20) (pos 10000 ∷ [])
+    ∷ case free (amps d (lost 3 900 ∷ lost 4 1000 ∷ [])) (currentOf 1 d 8199) (pos 10000 ∷ [])
+    ∷ case free (amps d (lost 3 900 ∷ lost 4 1000 ∷ [])) (currentOf 1 d 8200) (absent ∷ [])
+    ∷ case free (amps d []) (currentOf 0 d 20) (absent ∷ [])
+    ∷ case free (amps d []) (currentOf 1 (1 - d) 20) (absent ∷ [])
+    -- L5 a current limit makes no LIMITED, and null takes this zone's away
+    ∷ case free (amps d []) (controlAt 20) (pos CONTROLLED ∷ [])
+    ∷ case free (amps d (tell 4 30 (current 1 d Field.Null 0) ∷ [])) (currentOf 1 d 30) (pos 16000 ∷ [])
+    -- L5 refused with 13: a phase from the phase count up, also as null; a negative value; an empty map. Phase A of one is accepted
+    ∷ case single (two []) (told 3 20 (current 0 d (mw 6000) 0)) (pos 0 ∷ [])
+    ∷ case single (two []) (told 3 20 (current 1 d (mw 6000) 0)) (pos 13 ∷ [])
+    ∷ case single (two []) (told 3 20 (current 1 d Field.Null 0)) (pos 13 ∷ [])
+    ∷ case single (two []) (told 3 20 (current 0 d (Field.Value (negsuc 0)) 0)) (pos 13 ∷ [])
+    ∷ case single (two []) (told 3 20 (current 3 d (mw 6000) 0)) (pos 13 ∷ [])
     ∷ []
 
 -- "The marked examples are one table under one statement"
