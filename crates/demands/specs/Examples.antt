@@ -112,11 +112,11 @@ abbrev pub current : ℕ → ℕ → Field → ℕ → Command
 current p d f n =
     Command.SetCurrentLimits (record {
       phases =
-        record {
-          a = cond (eqb p 0) f Field.Absent;
-          b = cond (eqb p 1) f Field.Absent;
-          c = cond (eqb p 2) f Field.Absent;
-        };
+          record {
+            a = cond (eqb p 0) f Field.Absent;
+            b = cond (eqb p 1) f Field.Absent;
+            c = cond (eqb p 2) f Field.Absent;
+          };
       direction = d;
       duration = n;
       cause = 0;

@@ -44,7 +44,9 @@ bit-back false = refl
 pub store-start : (s : List ℕ) (p : ℕ) (hs : List Held) → sets s (p + 2 * 0) (heldWords (drop 0 hs)) ≡ sets s p (heldWords hs)
 store-start s p hs = ap (λ (x : ℕ). sets s x (heldWords hs)) (add-zero p)
 
-pub store-turn : (s s′ r : List ℕ) (p q : ℕ) (hs : List Held) (d : Held) → q < length hs → sets s (p + 2 * q) (heldWords (drop q hs)) ≡ r → s′ ≡ set (set s (p + 2 * q) (getD hs q d .value)) (p + 2 * q + 1) (getD hs q d .until) → sets s′ (p + 2 * (q + 1)) (heldWords (drop (q + 1) hs)) ≡ r
+pub store-turn : (s s′ r : List ℕ) (p q : ℕ) (hs : List Held) (d : Held) → q < length hs → sets s (p + 2 * q) (heldWords (drop q hs)) ≡ r
+    → s′ ≡ set (set s (p + 2 * q) (getD hs q d .value)) (p + 2 * q + 1) (getD hs q d .until)
+    → sets s′ (p + 2 * (q + 1)) (heldWords (drop (q + 1) hs)) ≡ r
 unfolding heldWords
 store-turn s s′ r p q hs d h inv e =
     let two : p + 2 * (q + 1) ≡ suc (suc (p + 2 * q)) = omega arith in

@@ -121,7 +121,8 @@ module _ (ws : List ℕ) (i : ℕ) (x : Zone) (n : length ws ≡ words) (full : 
       ])
 
 -- puts of two slots commute
-runs-commute : (ws : List ℕ) (i j : ℕ) (x y : Zone) → length (x .held) ≡ helds → i < j → sets (sets ws (base i) (zoneWords x)) (base j) (zoneWords y) ≡ sets (sets ws (base j) (zoneWords y)) (base i) (zoneWords x)
+runs-commute : (ws : List ℕ) (i j : ℕ) (x y : Zone) → length (x .held) ≡ helds → i < j
+    → sets (sets ws (base i) (zoneWords x)) (base j) (zoneWords y) ≡ sets (sets ws (base j) (zoneWords y)) (base i) (zoneWords x)
 runs-commute ws i j x y full h =
     let e : length (zoneWords x) ≡ zoneSize = zone-length x full in
     sets-sets (zoneWords y) (zoneWords x) ws (base i) (base j) (omega arith)
@@ -130,7 +131,8 @@ pub puts-commute : (ws : List ℕ) (i j : ℕ) (x y : Zone) → length (x .held)
 unfolding putZone
 puts-commute ws i j x y f g a = go (ltb i slots) (ltb j slots)
   where
-    go : (b c : Bool) → cond c (sets (cond b (sets ws (base i) (zoneWords x)) ws) (base j) (zoneWords y)) (cond b (sets ws (base i) (zoneWords x)) ws) ≡ cond b (sets (cond c (sets ws (base j) (zoneWords y)) ws) (base i) (zoneWords x)) (cond c (sets ws (base j) (zoneWords y)) ws)
+    go : (b c : Bool) → cond c (sets (cond b (sets ws (base i) (zoneWords x)) ws) (base j) (zoneWords y)) (cond b (sets ws (base i) (zoneWords x)) ws)
+        ≡ cond b (sets (cond c (sets ws (base j) (zoneWords y)) ws) (base i) (zoneWords x)) (cond c (sets ws (base j) (zoneWords y)) ws)
     go true true =
         elim (decLt i j) [
           | yes h ↦ runs-commute ws i j x y f h

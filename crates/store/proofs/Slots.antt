@@ -13,7 +13,8 @@ use Rattle.store.specs.Zones.{idOf, rankOf, freeZone, newZone, first, sl
 use Rattle.store.specs.declared.Zone.{Zone}
 
 module _ {A : Type 0} (p : A → Bool) where
-  passes-at : (x : A) (l : List A) (d : A) → (first p l < length l → p (getD l (first p l) d) ≡ true) → (b : Bool) → p x ≡ b → cond b 0 (suc (first p l)) < suc (length l) → p (getD (x ∷ l) (cond b 0 (suc (first p l))) d) ≡ true
+  passes-at : (x : A) (l : List A) (d : A) → (first p l < length l → p (getD l (first p l) d) ≡ true) → (b : Bool) → p x ≡ b
+      → cond b 0 (suc (first p l)) < suc (length l) → p (getD (x ∷ l) (cond b 0 (suc (first p l))) d) ≡ true
   passes-at x l d ih true e h = e
   passes-at x l d ih false e h = ih (le-of-suc-le-suc h)
 
@@ -24,7 +25,8 @@ module _ {A : Type 0} (p : A → Bool) where
   first-passes (x ∷ l) d h = passes-at x l d (first-passes l d) (p x) refl h
 
   -- what alone passes is found where it was stored
-  new-at : (y : A) (l : List A) (i : ℕ) (x : A) → (length l ≤ first p l → first p (set l i x) ≡ i) → (b : Bool) → p y ≡ b → suc (length l) ≤ cond b 0 (suc (first p l)) → cond b 0 (suc (first p (set l i x))) ≡ suc i
+  new-at : (y : A) (l : List A) (i : ℕ) (x : A) → (length l ≤ first p l → first p (set l i x) ≡ i) → (b : Bool) → p y ≡ b
+      → suc (length l) ≤ cond b 0 (suc (first p l)) → cond b 0 (suc (first p (set l i x))) ≡ suc i
   new-at y l i x ih true e h = absurd (not-suc-le-zero h)
   new-at y l i x ih false e h = ap suc (ih (le-of-suc-le-suc h))
 

@@ -31,7 +31,8 @@ module _ {A : Type 0} (ws : List ℕ) (i : ℕ) (get : Zone → A) (f : ℕ → 
       ]
 
 -- what the stores of a record leave
-pub stored : (ws s₁ s₂ s₃ : List ℕ) (i b : ℕ) (x : Zone) → i < slots → s₁ ≡ set ws (base i) (x .seat) → b ≡ bit (x .up) → s₂ ≡ set s₁ (base i + 1) b → s₃ ≡ sets s₂ (base i + 2) (heldWords (x .held)) → s₃ ≡ putZone ws i x
+pub stored : (ws s₁ s₂ s₃ : List ℕ) (i b : ℕ) (x : Zone) → i < slots → s₁ ≡ set ws (base i) (x .seat) → b ≡ bit (x .up) → s₂ ≡ set s₁ (base i + 1) b
+    → s₃ ≡ sets s₂ (base i + 2) (heldWords (x .held)) → s₃ ≡ putZone ws i x
 unfolding putZone
 stored ws s₁ s₂ s₃ i b x h e₁ eb e₂ e₃ =
     let two : base i + 2 ≡ suc (suc (base i)) = omega arith in

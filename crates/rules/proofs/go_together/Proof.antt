@@ -17,9 +17,25 @@ unfolding goTogether
 go-together-spec =
     tie.close
     (tie.spec
-    (λ c. rw (lt-ltb _ _ (c .if1 .taken), ne-eqb (c .before .args .reason) 2 (λ e. omega arith), ne-eqb (c .before .args .reason) 3 (λ e. omega arith), ne-eqb (c .before .args .reason) 4 (λ e. omega arith)) (alone _ (c .before .args .manager)))
-    (λ c. rw (c .if2 .taken) (alone _ (c .before .before .args .manager)))
+    (λ c. rw (
+      lt-ltb _ _ (c .if1 .taken),
+      ne-eqb (c .before .args .reason) 2 (λ e. omega arith),
+      ne-eqb (c .before .args .reason) 3
+          (λ e. omega arith),
+      ne-eqb (c .before .args .reason) 4 (λ e. omega arith),
+    ) (alone _ (c .before .args .manager)))
+    (λ c.
+    let at-args = c .before .before .args in
+    rw (c .if2 .taken) (alone _ (at-args .manager)))
     (λ c. rw (c .if4 .taken, c .before .if3 .taken) (alone _ true))
-    (λ c. rw (c .if5 .taken, c .before .before .if3 .taken))
-    (λ c. rw (le-ltb _ _ (c .before .before .before .before .if1 .left), ne-eqb _ _ (c .before .before .before .if2 .left), ne-eqb _ _ (c .before .if4 .left), ne-eqb _ _ (c .if5 .left), c .before .before .if3 .taken))
-    (λ c. rw (le-ltb _ _ (c .before .before .if1 .left), ne-eqb _ _ (c .before .if2 .left), c .if3 .left)))
+    (λ c.
+    let at-if3 = c .before .before .if3 in
+    rw (c .if5 .taken, at-if3 .taken))
+    (λ c.
+    let at-if3 = c .before .before .if3 in
+    let at-if2 = c .before .before .before .if2 in
+    let at-if1 = c .before .before .before .before .if1 in
+    rw (le-ltb _ _ (at-if1 .left), ne-eqb _ _ (at-if2 .left), ne-eqb _ _ (c .before .if4 .left), ne-eqb _ _ (c .if5 .left), at-if3 .taken))
+    (λ c.
+    let at-if1 = c .before .before .if1 in
+    rw (le-ltb _ _ (at-if1 .left), ne-eqb _ _ (c .before .if2 .left), c .if3 .left)))

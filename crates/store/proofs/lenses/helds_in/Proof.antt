@@ -23,5 +23,7 @@ helds-in-spec =
     (tie.spec
     Inv-loop μ-loop (λ c. (omega arith, refl, refl)) (λ c κs. omega arith) (λ c. omega arith)
     (λ c. omega arith) (λ c. omega arith) (λ c. omega arith)
-    (λ c. (omega arith, simp length-set (c .before .before .loop .inv .1), fill-turn _ _ (c .before .before .loop .q) _ (omega arith) (c .before .before .loop .inv .2) (c .held-in .ensures)))
+    (λ c.
+    let at-loop = c .before .before .loop in
+    (omega arith, simp length-set (at-loop .inv .1), fill-turn _ _ (at-loop .q) _ (omega arith) (at-loop .inv .2) (c .held-in .ensures)))
     (λ c. fill-end _ _ (c .before .loop .q) helds (c .before .loop .inv .1) (omega arith) (omega arith) (c .before .loop .inv .2)))

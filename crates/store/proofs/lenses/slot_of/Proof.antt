@@ -24,7 +24,19 @@ slot-of-spec =
     tie.close
     (tie.spec
     Inv-loop μ-loop (λ c. omega arith) (λ c κs. tt)
-    (λ c. first-here _ _ freeZone (c .before .before .before .loop .i) (omega (arith, zones-length (c .before .before .before .before .args .d .now))) (c .before .before .before .loop .inv .1) (eq-eqb _ _ (sym (c .before .id-at .ensures) ∙ c .if1 .taken)))
+    (λ c.
+    let at-loop = c .before .before .before .loop in
+    let at-args = c .before .before .before .before .args in
+    first-here _ _ freeZone (at-loop .i) (omega (arith, zones-length (at-args .d .now))) (at-loop .inv .1)
+    (eq-eqb _ _ (sym (c .before .id-at .ensures) ∙ c .if1 .taken)))
     (λ c. omega arith) (λ c. omega arith)
-    (λ c. (omega arith, first-turn _ _ freeZone (c .before .before .before .loop .i) (omega (arith, zones-length (c .before .before .before .before .args .d .now))) (c .before .before .before .loop .inv .1) (ne-eqb _ _ (λ e. c .if1 .left (c .before .id-at .ensures ∙ e)))))
-    (λ c. first-end _ _ (c .before .loop .i) (omega (arith, zones-length (c .before .before .args .d .now))) (c .before .loop .inv .1)))
+    (λ c.
+    let at-loop = c .before .before .before .loop in
+    let at-args = c .before .before .before .before .args in (
+      omega arith,
+      first-turn _ _ freeZone (at-loop .i) (omega (arith, zones-length (at-args .d .now))) (at-loop .inv .1)
+          (ne-eqb _ _ (λ e. c .if1 .left (c .before .id-at .ensures ∙ e))),
+    ))
+    (λ c.
+    let at-args = c .before .before .args in
+    first-end _ _ (c .before .loop .i) (omega (arith, zones-length (at-args .d .now))) (c .before .loop .inv .1)))

@@ -12,5 +12,7 @@ word-spec =
     tie.close
     (tie.spec
     (λ c. search needs) (λ c. search needs) (λ c. search needs) (λ c κs. tt)
-    (λ c. let l : length (c .all .result) ≡ words = search needs in
-    sym (List·getD-eq-default (c .before .before .args .d .now) 0 {n = c .before .before .args .i} (omega (arith, ap length (c .all .ensures))))))
+    (λ c.
+    let at-args = c .before .before .args in
+    let l : length (c .all .result) ≡ words = search needs in
+    sym (List·getD-eq-default (at-args .d .now) 0 {n = at-args .i} (omega (arith, ap length (c .all .ensures))))))

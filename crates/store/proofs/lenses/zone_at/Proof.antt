@@ -14,6 +14,9 @@ zone-at-spec =
     (tie.spec
     (λ c. search needs) (λ c. search needs) (λ c κs. search needs) (λ c. search needs) (λ c κs. search needs)
     (λ c. search needs) (λ c κs. search needs)
-    (λ c. rw (c .before .before .word .ensures, c .before .word2 .ensures, c .helds-in .ensures) (sym (zones-at _ _ freeZone (c .before .before .before .if1 .taken))))
+    (λ c.
+    let at-word = c .before .before .word in
+    let at-if1 = c .before .before .before .if1 in
+    rw (at-word .ensures, c .before .word2 .ensures, c .helds-in .ensures) (sym (zones-at _ _ freeZone (at-if1 .taken))))
     (λ c κs. search needs)
     (λ c. c .free-zone .ensures ∙ sym (zones-past _ _ (c .before .if1 .left))))

@@ -9,4 +9,8 @@ apply-spec =
     tie.close
     (tie.spec
     (λ c κs. tt) (λ c κs. tt) (λ c κs. tt) (λ c κs. tt)
-    (λ c. rw (c .put-word3 .ensures, c .before .before .put-word2 .ensures, c .before .before .before .before .put-word .ensures, c .before .before .before .before .before .before .put-zone .ensures)))
+    (λ c.
+    let at-put-word2 = c .before .before .put-word2 in
+    let at-put-word = c .before .before .before .before .put-word in
+    let at-put-zone = c .before .before .before .before .before .before .put-zone in
+    rw (c .put-word3 .ensures, at-put-word2 .ensures, at-put-word .ensures, at-put-zone .ensures)))

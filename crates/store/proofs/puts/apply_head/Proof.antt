@@ -8,4 +8,6 @@ apply-head-spec =
     tie.close
     (tie.spec
     (λ c κs. tt) (λ c κs. tt)
-    (λ c. rw (c .put-word2 .ensures, c .before .before .put-word .ensures) (head-stored _ _ _)))
+    (λ c.
+    let at-put-word = c .before .before .put-word in
+    rw (c .put-word2 .ensures, at-put-word .ensures) (head-stored _ _ _)))

@@ -8,4 +8,6 @@ put-held-spec =
     tie.close
     (tie.spec
     (λ c κs. search needs) (λ c. search needs) (λ c κs. search needs)
-    (λ c. rw (c .put-word2 .ensures, c .before .before .put-word .ensures)))
+    (λ c.
+    let at-put-word = c .before .before .put-word in
+    rw (c .put-word2 .ensures, at-put-word .ensures)))

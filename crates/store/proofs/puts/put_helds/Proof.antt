@@ -23,5 +23,13 @@ put-helds-spec =
     (tie.spec
     Inv-loop μ-loop (λ c. (omega arith, store-start _ _ _)) (λ c. omega arith) (λ c. omega arith)
     (λ c. omega arith) (λ c. omega arith) (λ c κs. omega arith) (λ c. omega arith) (λ c. omega arith)
-    (λ c. (omega arith, store-turn _ _ _ _ (c .before .before .before .before .loop .q) _ _ (let l : length (c .before .before .before .before .before .args .t3) ≡ helds = search length-of in omega arith) (c .before .before .before .before .loop .inv .1) (c .put-held .ensures)))
-    (λ c. store-end _ _ _ (c .before .loop .q) _ (let l : length (c .before .before .args .t3) ≡ helds = search length-of in omega arith) (c .before .loop .inv .1)))
+    (λ c.
+    let at-loop = c .before .before .before .before .loop in
+    let at-args = c .before .before .before .before .before .args in (
+      omega arith,
+      store-turn _ _ _ _ (at-loop .q) _ _ (let l : length (at-args .t3) ≡ helds = search length-of in omega arith) (at-loop .inv .1)
+          (c .put-held .ensures),
+    ))
+    (λ c.
+    let at-args = c .before .before .args in
+    store-end _ _ _ (c .before .loop .q) _ (let l : length (at-args .t3) ≡ helds = search length-of in omega arith) (c .before .loop .inv .1)))

@@ -20,6 +20,15 @@ pub put-settings-spec : {M : Type 1} → statement M
 put-settings-spec =
     tie.close
     (tie.spec
-    Inv-loop μ-loop (λ c. (omega arith, refl)) (λ c. omega arith) (λ c. omega arith) (λ c. omega arith) (λ c κs. tt) (λ c. omega arith) (λ c. omega arith)
-    (λ c. (omega arith, run-turn _ _ marks _ _ (c .before .before .before .loop .i) 0 (let l : length (c .before .before .before .before .args .t2) ≡ settings = search needs in omega arith) (c .before .before .before .loop .inv .1) (c .put-word .ensures)))
-    (λ c. run-end _ _ marks _ (c .before .loop .i) (let l : length (c .before .before .args .t2) ≡ settings = search needs in omega arith) (c .before .loop .inv .1)))
+    Inv-loop μ-loop (λ c. (omega arith, refl)) (λ c. omega arith) (λ c. omega arith) (λ c. omega arith) (λ c κs. tt) (λ c. omega arith)
+    (λ c. omega arith)
+    (λ c.
+    let at-loop = c .before .before .before .loop in
+    let at-args = c .before .before .before .before .args in (
+      omega arith,
+      run-turn _ _ marks _ _ (at-loop .i) 0 (let l : length (at-args .t2) ≡ settings = search needs in omega arith) (at-loop .inv .1)
+          (c .put-word .ensures),
+    ))
+    (λ c.
+    let at-args = c .before .before .args in
+    run-end _ _ marks _ (c .before .loop .i) (let l : length (at-args .t2) ≡ settings = search needs in omega arith) (c .before .loop .inv .1)))

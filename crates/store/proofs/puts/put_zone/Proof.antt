@@ -10,5 +10,10 @@ put-zone-spec =
     (tie.spec
     (λ c. search needs) (λ c. search needs) (λ c κs. search needs) (λ c. search needs) (λ c κs. search needs)
     (λ c κs. search needs) (λ c. search needs) (λ c κs. search needs)
-    (λ c. stored _ _ _ _ _ _ _ (c .before .before .before .before .before .before .before .before .if1 .taken) (c .before .before .before .before .before .put-word .ensures) (c .before .before .before .bit-of .ensures) (c .before .before .put-word2 .ensures) (c .put-helds .ensures))
+    (λ c.
+    let at-put-word2 = c .before .before .put-word2 in
+    let at-bit-of = c .before .before .before .bit-of in
+    let at-put-word = c .before .before .before .before .before .put-word in
+    let at-if1 = c .before .before .before .before .before .before .before .before .if1 in
+    stored _ _ _ _ _ _ _ (at-if1 .taken) (at-put-word .ensures) (at-bit-of .ensures) (at-put-word2 .ensures) (c .put-helds .ensures))
     (λ c. not-stored _ _ _ (c .if1 .left)))

@@ -10,4 +10,7 @@ setting-words-spec =
     tie.close
     (tie.spec
     (λ c κs. tt) (λ c κs. tt) (λ c. search needs) (λ c. search needs) (λ c. search needs) (λ c. search needs) (λ c κs. tt) (λ c κs. tt)
-    (λ c. rw (c .before .before .before .bit-of .ensures, c .before .before .bit-of2 .ensures, c .before .bit-of3 .ensures, c .bit-of4 .ensures)))
+    (λ c.
+    let at-bit-of2 = c .before .before .bit-of2 in
+    let at-bit-of = c .before .before .before .bit-of in
+    rw (at-bit-of .ensures, at-bit-of2 .ensures, c .before .bit-of3 .ensures, c .bit-of4 .ensures)))
