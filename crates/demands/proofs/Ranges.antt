@@ -131,7 +131,7 @@ winner-small s h k t q v l e = go (winner t q (zonesBy s h) .there) refl e
 
 pub value-small : (s : Settings) (calls : List Call) (t q v : ℕ) → q < helds → valueAt (situationBy (startedWith s) (log (startedWith s) calls)) t q ≡ Is v → v < valueEnd
 unfolding valueAt failsafeValue smallestWith
-value-small s calls t q v l e = go (supports (u .directions) (directionOf q)) (anyUp (zonesBy u h)) (inFailsafe (situationBy u h) t) (isSetpoint q) (isLimit q) refl e
+value-small s calls t q v l e = go (supports (u .directions) (directionOf q)) (anyUp (zonesBy u h)) (inFailsafe (situationBy u h) t) (isLimit q) (isSetpoint q) refl e
   where
     u : Settings
     u = startedWith s
@@ -154,11 +154,11 @@ value-small s calls t q v l e = go (supports (u .directions) (directionOf q)) (a
         least true false e = failsafe-small s q (ltb-true q 2 p)
         least false b e = failsafe-small s q (ltb-true q 2 p)
 
-    go : (a b c s d : Bool) → isLimit q ≡ d
-        → cond a (cond b (amountOf c₀) (cond c (cond s Absent (cond d (Is (smallestWith n c₀)) (amountOf c₀))) Absent)) Absent ≡ Is v → v < valueEnd
-    go true true c s d p e = winner-small u h (log-small u calls) t q v l e
-    go true false true true d p e = absurd (let w : _≡_ {A = ℕ} 0 1 = cc in omega arith)
-    go true false true false true p e = let w : smallestWith n c₀ ≡ v = cc in omega (arith, least-small p)
+    go : (a b c d s : Bool) → isLimit q ≡ d
+        → cond a (cond b (amountOf c₀) (cond c (cond d (Is (smallestWith n c₀)) (cond s Absent (amountOf c₀))) Absent)) Absent ≡ Is v → v < valueEnd
+    go true true c d s p e = winner-small u h (log-small u calls) t q v l e
+    go true false true true s p e = let w : smallestWith n c₀ ≡ v = cc in omega (arith, least-small p)
+    go true false true false true p e = absurd (let w : _≡_ {A = ℕ} 0 1 = cc in omega arith)
     go true false true false false p e = winner-small u h (log-small u calls) t q v l e
-    go true false false s d p e = absurd (let w : _≡_ {A = ℕ} 0 1 = cc in omega arith)
-    go false b c s d p e = absurd (let w : _≡_ {A = ℕ} 0 1 = cc in omega arith)
+    go true false false d s p e = absurd (let w : _≡_ {A = ℕ} 0 1 = cc in omega arith)
+    go false b c d s p e = absurd (let w : _≡_ {A = ℕ} 0 1 = cc in omega arith)
