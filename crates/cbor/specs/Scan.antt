@@ -17,7 +17,7 @@ KEYS = 6
 
 -- how many maps within each other are looked into
 abbrev pub LEVELS : ℕ
-LEVELS = 2
+LEVELS = 3
 
 -- the small keys of each
 abbrev pub SIGHTS : ℕ

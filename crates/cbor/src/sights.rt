@@ -18,8 +18,8 @@ ghost use Rattle.cbor.specs.Pass.{Left, noteAt, noted, noteFrom, blank};
 // The small keys are 0 to 5.
 pub const KEYS: usize = 6;
 
-// How many maps within each other are looked into: the payload's, and one below it.
-pub const LEVELS: usize = 2;
+// How many maps within each other are looked into: the payload's, and two below it.
+pub const LEVELS: usize = 3;
 
 // Nothing is looked into below this level.
 const DEEPEST: usize = LEVELS - 1;
