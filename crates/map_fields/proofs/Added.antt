@@ -117,5 +117,9 @@ unfolding countPairs present
 count-more k (some i) fs = omega arith
 count-more k none fs = omega arith
 
+pub pairs-small : (o : Option Item) → pairsOf o ≤ 1
+pairs-small (some i) = omega arith
+pairs-small none = omega arith
+
 pub fields-one : (k : ℕ) (o : Option Item) → encodePairs (present ((k, o) ∷ [])) ≡ fieldBytes k o
 fields-one k o = fields-more k o [] ∙ rw fields-none (append-nil (fieldBytes k o))

@@ -4,3 +4,5 @@ pub mod Signs
 pub mod BySight
 pub mod Parts
 pub mod Added
+pub mod PhaseLaws
+pub mod OnlyLaws

@@ -1,8 +1,15 @@
 // A field of a checked map, read by what is seen of it and written behind what is written.
+mod phases; // phases.rt: maps of phases, read and written
 mod puts; // puts.rt: fields, written
 mod readers; // readers.rt: fields, read
 mod truths; // truths.rt: truths joined
 
+pub use phases::Amounts;
+pub use phases::Fields;
+pub use phases::put_currents;
+pub use phases::put_phases;
+pub use phases::read_currents;
+pub use phases::read_phases;
 pub use puts::count_amount;
 pub use puts::count_value;
 pub use puts::put_amount;
