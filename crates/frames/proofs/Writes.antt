@@ -8,12 +8,15 @@ use native.Mathlib.Omega.{arith}
 use Rattle.cbor.specs.Head.{headBytes}
 use Rattle.cbor.specs.Item.{Item, encode, encodePairs, countPairs}
 use Rattle.messages.specs.Numbers.{wireNumber}
+use Rattle.messages.specs.declared.Amount.{Amount}
+use Rattle.messages.specs.declared.CurrentLimits.{CurrentLimits}
 use Rattle.messages.specs.declared.Request.{Request}
 use Rattle.messages.specs.declared.Response.{Response}
 use Rattle.messages.specs.declared.LimitResult.{LimitResult}
 use Rattle.messages.specs.declared.SetpointResult.{SetpointResult}
 use Rattle.map_fields.specs.Fields.{Fields, present, valueItem, amountItem, truthItem}
-use Rattle.frames.specs.Settings.{settingFields}
+use Rattle.map_fields.specs.ByPhase.{phasesItem}
+use Rattle.frames.specs.Settings.{durationAmount, settingFields, currentLimitFields}
 use Rattle.frames.specs.declared.settings.Setting.{Setting}
 use Rattle.frames.specs.Requests.{commandFields, requestFields, requestItem}
 use Rattle.frames.specs.Responses.{mapItem, limitFields, setpointFields, clearFields, outcomeItem, responseFields, responseItem}
@@ -40,6 +43,20 @@ module _ (s : Setting) where
       ≡ encodePairs (present (settingFields s))
   unfolding settingFields
   setting-bytes = rw (fields-more, fields-more, fields-more, fields-one) (simp append-assoc)
+
+module _ (l : CurrentLimits) (a : Amount) (e : a ≡ durationAmount (l .duration)) where
+  pub duration-few : (z : ℕ) → z ≡ pairsOf (amountItem a) → z ≤ 1
+  duration-few z c = omega (arith, c, pairs-small (amountItem a))
+
+  pub current-limits-count : (z : ℕ) → z ≡ pairsOf (amountItem a) → 3 + z ≡ countPairs (present (currentLimitFields l))
+  unfolding currentLimitFields phasesItem
+  current-limits-count z c = rw (← e, count-more, count-more, count-more, count-more, count-none) (omega arith)
+
+  pub current-limits-bytes :
+      ((fieldBytes 1 (phasesItem (l .phases)) ++ fieldBytes 2 (some (Item.uint (l .direction)))) ++ fieldBytes 3 (amountItem a)) ++ fieldBytes 4 (some (Item.uint (l .cause)))
+      ≡ encodePairs (present (currentLimitFields l))
+  unfolding currentLimitFields
+  current-limits-bytes = rw (← e, fields-more, fields-more, fields-more, fields-one) (simp append-assoc)
 
 pub one-count : (k n : ℕ) (o : Option Item) → n ≡ pairsOf o → n ≡ countPairs (present ((k, o) ∷ []))
 one-count k n o e = rw (count-more, count-none) (omega arith)

@@ -13,7 +13,7 @@ use Rattle.messages.specs.declared.Command.{Command}
 use Rattle.messages.specs.declared.Request.{Request}
 use Rattle.frames.specs.Prefix.{framed, payloadIn}
 use Rattle.map_fields.specs.Fields.{upTo, mapIn, needed, most32, aimIn, aimItem, Fields, present}
-use Rattle.frames.specs.Settings.{settingIn, limitsFrom, setpointsFrom, settingOfLimits, settingOfSetpoints, settingFields}
+use Rattle.frames.specs.Settings.{settingIn, limitsFrom, setpointsFrom, settingOfLimits, settingOfSetpoints, settingFields, currentLimitsIn, currentLimitFields}
 use Rattle.frames.specs.declared.requests.Reading.{Reading}
 
 -- READING
@@ -35,9 +35,9 @@ envelopeIn ps =
     bind (needed mapIn (valueOf ps 5)) (λ m.
     some (record { id = i; endpoint = e; feature = f; command = c; parameters = m }))))))
 
--- "commands 1 to 4"
+-- "commands 1 to 6"
 unfoldable pub servedCommand : ℕ → Bool
-servedCommand c = leb 1 c && leb c 4
+servedCommand c = leb 1 c && leb c 6
 
 -- "One energy endpoint, number 1, feature 0x0005"
 unfoldable pub servedAt : ℕ → ℕ → Bool
@@ -49,7 +49,9 @@ commandIn c ps =
     cond (eqb c 1) (Option·map (λ s. Command.SetLimit (limitsFrom s)) (settingIn true ps))
     (cond (eqb c 2) (Option·map Command.ClearLimit (aimIn (valueOf ps 1)))
     (cond (eqb c 3) (Option·map (λ s. Command.SetSetpoint (setpointsFrom s)) (settingIn false ps))
-    (Option·map Command.ClearSetpoint (aimIn (valueOf ps 1)))))
+    (cond (eqb c 4) (Option·map Command.ClearSetpoint (aimIn (valueOf ps 1)))
+    (cond (eqb c 5) (Option·map Command.SetCurrentLimits (currentLimitsIn ps))
+    (Option·map Command.ClearCurrentLimits (aimIn (valueOf ps 1)))))))
 
 abbrev pub withCommand : Envelope → Option Command → Reading
 withCommand e (some c) = Reading.Is (record { id = e .id; endpoint = e .endpoint; feature = e .feature; command = c })
@@ -84,6 +86,8 @@ commandFields (Command.SetLimit l) = settingFields (settingOfLimits l)
 commandFields (Command.ClearLimit a) = (1, aimItem a) ∷ []
 commandFields (Command.SetSetpoint l) = settingFields (settingOfSetpoints l)
 commandFields (Command.ClearSetpoint a) = (1, aimItem a) ∷ []
+commandFields (Command.SetCurrentLimits l) = currentLimitFields l
+commandFields (Command.ClearCurrentLimits a) = (1, aimItem a) ∷ []
 commandFields (Command.Unserved n) = []
 
 unfoldable pub requestFields : Request → Fields
@@ -105,6 +109,8 @@ commandWide (Command.SetLimit l) = ltb most32 (l .duration) || ltb 255 (l .cause
 commandWide (Command.ClearLimit a) = aimWide a
 commandWide (Command.SetSetpoint l) = ltb most32 (l .duration) || ltb 255 (l .cause)
 commandWide (Command.ClearSetpoint a) = aimWide a
+commandWide (Command.SetCurrentLimits l) = ltb 1 (l .direction) || (ltb most32 (l .duration) || ltb 255 (l .cause))
+commandWide (Command.ClearCurrentLimits a) = aimWide a
 commandWide (Command.Unserved n) = ltb 65535 n
 
 abbrev pub isServed : Command → Bool
@@ -112,6 +118,8 @@ isServed (Command.SetLimit l) = true
 isServed (Command.ClearLimit a) = true
 isServed (Command.SetSetpoint l) = true
 isServed (Command.ClearSetpoint a) = true
+isServed (Command.SetCurrentLimits l) = true
+isServed (Command.ClearCurrentLimits a) = true
 isServed (Command.Unserved n) = false
 
 -- 3: "a value out of range"

@@ -1,7 +1,7 @@
--- The parameters of a Set command: one shape, which SetLimit and SetSetpoint alike are read into and written from. Assumes nothing: these
--- are definitions.
+-- The parameters of a Set command: one shape, which SetLimit and SetSetpoint alike are read into and written from, and that of
+-- SetCurrentLimits. Assumes nothing: these are definitions.
 use Prim.Native.Nat.{ℕ}
-use mathlib.Core.Bool.{Bool, cond}
+use mathlib.Core.Bool.{Bool, true, cond}
 use mathlib.Core.List.{[], _∷_}
 use mathlib.Core.Option.{Option, some, bind}
 use lib.Dec.{eqb}
@@ -12,7 +12,9 @@ use Rattle.messages.specs.declared.Target.{Target}
 use Rattle.messages.specs.declared.Amount.{Amount}
 use Rattle.messages.specs.declared.Limits.{Limits}
 use Rattle.messages.specs.declared.Setpoints.{Setpoints}
+use Rattle.messages.specs.declared.CurrentLimits.{CurrentLimits}
 use Rattle.map_fields.specs.Fields.{upTo, needed, most32, valueIn, amountIn, valueItem, amountItem, Fields}
+use Rattle.map_fields.specs.ByPhase.{phasesIn, phasesItem}
 use Rattle.frames.specs.declared.settings.Setting.{Setting}
 
 -- READING
@@ -43,6 +45,15 @@ unfoldable pub setpointsFrom : Setting → Setpoints
 setpointsFrom s =
     record { consumption = targetOf (s .consumption); production = targetOf (s .production); duration = durationOf (s .duration); cause = s .cause }
 
+-- SetCurrentLimits: "1 a map of phase (A 0, B 1, C 2) to mA or null, 2 direction, 3 duration, 4 cause"; 3 may be absent
+unfoldable pub currentLimitsIn : Pairs → Option CurrentLimits
+currentLimitsIn ps =
+    bind (phasesIn true (valueOf ps 1)) (λ f.
+    bind (needed (upTo 1) (valueOf ps 2)) (λ x.
+    bind (amountIn most32 (valueOf ps 3)) (λ d.
+    bind (needed (upTo 255) (valueOf ps 4)) (λ k.
+    some (record { phases = f; direction = x; duration = durationOf d; cause = k })))))
+
 -- WRITING
 -- "A zero duration is omitted"
 abbrev pub durationAmount : ℕ → Amount
@@ -62,3 +73,7 @@ settingOfSetpoints l =
 unfoldable pub settingFields : Setting → Fields
 settingFields s =
     (1, valueItem (s .consumption)) ∷ (2, valueItem (s .production)) ∷ (3, amountItem (s .duration)) ∷ (4, some (Item.uint (s .cause))) ∷ []
+
+unfoldable pub currentLimitFields : CurrentLimits → Fields
+currentLimitFields l =
+    (1, phasesItem (l .phases)) ∷ (2, some (Item.uint (l .direction))) ∷ (3, amountItem (durationAmount (l .duration))) ∷ (4, some (Item.uint (l .cause))) ∷ []

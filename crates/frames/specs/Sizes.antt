@@ -4,15 +4,15 @@ use Rattle.map_fields.specs.Puts.{pairRoom}
 
 -- the longest frames that are written: frame_laws has the proof
 abbrev pub longestRequest : ℕ
-longestRequest = 48
+longestRequest = 62
 
 abbrev pub longestResponse : ℕ
 longestResponse = 41
 
 -- ROOM FOR THE WRITERS, each field taken at its widest
--- the four fields of a Set command
+-- the seven pairs of SetCurrentLimits, those of the phases among them
 abbrev pub paramsRoom : ℕ
-paramsRoom = 4 * pairRoom
+paramsRoom = 7 * pairRoom
 
 -- five fields, and the key with the head of their map
 abbrev pub outcomeRoom : ℕ
@@ -20,4 +20,4 @@ outcomeRoom = 6 * pairRoom
 
 -- more than any payload that is written has
 abbrev pub payloadRoom : ℕ
-payloadRoom = 192
+payloadRoom = 240

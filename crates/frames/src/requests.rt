@@ -1,7 +1,9 @@
 // Requests, read.
 use crate::settings::Setting;
+use crate::settings::duration_of;
 use crate::settings::limits_from;
 use crate::settings::setpoints_from;
+use cbor::Sight;
 use cbor::Sights;
 use cbor::sight_of;
 use map_fields::all4;
@@ -10,19 +12,22 @@ use map_fields::amount_of;
 use map_fields::both;
 use map_fields::is_map;
 use map_fields::is_uint;
+use map_fields::read_phases;
 use map_fields::read_value;
 use messages::Aim;
 use messages::Amount;
 use messages::Command;
+use messages::CurrentLimits;
 use messages::Request;
 use prefix::PREFIX;
 use prefix::is_framed;
 ghost use mathlib.Core.Path.{_≡_};
+ghost use mathlib.Core.Bool.{true};
 ghost use Rattle.cbor.specs.Item.{payloadOf};
 ghost use Rattle.frames.specs.Requests.{fromPayload, readRequest, servedCommand, servedAt};
-ghost use Rattle.map_fields.specs.Sights.{aimOf, Inside};
+ghost use Rattle.map_fields.specs.Sights.{UintReads, aimOf, Inside};
 ghost use Rattle.frames.specs.Settings.{settingIn};
-ghost use Rattle.frames.specs.Sights.{EnvelopeReads, CommandReads, ClearReads, MessageReads};
+ghost use Rattle.frames.specs.Sights.{EnvelopeReads, CurrentLimitsRead, CommandReads, ClearReads, MessageReads};
 
 // A request; the message id of one that is not served; a refusal number.
 pub enum Reading {
@@ -37,18 +42,26 @@ pub struct Set {
     pub setting: Setting,
 }
 
+// The parameters of SetCurrentLimits; not `ok` is refusal 3.
+pub struct CurrentSet {
+    pub ok: bool,
+    pub limits: CurrentLimits,
+}
+
 // A command's parameters, or refusal 3.
 pub enum Parameters {
     Are(Command),
     Wrong,
 }
 
-// The levels that are looked into: the payload's map, and the parameters under its key 5.
+// The levels that are looked into: the payload's map, the parameters under its key 5, the phases under key 1 of these.
 const ENVELOPE: usize = 0;
 
 const PARAMETERS: usize = 1;
 
-const PATH: u64 = 5;
+const PHASES: usize = 2;
+
+const PATH: u64 = 21;
 
 // The largest number of 32 bits.
 pub const MOST32: u64 = 4294967295;
@@ -57,7 +70,7 @@ pub const MOST32: u64 = 4294967295;
 pub fn is_command(c: u64) -> bool
     ensures { λ r. ⌜ r ≡ servedCommand c ⌝ }
 {
-    both(1 <= c, c <= 4)
+    both(1 <= c, c <= 6)
 }
 
 // Whether it is the served endpoint and feature.
@@ -80,6 +93,13 @@ fn is_envelope(sights: &Sights) -> bool
     )
 }
 
+// Whether a cause is there.
+fn is_cause(k: Sight) -> bool
+    ensures { λ r. ⌜ UintReads k true 255 r ⌝ }
+{
+    is_uint(k, true, 255)
+}
+
 // The parameters of a Set command, with null or without.
 fn read_setting(sights: &Sights, null: bool) -> Set
     ensures { λ r. ⌜ Inside (now (sights .entry)) 1 (settingIn null) (r .ok) (r .setting) ⌝ }
@@ -92,7 +112,7 @@ fn read_setting(sights: &Sights, null: bool) -> Set
         consumption.ok,
         production.ok,
         is_uint(duration, false, MOST32),
-        is_uint(cause, true, 255),
+        is_cause(cause),
     );
     let c = consumption.field;
     let p = production.field;
@@ -103,6 +123,36 @@ fn read_setting(sights: &Sights, null: bool) -> Set
         cause: cause.arg,
     };
     Set { ok, setting }
+}
+
+// The parameters of SetCurrentLimits.
+fn read_current_limits(sights: &Sights) -> CurrentSet
+    ensures { λ r. ⌜ CurrentLimitsRead (now (sights .entry)) (r .ok) (r .limits) ⌝ }
+{
+    let map = read_phases(
+        sight_of(sights, PARAMETERS, 1),
+        sight_of(sights, PHASES, 0),
+        sight_of(sights, PHASES, 1),
+        sight_of(sights, PHASES, 2),
+        true,
+    );
+    let direction = sight_of(sights, PARAMETERS, 2);
+    let duration = sight_of(sights, PARAMETERS, 3);
+    let cause = sight_of(sights, PARAMETERS, 4);
+    let ok = all4(
+        map.ok,
+        is_uint(direction, true, 1),
+        is_uint(duration, false, MOST32),
+        is_cause(cause),
+    );
+    let phases = map.phases;
+    let limits = CurrentLimits {
+        phases,
+        direction: direction.arg,
+        duration: duration_of(amount_of(duration)),
+        cause: cause.arg,
+    };
+    CurrentSet { ok, limits }
 }
 
 fn aim_of(a: Amount) -> Aim
@@ -134,6 +184,14 @@ fn read_command(sights: &Sights, command: u64) -> Parameters
         }
         return Parameters::Wrong;
     }
+    if command == 5 {
+        let v = read_current_limits(sights);
+        if v.ok {
+            let l = v.limits;
+            return Parameters::Are(Command::SetCurrentLimits(l));
+        }
+        return Parameters::Wrong;
+    }
     read_clear(sights, command)
 }
 
@@ -147,7 +205,10 @@ fn read_clear(sights: &Sights, command: u64) -> Parameters
         if command == 2 {
             return Parameters::Are(Command::ClearLimit(aim));
         }
-        return Parameters::Are(Command::ClearSetpoint(aim));
+        if command == 4 {
+            return Parameters::Are(Command::ClearSetpoint(aim));
+        }
+        return Parameters::Are(Command::ClearCurrentLimits(aim));
     }
     Parameters::Wrong
 }

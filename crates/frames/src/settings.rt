@@ -16,7 +16,7 @@ pub struct Setting {
 }
 
 // An omitted duration is 0.
-fn duration_of(a: Amount) -> u64
+pub fn duration_of(a: Amount) -> u64
     ensures { λ r. ⌜ r ≡ durationOf a ⌝ }
 {
     match a {
@@ -26,7 +26,7 @@ fn duration_of(a: Amount) -> u64
 }
 
 // A duration of 0 is omitted.
-fn duration_amount(d: u64) -> Amount
+pub fn duration_amount(d: u64) -> Amount
     ensures { λ r. ⌜ r ≡ durationAmount d ⌝ }
 {
     if d == 0 {

@@ -5,6 +5,7 @@ use crate::sender::Written;
 use crate::sender::refused;
 use crate::sender::send;
 use crate::settings::Setting;
+use crate::settings::duration_amount;
 use crate::settings::setting_of_limits;
 use crate::settings::setting_of_setpoints;
 use crate::sizes::ROOM;
@@ -14,11 +15,13 @@ use map_fields::count_value;
 use map_fields::either;
 use map_fields::put_amount;
 use map_fields::put_map;
+use map_fields::put_phases;
 use map_fields::put_uint;
 use map_fields::put_value;
 use messages::Aim;
 use messages::Amount;
 use messages::Command;
+use messages::CurrentLimits;
 use messages::Request;
 ghost use mathlib.Core.Path.{_≡_};
 ghost use Prim.Native.Nat.{_+_, _≤_};
@@ -27,7 +30,7 @@ ghost use Rattle.cbor.specs.Item.{encode, encodePairs, countPairs};
 ghost use Rattle.map_fields.specs.Fields.{present, aimItem, amountItem};
 ghost use Rattle.frames.specs.Requests.{commandFields, requestItem, aimWide, commandWide, isServed, requestWide, requestNumber};
 ghost use Rattle.map_fields.specs.Puts.{Puts};
-ghost use Rattle.frames.specs.Settings.{settingFields};
+ghost use Rattle.frames.specs.Settings.{settingFields, currentLimitFields};
 ghost use Rattle.frames.specs.Sizes.{paramsRoom, payloadRoom};
 ghost use Rattle.frames.specs.Writing.{itemFrame, writtenOf, leftBy};
 
@@ -50,6 +53,13 @@ fn count_setting(s: Setting) -> u64
     count_value(c) + count_value(p) + count_amount(d) + 1
 }
 
+// The map of phases, the direction and the cause are always there.
+fn count_current_limits(l: CurrentLimits) -> u64
+    ensures { λ r. ⌜ r ≡ countPairs (present (currentLimitFields l)) ⌝ }
+{
+    3 + count_amount(duration_amount(l.duration))
+}
+
 // How many pairs the parameters of a command are.
 fn count_command(c: Command) -> u64
     ensures { λ r. ⌜ r ≡ countPairs (present (commandFields c)) ⌝ }
@@ -59,6 +69,8 @@ fn count_command(c: Command) -> u64
         Command::ClearLimit(a) => count_amount(aim_amount(a)),
         Command::SetSetpoint(l) => count_setting(setting_of_setpoints(l)),
         Command::ClearSetpoint(a) => count_amount(aim_amount(a)),
+        Command::SetCurrentLimits(l) => count_current_limits(l),
+        Command::ClearCurrentLimits(a) => count_amount(aim_amount(a)),
         Command::Unserved(_) => 0,
     }
 }
@@ -75,6 +87,16 @@ fn put_setting(out: &mut [u8], at: usize, s: Setting) -> usize
     put_uint(out, after_d, 4, s.cause)
 }
 
+fn put_current_limits(out: &mut [u8], at: usize, l: CurrentLimits) -> usize
+    ensures { λ r. ⌜ Puts (now (out .entry)) at (encodePairs (present (currentLimitFields l))) paramsRoom (now (out .exit)) r ⌝ }
+{
+    let phases = l.phases;
+    let after_f = put_phases(out, at, 1, phases);
+    let after_x = put_uint(out, after_f, 2, l.direction);
+    let after_d = put_amount(out, after_x, 3, duration_amount(l.duration));
+    put_uint(out, after_d, 4, l.cause)
+}
+
 // The parameters' pairs.
 fn put_command(out: &mut [u8], at: usize, c: Command) -> usize
     ensures { λ r. ⌜ Puts (now (out .entry)) at (encodePairs (present (commandFields c))) paramsRoom (now (out .exit)) r ⌝ }
@@ -84,6 +106,8 @@ fn put_command(out: &mut [u8], at: usize, c: Command) -> usize
         Command::ClearLimit(a) => put_amount(out, at, 1, aim_amount(a)),
         Command::SetSetpoint(l) => put_setting(out, at, setting_of_setpoints(l)),
         Command::ClearSetpoint(a) => put_amount(out, at, 1, aim_amount(a)),
+        Command::SetCurrentLimits(l) => put_current_limits(out, at, l),
+        Command::ClearCurrentLimits(a) => put_amount(out, at, 1, aim_amount(a)),
         Command::Unserved(_) => at,
     }
 }
@@ -120,6 +144,11 @@ fn command_wide(c: Command) -> bool
         Command::ClearLimit(a) => aim_wide(a),
         Command::SetSetpoint(l) => either(MOST32 < l.duration, 255 < l.cause),
         Command::ClearSetpoint(a) => aim_wide(a),
+        Command::SetCurrentLimits(l) => either(
+            1 < l.direction,
+            either(MOST32 < l.duration, 255 < l.cause),
+        ),
+        Command::ClearCurrentLimits(a) => aim_wide(a),
         Command::Unserved(n) => 65535 < n,
     }
 }
@@ -132,6 +161,8 @@ fn has_parameters(c: Command) -> bool
         Command::ClearLimit(_) => true,
         Command::SetSetpoint(_) => true,
         Command::ClearSetpoint(_) => true,
+        Command::SetCurrentLimits(_) => true,
+        Command::ClearCurrentLimits(_) => true,
         Command::Unserved(_) => false,
     }
 }

@@ -1,5 +1,5 @@
 -- The direction is judged by its sight.
-use Rattle.frames.proofs.Requested.{clear-limit, clear-setpoint, clear-wrong}
+use Rattle.frames.proofs.Requested.{clear-limit, clear-setpoint, clear-currents, clear-wrong}
 use borrow.Author.Needs.{needs}
 use Rattle.frames.proofs.requests.read_clear.Statement.{statement}
 use Rattle.frames.proofs.requests.read_clear.Tie as tie
@@ -18,13 +18,23 @@ read-clear-spec =
     clear-limit (at-args .sights .now) (at-args .command) _ (at-sight-of .ensures) _ (at-is-uint .ensures) (at-if1 .taken) _
     (at-amount-of .ensures) _ (c .before .aim-of .ensures) (c .if2 .taken))
     (λ c.
-    let at-amount-of = c .before .before .amount-of in
-    let at-if1 = c .before .before .before .if1 in
-    let at-is-uint = c .before .before .before .before .is-uint in
-    let at-sight-of = c .before .before .before .before .before .sight-of in
-    let at-args = c .before .before .before .before .before .before .args in
+    let at-aim-of = c .before .before .aim-of in
+    let at-amount-of = c .before .before .before .amount-of in
+    let at-if1 = c .before .before .before .before .if1 in
+    let at-is-uint = c .before .before .before .before .before .is-uint in
+    let at-sight-of = c .before .before .before .before .before .before .sight-of in
+    let at-args = c .before .before .before .before .before .before .before .args in
     clear-setpoint (at-args .sights .now) (at-args .command) _ (at-sight-of .ensures) _ (at-is-uint .ensures) (at-if1 .taken) _
-    (at-amount-of .ensures) _ (c .before .aim-of .ensures) (c .if2 .left))
+    (at-amount-of .ensures) _ (at-aim-of .ensures) (c .if3 .taken))
+    (λ c.
+    let at-aim-of = c .before .before .aim-of in
+    let at-amount-of = c .before .before .before .amount-of in
+    let at-if1 = c .before .before .before .before .if1 in
+    let at-is-uint = c .before .before .before .before .before .is-uint in
+    let at-sight-of = c .before .before .before .before .before .before .sight-of in
+    let at-args = c .before .before .before .before .before .before .before .args in
+    clear-currents (at-args .sights .now) (at-args .command) _ (at-sight-of .ensures) _ (at-is-uint .ensures) (at-if1 .taken) _
+    (at-amount-of .ensures) _ (at-aim-of .ensures) (c .before .if2 .left) (c .if3 .left))
     (λ c.
     let at-sight-of = c .before .before .sight-of in
     let at-args = c .before .before .before .args in

@@ -1,5 +1,5 @@
 -- By the number of the command.
-use Rattle.frames.proofs.Requested.{limit-is, limit-wrong, setpoint-is, setpoint-wrong, clear-is}
+use Rattle.frames.proofs.Requested.{limit-is, limit-wrong, setpoint-is, setpoint-wrong, currents-are, currents-wrong, clear-is}
 use borrow.Author.Needs.{needs}
 use Rattle.frames.proofs.requests.read_command.Statement.{statement}
 use Rattle.frames.proofs.requests.read_command.Tie as tie
@@ -34,6 +34,17 @@ read-command-spec =
     setpoint-wrong (at-args .sights .now) (at-args .command) _ (c .before .read-setting2 .ensures) (at-if3 .taken) (c .if4 .left))
     (λ c κs. search needs)
     (λ c.
-    let at-if1 = c .before .before .if1 in
-    let at-args = c .before .before .before .args in
-    clear-is (at-args .sights .now) (at-args .command) _ (c .read-clear .ensures) (at-if1 .left) (c .before .if3 .left)))
+    let at-read-current-limits = c .before .before .read-current-limits in
+    let at-if5 = c .before .before .before .if5 in
+    let at-args = c .before .before .before .before .before .before .args in
+    currents-are (at-args .sights .now) (at-args .command) _ (at-read-current-limits .ensures) (at-if5 .taken) (c .before .if6 .taken))
+    (λ c.
+    let at-if5 = c .before .before .if5 in
+    let at-args = c .before .before .before .before .before .args in
+    currents-wrong (at-args .sights .now) (at-args .command) _ (c .before .read-current-limits .ensures) (at-if5 .taken) (c .if6 .left))
+    (λ c κs. search needs)
+    (λ c.
+    let at-if3 = c .before .before .if3 in
+    let at-if1 = c .before .before .before .if1 in
+    let at-args = c .before .before .before .before .args in
+    clear-is (at-args .sights .now) (at-args .command) _ (c .read-clear .ensures) (at-if1 .left) (at-if3 .left) (c .before .if5 .left)))

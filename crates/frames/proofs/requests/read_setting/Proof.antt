@@ -11,7 +11,7 @@ read-setting-spec =
     (λ c κs. search needs) (λ c κs. search needs) (λ c κs. search needs) (λ c κs. search needs) (λ c κs. search needs)
     (λ c κs. search needs) (λ c κs. search needs) (λ c κs. search needs) (λ c κs. search needs) (λ c κs. search needs)
     (λ c.
-    let at-is-uint2 = c .before .before .is-uint2 in
+    let at-is-cause = c .before .before .is-cause in
     let at-is-uint = c .before .before .before .is-uint in
     let at-sight-of4 = c .before .before .before .before .sight-of4 in
     let at-sight-of3 = c .before .before .before .before .before .sight-of3 in
@@ -22,5 +22,5 @@ read-setting-spec =
     let at-sight-of = back-8 .before .sight-of in
     let at-args = back-8 .before .before .args in
     setting-read (at-args .sights .now) (at-args .null) _ _ _ _ (at-sight-of .ensures) (at-sight-of2 .ensures) (at-sight-of3 .ensures)
-    (at-sight-of4 .ensures) _ _ _ _ (at-read-value .ensures) (at-read-value2 .ensures) (at-is-uint .ensures) (at-is-uint2 .ensures) _
+    (at-sight-of4 .ensures) _ _ _ _ (at-read-value .ensures) (at-read-value2 .ensures) (at-is-uint .ensures) (at-is-cause .ensures) _
     (c .before .all4 .ensures) _ (c .amount-of .ensures)))

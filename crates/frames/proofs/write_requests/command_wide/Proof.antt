@@ -10,6 +10,7 @@ command-wide-spec =
     tie.close
     (tie.spec
     (λ c. search needs) (λ c κs. search needs) (λ c. search needs) (λ c κs. search needs) (λ c. search needs)
+    (λ c κs. search needs) (λ c. search needs) (λ c κs. search needs) (λ c. search needs) (λ c κs. search needs)
     (λ c κs. search needs) (λ c. search needs) (λ c κs. search needs) (λ c. search needs)
     (λ c.
     let at-c = c .before .before .before .before .c in
@@ -23,4 +24,10 @@ command-wide-spec =
     (λ c.
     let at-c4 = c .before .before .c4 in
     rw (at-c4 .given .1) (c .aim-wide2 .ensures))
-    (λ c. rw (c .before .c5 .given .1)))
+    (λ c.
+    let at-c5 = c .before .before .before .before .before .before .c5 in
+    rw (at-c5 .given .1, c .either4 .ensures, c .before .either3 .ensures))
+    (λ c.
+    let at-c6 = c .before .before .c6 in
+    rw (at-c6 .given .1) (c .aim-wide3 .ensures))
+    (λ c. rw (c .before .c7 .given .1)))

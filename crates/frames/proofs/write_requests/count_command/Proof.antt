@@ -15,6 +15,7 @@ count-command-spec =
     (tie.spec
     (λ c. search needs) (λ c κs. search needs) (λ c κs. search needs) (λ c. search needs) (λ c κs. search needs)
     (λ c κs. search needs) (λ c. search needs) (λ c κs. search needs) (λ c κs. search needs)
+    (λ c. search needs) (λ c κs. search needs) (λ c κs. search needs) (λ c. search needs) (λ c κs. search needs)
     (λ c. search needs) (λ c κs. search needs) (λ c κs. search needs) (λ c. search needs)
     (λ c.
     let at-c = c .before .before .before .c in
@@ -28,4 +29,10 @@ count-command-spec =
     (λ c.
     let at-c4 = c .before .before .before .c4 in
     rw (at-c4 .given .1) (one-count 1 _ _ (c .count-amount2 .ensures ∙ ap pairsOf (c .before .aim-amount2 .ensures))))
+    (λ c.
+    let at-c5 = c .before .before .c5 in
+    rw (at-c5 .given .1) (c .count-current-limits .ensures))
+    (λ c.
+    let at-c6 = c .before .before .before .c6 in
+    rw (at-c6 .given .1) (one-count 1 _ _ (c .count-amount3 .ensures ∙ ap pairsOf (c .before .aim-amount3 .ensures))))
     (λ c. rw (c .enum-told .given .1) (sym count-none)))

@@ -16,6 +16,7 @@ put-command-spec =
     (tie.spec
     (λ c. search needs) (λ c κs. search needs) (λ c κs. search needs) (λ c. search needs) (λ c κs. search needs)
     (λ c κs. search needs) (λ c. search needs) (λ c κs. search needs) (λ c κs. search needs)
+    (λ c. search needs) (λ c κs. search needs) (λ c κs. search needs) (λ c. search needs) (λ c κs. search needs)
     (λ c. search needs) (λ c κs. search needs) (λ c κs. search needs) (λ c. search needs) (λ c. search needs)
     (λ c.
     let at-put-setting = c .before .before .put-setting in
@@ -42,6 +43,18 @@ put-command-spec =
     let at-c4 = c .before .before .before .before .before .before .c4 in
     rw (at-c4 .given .1) (puts-wider paramsRoom (omega arith)
     (puts-same (ap (fieldBytes 1) (at-aim-amount2 .ensures) ∙ sym (fields-one 1 _)) (at-put-amount2 .ensures .puts))))
+    (λ c. search needs)
+    (λ c.
+    let at-put-current-limits = c .before .before .put-current-limits in
+    let at-c5 = c .before .before .before .before .before .c5 in
+    rw (at-c5 .given .1) (at-put-current-limits .ensures))
+    (λ c. search needs)
+    (λ c.
+    let at-put-amount3 = c .before .before .put-amount3 in
+    let at-aim-amount3 = c .before .before .before .aim-amount3 in
+    let at-c6 = c .before .before .before .before .before .before .c6 in
+    rw (at-c6 .given .1) (puts-wider paramsRoom (omega arith)
+    (puts-same (ap (fieldBytes 1) (at-aim-amount3 .ensures) ∙ sym (fields-one 1 _)) (at-put-amount3 .ensures .puts))))
     (λ c.
     let at-args = c .before .before .before .args in
     rw (c .enum-told .given .1) (puts-same (sym fields-none) (puts-none (at-args .out .now) (at-args .at) _))))

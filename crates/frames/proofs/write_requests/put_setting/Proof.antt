@@ -1,6 +1,8 @@
 -- The fields one behind the other are the bytes of the map.
 use Rattle.frames.proofs.Writes.{setting-bytes}
-use Rattle.map_fields.proofs.Added.{puts-more, puts-same}
+use native.Mathlib.Omega.{arith}
+use Rattle.map_fields.proofs.Added.{puts-more, puts-wider, puts-same}
+use Rattle.frames.specs.Sizes.{paramsRoom}
 use borrow.Author.Needs.{needs}
 use Rattle.frames.proofs.write_requests.put_setting.Statement.{statement}
 use Rattle.frames.proofs.write_requests.put_setting.Tie as tie
@@ -19,5 +21,5 @@ put-setting-spec =
     let at-put-value = back-8 .before .before .before .before .before .before .put-value in
     let back-16 = back-8 .before .before .before .before .before .before .before .before in
     let at-args = back-16 .before .args in
-    puts-same (setting-bytes (at-args .s)) (puts-more
-    (puts-more (puts-more (at-put-value .ensures .puts) (at-put-value2 .ensures .puts)) (at-put-amount .ensures .puts)) (at-put-uint .ensures .puts))))
+    puts-wider paramsRoom (omega arith) (puts-same (setting-bytes (at-args .s)) (puts-more
+    (puts-more (puts-more (at-put-value .ensures .puts) (at-put-value2 .ensures .puts)) (at-put-amount .ensures .puts)) (at-put-uint .ensures .puts)))))
