@@ -13,7 +13,7 @@ use Rattle.messages.specs.declared.Setpoints.{Setpoints}
 use Rattle.messages.specs.declared.Command.{Command}
 use Rattle.store.specs.Sizes.{helds}
 use Rattle.store.specs.declared.Settings.{Settings}
-use Rattle.holds.specs.Holds.{directionOf, supports}
+use Rattle.quantities.specs.Quantities.{isCurrent, directionOf, phaseOf, supports}
 use Rattle.command.specs.declared.said.Kind.{Kind}
 use Rattle.command.specs.Says.{says, kindOf, isSet, aimOf, someOf, natural, fieldNames, fieldNegative}
 
@@ -22,15 +22,18 @@ use Rattle.command.specs.Says.{says, kindOf, isSet, aimOf, someOf, natur
 abbrev pub ofNone : Kind → Bool
 ofNone Kind.Limits = false
 ofNone Kind.Setpoints = false
+ofNone Kind.Currents = false
 ofNone Kind.Unserved = true
 
 abbrev pub isUnserved : Command → Bool
 isUnserved c = ofNone (kindOf c)
 
--- 11: "limits or setpoints not accepted, or a named direction not supported"; a clear without direction names none
+-- 11: "limits or setpoints not accepted, or a named direction not supported"; L5: "whether current limits are accepted"; a clear without
+-- direction names none
 abbrev pub accepts : Settings → Kind → Bool
 accepts s Kind.Limits = s .limits
 accepts s Kind.Setpoints = s .setpoints
+accepts s Kind.Currents = s .currents
 accepts s Kind.Unserved = true
 
 abbrev pub aimUnsupported : ℕ → Aim → Bool
@@ -45,18 +48,27 @@ unsupported s c =
     not (accepts s (kindOf c))
     || (aimUnsupported (s .directions) (aimOf c) || (isSet c && someOf (λ q. beyond (s .directions) (says c q) q) helds))
 
--- 12: "SetLimit while an override is set"
+-- 12: "SetLimit while an override is set"; L5: "an override set is 12 for command 5"
 abbrev pub ofLimits : Kind → Bool
 ofLimits Kind.Limits = true
 ofLimits Kind.Setpoints = false
+ofLimits Kind.Currents = true
 ofLimits Kind.Unserved = false
 
 abbrev pub setsLimits : Command → Bool
 setsLimits c = ofLimits (kindOf c) && isSet c
 
--- 13: "a Set command with a negative value or naming neither direction"
-unfoldable pub invalid : Command → Bool
-invalid c = isSet c && (someOf (λ q. fieldNegative (says c q)) helds || not (someOf (λ q. fieldNames (says c q)) helds))
+-- a phase "from the phase count up", named by a number or by null
+abbrev pub outside : ℕ → Field → ℕ → Bool
+outside count f q = fieldNames f && (isCurrent q && leb count (phaseOf q))
+
+-- 13: "a Set command with a negative value or naming neither direction"; L5: a phase "from the phase count up, a negative value or an empty map"
+unfoldable pub invalid : Settings → Command → Bool
+invalid s c =
+    isSet c
+    && (someOf (λ q. fieldNegative (says c q)) helds
+    || (not (someOf (λ q. fieldNames (says c q)) helds)
+    || someOf (λ q. outside (s .phases) (says c q) q) helds))
 
 -- 14: "a consumption limit below the minimum": the rule for a single value. 0 means off, and is never too low
 unfoldable pub tooLow : ℕ → ℕ → Bool
@@ -74,4 +86,4 @@ belowTheMinimum s c = fieldTooLow (s .minimum) (says c 0)
 -- what is asked of the command itself, once its zone is joined and up
 abbrev pub contentTests : Settings → ℕ → Command → List (Bool × ℕ)
 contentTests s override c =
-    (unsupported s c, 11) ∷ (setsLimits c && not (eqb override 0), 12) ∷ (invalid c, 13) ∷ (belowTheMinimum s c, 14) ∷ []
+    (unsupported s c, 11) ∷ (setsLimits c && not (eqb override 0), 12) ∷ (invalid s c, 13) ∷ (belowTheMinimum s c, 14) ∷ []

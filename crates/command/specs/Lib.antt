@@ -2,3 +2,4 @@ pub mod Says
 pub mod Content
 pub mod Obeys
 pub mod Outcomes
+pub mod Asked

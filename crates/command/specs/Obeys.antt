@@ -16,7 +16,7 @@ use Rattle.store.specs.Zones.{upTo, nothing, holding, heldOf}
 use Rattle.store.specs.declared.Held.{Held}
 use Rattle.store.specs.declared.Zone.{Zone}
 use Rattle.store.specs.declared.Settings.{Settings}
-use Rattle.holds.specs.Holds.{isLimit, directionOf}
+use Rattle.quantities.specs.Quantities.{isLimit, directionOf}
 use Rattle.command.specs.declared.Action.{Action}
 use Rattle.command.specs.Says.{says, durationOf, natural}
 

@@ -10,8 +10,10 @@ use Rattle.messages.specs.declared.Target.{Target}
 use Rattle.messages.specs.declared.Aim.{Aim}
 use Rattle.messages.specs.declared.Limits.{Limits}
 use Rattle.messages.specs.declared.Setpoints.{Setpoints}
+use Rattle.messages.specs.declared.Phases.{Phases}
+use Rattle.messages.specs.declared.CurrentLimits.{CurrentLimits}
 use Rattle.messages.specs.declared.Command.{Command}
-use Rattle.holds.specs.Holds.{isLimit, directionOf}
+use Rattle.quantities.specs.Quantities.{isLimit, isSetpoint, isCurrent, directionOf, phaseOf}
 use Rattle.command.specs.declared.said.Kind.{Kind}
 
 -- A COMMAND SEEN BY QUANTITY: what it says of each, beside its kind, aim and duration. All else goes by these and the answers below.
@@ -32,34 +34,61 @@ abbrev pub aimField : Aim → ℕ → Field
 aimField Aim.Both d = Field.Null
 aimField (Aim.One e) d = cond (eqb e d) Field.Null Field.Absent
 
--- "absent leaves that direction, null removes this zone's limit, a number sets it"; a clear says null
-unfoldable pub says : Command → ℕ → Field
-says (Command.SetLimit m) q = cond (isLimit q) (limitField m (directionOf q)) Field.Absent
-says (Command.ClearLimit a) q = cond (isLimit q) (aimField a (directionOf q)) Field.Absent
-says (Command.SetSetpoint m) q = cond (isLimit q) Field.Absent (setpointField m (directionOf q))
-says (Command.ClearSetpoint a) q = cond (isLimit q) Field.Absent (aimField a (directionOf q))
-says (Command.Unserved n) q = Field.Absent
+-- "a map of phase (A 0, B 1, C 2) to mA or null"
+abbrev pub phaseField : Phases → ℕ → Field
+phaseField m p = cond (eqb p 0) (m .a) (cond (eqb p 1) (m .b) (m .c))
+
+-- "2 direction": the map is of one direction, and says nothing of the other
+abbrev pub currentField : CurrentLimits → ℕ → Field
+currentField m q = cond (eqb (directionOf q) (m .direction)) (phaseField (m .phases) (phaseOf q)) Field.Absent
 
 abbrev pub kindOf : Command → Kind
 kindOf (Command.SetLimit m) = Kind.Limits
 kindOf (Command.ClearLimit a) = Kind.Limits
 kindOf (Command.SetSetpoint m) = Kind.Setpoints
 kindOf (Command.ClearSetpoint a) = Kind.Setpoints
+kindOf (Command.SetCurrentLimits m) = Kind.Currents
+kindOf (Command.ClearCurrentLimits a) = Kind.Currents
 kindOf (Command.Unserved n) = Kind.Unserved
+
+-- the quantities that a kind is about
+abbrev pub isOf : Kind → ℕ → Bool
+isOf Kind.Limits q = isLimit q
+isOf Kind.Setpoints q = isSetpoint q
+isOf Kind.Currents q = isCurrent q
+isOf Kind.Unserved q = false
+
+-- the field of a quantity of the command's kind
+abbrev pub fieldAt : Command → ℕ → Field
+fieldAt (Command.SetLimit m) q = limitField m (directionOf q)
+fieldAt (Command.ClearLimit a) q = aimField a (directionOf q)
+fieldAt (Command.SetSetpoint m) q = setpointField m (directionOf q)
+fieldAt (Command.ClearSetpoint a) q = aimField a (directionOf q)
+fieldAt (Command.SetCurrentLimits m) q = currentField m q
+fieldAt (Command.ClearCurrentLimits a) q = aimField a (directionOf q)
+fieldAt (Command.Unserved n) q = Field.Absent
+
+-- "absent leaves that direction, null removes this zone's limit, a number sets it"; "A phase not in the map is left as it is"; a clear says null
+unfoldable pub says : Command → ℕ → Field
+says c q = cond (isOf (kindOf c) q) (fieldAt c q) Field.Absent
 
 abbrev pub isSet : Command → Bool
 isSet (Command.SetLimit m) = true
 isSet (Command.ClearLimit a) = false
 isSet (Command.SetSetpoint m) = true
 isSet (Command.ClearSetpoint a) = false
+isSet (Command.SetCurrentLimits m) = true
+isSet (Command.ClearCurrentLimits a) = false
 isSet (Command.Unserved n) = false
 
--- the direction that a clear names; a Set command names directions by its fields alone
+-- the direction that a clear or a map of phases names; the other Set commands name directions by their fields alone
 abbrev pub aimOf : Command → Aim
 aimOf (Command.SetLimit m) = Aim.Both
 aimOf (Command.ClearLimit a) = a
 aimOf (Command.SetSetpoint m) = Aim.Both
 aimOf (Command.ClearSetpoint a) = a
+aimOf (Command.SetCurrentLimits m) = Aim.One (m .direction)
+aimOf (Command.ClearCurrentLimits a) = a
 aimOf (Command.Unserved n) = Aim.Both
 
 -- an omitted duration is 0
@@ -68,6 +97,8 @@ durationOf (Command.SetLimit m) = m .duration
 durationOf (Command.ClearLimit a) = 0
 durationOf (Command.SetSetpoint m) = m .duration
 durationOf (Command.ClearSetpoint a) = 0
+durationOf (Command.SetCurrentLimits m) = m .duration
+durationOf (Command.ClearCurrentLimits a) = 0
 durationOf (Command.Unserved n) = 0
 
 -- some quantity below n passes the test p

@@ -1,26 +1,21 @@
 // What is asked of a command itself, whatever zone it comes from: its tests go over the quantities, not over the commands.
-use crate::fields::field_names;
-use crate::fields::field_negative;
+use crate::asked::Question;
+use crate::asked::some_is;
 use crate::fields::field_too_low;
 use crate::said::Kind;
 use crate::said::aim_of;
-use crate::said::direction_of;
 use crate::said::is_set;
 use crate::said::kind_of;
 use crate::said::says;
-use holds::supports;
 use messages::Aim;
 use messages::Command;
-use messages::Field;
-use store::HELDS;
+use quantities::supports;
 use store::Settings;
 ghost use mathlib.Core.Path.{_≡_};
 ghost use mathlib.Core.Bool.{not, _&&_};
 ghost use lib.Dec.{eqb};
-ghost use Rattle.store.specs.Sizes.{helds};
 ghost use Rattle.messages.specs.Refusals.{firstOf};
-ghost use Rattle.command.specs.Content.{accepts, aimUnsupported, beyond, unsupported, isUnserved, setsLimits, invalid, belowTheMinimum, contentTests};
-ghost use Rattle.command.specs.Says.{someOf, says, fieldNegative, fieldNames};
+ghost use Rattle.command.specs.Content.{accepts, aimUnsupported, unsupported, isUnserved, setsLimits, invalid, belowTheMinimum, contentTests};
 
 fn accepts(s: Settings, k: Kind) -> bool
     ensures { λ r. ⌜ r ≡ accepts s k ⌝ }
@@ -28,6 +23,7 @@ fn accepts(s: Settings, k: Kind) -> bool
     match k {
         Kind::Limits => s.limits,
         Kind::Setpoints => s.setpoints,
+        Kind::Currents => s.currents,
         Kind::Unserved => true,
     }
 }
@@ -41,55 +37,6 @@ fn aim_unsupported(has: u64, a: Aim) -> bool
     }
 }
 
-// A quantity that is named though its direction is not supported.
-fn is_beyond(has: u64, f: Field, q: usize) -> bool
-    ensures { λ r. ⌜ r ≡ beyond has f q ⌝ }
-{
-    if field_names(f) {
-        return !supports(has, direction_of(q) as u64);
-    }
-    false
-}
-
-fn some_beyond(has: u64, c: Command) -> bool
-    ensures { λ r. ⌜ r ≡ someOf (λ q. beyond has (says c q) q) helds ⌝ }
-{
-    let mut q = 0;
-    while q < HELDS {
-        if is_beyond(has, says(c, q), q) {
-            return true;
-        }
-        q += 1;
-    }
-    false
-}
-
-fn some_negative(c: Command) -> bool
-    ensures { λ r. ⌜ r ≡ someOf (λ q. fieldNegative (says c q)) helds ⌝ }
-{
-    let mut q = 0;
-    while q < HELDS {
-        if field_negative(says(c, q)) {
-            return true;
-        }
-        q += 1;
-    }
-    false
-}
-
-fn some_named(c: Command) -> bool
-    ensures { λ r. ⌜ r ≡ someOf (λ q. fieldNames (says c q)) helds ⌝ }
-{
-    let mut q = 0;
-    while q < HELDS {
-        if field_names(says(c, q)) {
-            return true;
-        }
-        q += 1;
-    }
-    false
-}
-
 fn is_unsupported(s: Settings, c: Command) -> bool
     ensures { λ r. ⌜ r ≡ unsupported s c ⌝ }
 {
@@ -98,7 +45,7 @@ fn is_unsupported(s: Settings, c: Command) -> bool
             return true;
         }
         if is_set(c) {
-            return some_beyond(s.directions, c);
+            return some_is(Question::Beyond, s, c);
         }
         return false;
     }
@@ -112,6 +59,7 @@ pub fn is_unserved(c: Command) -> bool
     match kind_of(c) {
         Kind::Limits => false,
         Kind::Setpoints => false,
+        Kind::Currents => false,
         Kind::Unserved => true,
     }
 }
@@ -122,11 +70,12 @@ fn sets_limits(c: Command) -> bool
     match kind_of(c) {
         Kind::Limits => is_set(c),
         Kind::Setpoints => false,
+        Kind::Currents => is_set(c),
         Kind::Unserved => false,
     }
 }
 
-// An override stops every Set command of limits and no other command.
+// An override stops every Set command of limits, of power or current, and no other command.
 fn is_stopped(c: Command, overridden: u64) -> bool
     ensures { λ r. ⌜ r ≡ setsLimits c && not (eqb overridden 0) ⌝ }
 {
@@ -136,14 +85,17 @@ fn is_stopped(c: Command, overridden: u64) -> bool
     false
 }
 
-fn is_invalid(c: Command) -> bool
-    ensures { λ r. ⌜ r ≡ invalid c ⌝ }
+fn is_invalid(s: Settings, c: Command) -> bool
+    ensures { λ r. ⌜ r ≡ invalid s c ⌝ }
 {
     if is_set(c) {
-        if some_negative(c) {
+        if some_is(Question::Negative, s, c) {
             return true;
         }
-        return !some_named(c);
+        if some_is(Question::Named, s, c) {
+            return some_is(Question::Outside, s, c);
+        }
+        return true; // nothing is named
     }
     false
 }
@@ -164,7 +116,7 @@ pub fn content_number(s: Settings, overridden: u64, c: Command) -> u64
     if is_stopped(c, overridden) {
         return 12;
     }
-    if is_invalid(c) {
+    if is_invalid(s, c) {
         return 13;
     }
     if is_below_minimum(s, c) {

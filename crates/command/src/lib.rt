@@ -1,4 +1,5 @@
 // A command by itself, over values alone: what it says of each quantity, what is asked of it, what it leaves held, and its answer.
+mod asked; // asked.rt: one question asked of every quantity
 mod content; // content.rt: the tests of a command's content
 mod fields; // fields.rt: what one field says
 mod obey; // obey.rt: what a command leaves held by its zone
@@ -10,6 +11,7 @@ pub use content::is_unserved;
 pub use fields::is_negative;
 pub use fields::natural_of;
 pub use obey::obeyed;
+pub use outcomes::current_outcome;
 pub use outcomes::has_result;
 pub use outcomes::is_capped;
 pub use outcomes::limit_outcome;

@@ -1,11 +1,11 @@
 // What a command leaves held by its zone.
 use crate::Action;
 use crate::fields::field_action;
-use crate::said::direction_of;
 use crate::said::duration_of;
-use crate::said::is_limit;
 use crate::said::says;
 use messages::Command;
+use quantities::direction_of;
+use quantities::is_limit;
 use store::HELDS;
 use store::Held;
 use store::MOST;

@@ -1,34 +1,29 @@
 // The result that stands in the response to a command.
-use crate::fields::field_above;
+use crate::asked::Question;
+use crate::asked::some_is;
 use crate::fields::is_negative;
 use crate::fields::natural_of;
-use crate::obey::top_of;
-use crate::said::says;
 use messages::Amount;
 use messages::Command;
+use messages::CurrentResult;
 use messages::LimitResult;
 use messages::Outcome;
 use messages::SetpointResult;
-use store::HELDS;
+use quantities::CURRENTS;
 use store::Settings;
 use store::VALUES;
+ghost use Prim.Native.Nat.{_<_};
 ghost use mathlib.Core.Path.{_≡_};
 ghost use mathlib.Core.Bool.{cond, _&&_, _||_};
 ghost use lib.Dec.{leb, eqb};
-ghost use Rattle.command.specs.Outcomes.{isCapped, reasonOf, stated, limitOutcome, setpointOutcome};
+ghost use Rattle.quantities.specs.Quantities.{phases};
+ghost use Rattle.command.specs.Outcomes.{isCapped, reasonOf, stated, limitOutcome, setpointOutcome, currentIn, currentOutcome};
 
 // Some quantity's number is above its top.
 pub fn is_capped(s: Settings, c: Command) -> bool
     ensures { λ r. ⌜ r ≡ isCapped s c ⌝ }
 {
-    let mut q = 0;
-    while q < HELDS {
-        if field_above(top_of(s, q), says(c, q)) {
-            return true;
-        }
-        q += 1;
-    }
-    false
+    some_is(Question::Above, s, c)
 }
 
 fn above_if(capped: bool) -> Amount
@@ -104,5 +99,27 @@ pub fn setpoint_outcome(values: [i64; VALUES]) -> Outcome
     Outcome::Setpoint(SetpointResult {
         consumption: stated(values[3]),
         production: stated(values[4]),
+    })
+}
+
+// The current of a phase in a direction, consumption first.
+fn current_in(values: [i64; VALUES], p: usize, d: u64) -> Amount
+    requires { ⌜ p < phases ⌝ }
+    ensures { λ r. ⌜ r ≡ currentIn values p d ⌝ }
+{
+    if d == 0 {
+        return stated(values[1 + CURRENTS + 2 * p]);
+    }
+    stated(values[2 + CURRENTS + 2 * p])
+}
+
+// SetCurrentLimits is answered with the currents of its direction that hold.
+pub fn current_outcome(d: u64, values: [i64; VALUES]) -> Outcome
+    ensures { λ r. ⌜ r ≡ currentOutcome d values ⌝ }
+{
+    Outcome::Current(CurrentResult {
+        a: current_in(values, 0, d),
+        b: current_in(values, 1, d),
+        c: current_in(values, 2, d),
     })
 }

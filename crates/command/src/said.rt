@@ -1,33 +1,28 @@
 // A command seen by quantity: what it says of each, and its kind, aim and duration. All else that is asked of a command goes by these.
 use messages::Aim;
 use messages::Command;
+use messages::CurrentLimits;
 use messages::Field;
 use messages::Limits;
+use messages::Phases;
 use messages::Setpoints;
 use messages::Target;
+use quantities::CURRENTS;
+use quantities::LIMITS;
+use quantities::direction_of;
+use quantities::is_current;
+use quantities::is_limit;
+use quantities::phase_of;
 ghost use mathlib.Core.Path.{_≡_};
-ghost use Rattle.holds.specs.Holds.{isLimit, directionOf};
-ghost use Rattle.command.specs.Says.{limitField, targetField, setpointField, aimField, says, kindOf, isSet, aimOf, durationOf};
+ghost use Rattle.quantities.specs.Quantities.{isSetpoint};
+ghost use Rattle.command.specs.Says.{limitField, targetField, setpointField, aimField, phaseField, currentField, isOf, fieldAt, says, kindOf, isSet, aimOf, durationOf};
 
 // What a command is about. Each kind is accepted or not by a setting of its own.
 pub enum Kind {
     Limits,
     Setpoints,
+    Currents,
     Unserved,
-}
-
-// The quantities in order: the limits of consumption and production, then the setpoints.
-pub fn is_limit(q: usize) -> bool
-    ensures { λ r. ⌜ r ≡ isLimit q ⌝ }
-{
-    q < 2
-}
-
-// Consumption 0, production 1.
-pub fn direction_of(q: usize) -> usize
-    ensures { λ r. ⌜ r ≡ directionOf q ⌝ }
-{
-    q % 2
 }
 
 fn limit_field(m: Limits, d: u64) -> Field
@@ -68,38 +63,73 @@ fn aim_field(a: Aim, d: u64) -> Field
     }
 }
 
+// A map of phases: A 0, B 1, C 2.
+fn phase_field(m: Phases, p: usize) -> Field
+    ensures { λ r. ⌜ r ≡ phaseField m p ⌝ }
+{
+    if p == 0 {
+        return m.a;
+    }
+    if p == 1 {
+        return m.b;
+    }
+    m.c
+}
+
+// The field of its phase, where the quantity is of the direction that the map is of.
+fn current_field(m: CurrentLimits, q: usize) -> Field
+    ensures { λ r. ⌜ r ≡ currentField m q ⌝ }
+{
+    let phases = m.phases;
+    if direction_of(q) as u64 == m.direction {
+        return phase_field(phases, phase_of(q));
+    }
+    Field::Absent
+}
+
+// The quantities behind the limits and before the currents.
+fn is_setpoint(q: usize) -> bool
+    ensures { λ r. ⌜ r ≡ isSetpoint q ⌝ }
+{
+    LIMITS <= q && q < CURRENTS
+}
+
+// The quantities that a kind is about.
+fn is_of(k: Kind, q: usize) -> bool
+    ensures { λ r. ⌜ r ≡ isOf k q ⌝ }
+{
+    match k {
+        Kind::Limits => is_limit(q),
+        Kind::Setpoints => is_setpoint(q),
+        Kind::Currents => is_current(q),
+        Kind::Unserved => false,
+    }
+}
+
+// The field of a quantity of the command's kind.
+fn field_at(c: Command, q: usize) -> Field
+    ensures { λ r. ⌜ r ≡ fieldAt c q ⌝ }
+{
+    let d = direction_of(q) as u64;
+    match c {
+        Command::SetLimit(m) => limit_field(m, d),
+        Command::ClearLimit(a) => aim_field(a, d),
+        Command::SetSetpoint(m) => setpoint_field(m, d),
+        Command::ClearSetpoint(a) => aim_field(a, d),
+        Command::SetCurrentLimits(m) => current_field(m, q),
+        Command::ClearCurrentLimits(a) => aim_field(a, d),
+        Command::Unserved(_) => Field::Absent,
+    }
+}
+
 // What a command says of quantity q: nothing, that it be removed, or a number.
 pub fn says(c: Command, q: usize) -> Field
     ensures { λ r. ⌜ r ≡ says c q ⌝ }
 {
-    let d = direction_of(q) as u64;
-    match c {
-        Command::SetLimit(m) => {
-            if is_limit(q) {
-                return limit_field(m, d);
-            }
-            Field::Absent
-        }
-        Command::ClearLimit(a) => {
-            if is_limit(q) {
-                return aim_field(a, d);
-            }
-            Field::Absent
-        }
-        Command::SetSetpoint(m) => {
-            if is_limit(q) {
-                return Field::Absent;
-            }
-            setpoint_field(m, d)
-        }
-        Command::ClearSetpoint(a) => {
-            if is_limit(q) {
-                return Field::Absent;
-            }
-            aim_field(a, d)
-        }
-        Command::Unserved(_) => Field::Absent,
+    if is_of(kind_of(c), q) {
+        return field_at(c, q);
     }
+    Field::Absent
 }
 
 // Which setting must accept the command.
@@ -111,6 +141,8 @@ pub fn kind_of(c: Command) -> Kind
         Command::ClearLimit(_) => Kind::Limits,
         Command::SetSetpoint(_) => Kind::Setpoints,
         Command::ClearSetpoint(_) => Kind::Setpoints,
+        Command::SetCurrentLimits(_) => Kind::Currents,
+        Command::ClearCurrentLimits(_) => Kind::Currents,
         Command::Unserved(_) => Kind::Unserved,
     }
 }
@@ -124,11 +156,13 @@ pub fn is_set(c: Command) -> bool
         Command::ClearLimit(_) => false,
         Command::SetSetpoint(_) => true,
         Command::ClearSetpoint(_) => false,
+        Command::SetCurrentLimits(_) => true,
+        Command::ClearCurrentLimits(_) => false,
         Command::Unserved(_) => false,
     }
 }
 
-// The direction that a clear names. A Set command names directions by its fields alone.
+// The direction that a clear or a map of phases names. The other Set commands name directions by their fields alone.
 pub fn aim_of(c: Command) -> Aim
     ensures { λ r. ⌜ r ≡ aimOf c ⌝ }
 {
@@ -137,6 +171,8 @@ pub fn aim_of(c: Command) -> Aim
         Command::ClearLimit(a) => a,
         Command::SetSetpoint(_) => Aim::Both,
         Command::ClearSetpoint(a) => a,
+        Command::SetCurrentLimits(m) => Aim::One(m.direction),
+        Command::ClearCurrentLimits(a) => a,
         Command::Unserved(_) => Aim::Both,
     }
 }
@@ -150,6 +186,8 @@ pub fn duration_of(c: Command) -> u64
         Command::ClearLimit(_) => 0,
         Command::SetSetpoint(m) => m.duration,
         Command::ClearSetpoint(_) => 0,
+        Command::SetCurrentLimits(m) => m.duration,
+        Command::ClearCurrentLimits(_) => 0,
         Command::Unserved(_) => 0,
     }
 }

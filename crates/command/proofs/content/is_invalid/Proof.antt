@@ -12,18 +12,29 @@ is-invalid-spec =
     (tie.spec
     (λ c κs. search needs) (λ c κs. search needs)
     (λ c.
-    let at-if1-2 = c .before .before .if1 in
-    let at-is-set-2 = c .before .before .before .is-set in
-    let at-if1 = at-if1-2 in
-    let at-is-set = at-is-set-2 in
-    rw (via (at-is-set .ensures) (at-if1 .taken), via (c .before .some-negative .ensures) (c .if2 .taken)))
-    (λ c κs. search needs)
+    let at-if1 = c .before .before .if1 in
+    let at-is-set = c .before .before .before .is-set in
+    rw (via (at-is-set .ensures) (at-if1 .taken), via (c .before .some-is .ensures) (c .if2 .taken)))
+    (λ c κs. search needs) (λ c κs. search needs)
     (λ c.
-    let at-some-negative-2 = c .before .before .some-negative in
-    let at-if1-2 = c .before .before .before .if1 in
-    let at-is-set-2 = c .before .before .before .before .is-set in
-    let at-some-negative = at-some-negative-2 in
-    let at-if1 = at-if1-2 in
-    let at-is-set = at-is-set-2 in
-    rw (via (at-is-set .ensures) (at-if1 .taken), via (at-some-negative .ensures) (c .before .if2 .left), c .some-named .ensures))
+    let at-some-is2 = c .before .before .some-is2 in
+    let at-if2 = c .before .before .before .if2 in
+    let at-some-is = c .before .before .before .before .some-is in
+    let at-if1 = c .before .before .before .before .before .if1 in
+    let at-is-set = c .before .before .before .before .before .before .is-set in
+    rw (
+      via (at-is-set .ensures) (at-if1 .taken),
+      via (at-some-is .ensures) (at-if2 .left),
+      via (at-some-is2 .ensures) (c .before .if3 .taken),
+    ) (c .some-is3 .ensures))
+    (λ c.
+    let at-if2 = c .before .before .if2 in
+    let at-some-is = c .before .before .before .some-is in
+    let at-if1 = c .before .before .before .before .if1 in
+    let at-is-set = c .before .before .before .before .before .is-set in
+    rw (
+      via (at-is-set .ensures) (at-if1 .taken),
+      via (at-some-is .ensures) (at-if2 .left),
+      via (c .before .some-is2 .ensures) (c .if3 .left),
+    ))
     (λ c. rw (via (c .before .is-set .ensures) (c .if1 .left))))

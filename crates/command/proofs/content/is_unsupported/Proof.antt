@@ -46,7 +46,7 @@ is-unsupported-spec =
       via (rw (at-aim-of .ensures) at (at-aim-unsupported .ensures))
           (at-if2 .left),
       via (at-is-set .ensures) (c .before .if3 .taken),
-    ) (c .some-beyond .ensures))
+    ) (c .some-is .ensures))
     (λ c.
     let at-if2-2 = c .before .before .if2 in
     let at-aim-unsupported-2 = c .before .before .before .aim-unsupported in

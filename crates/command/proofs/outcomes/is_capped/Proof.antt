@@ -1,43 +1,13 @@
--- The loop has met no such quantity below q.
-use Prim.Native.Nat.{_-_, _≤_}
-use mathlib.Core.Path.{_≡_}
-use mathlib.Core.Bool.{false}
-use native.Mathlib.Omega.{arith}
+-- The question is whether a number is above the most that it may be.
+use Rattle.command.specs.Outcomes.{isCapped}
 use borrow.Author.Needs.{needs}
-use Rattle.store.specs.Sizes.{helds}
-use Rattle.command.specs.Says.{says, someOf}
-use Rattle.command.specs.Outcomes.{fieldAbove, isCapped}
-use Rattle.command.specs.Obeys.{topOf}
-use Rattle.store.proofs.Tests.{via}
-use Rattle.command.proofs.Quantities.{some-none, some-here, some-turn, some-end}
 use Rattle.command.proofs.outcomes.is_capped.Statement.{statement}
 use Rattle.command.proofs.outcomes.is_capped.Tie as tie
-
-abbrev Inv-loop : tie.InvT-loop
-Inv-loop s c q₀ q = (q ≤ helds) × (someOf (λ k. fieldAbove (topOf s k) (says c k)) q ≡ false)
-
-abbrev μ-loop : tie.MeasureT-loop
-μ-loop s c q₀ q = helds - q
 
 pub is-capped-spec : {M : Type 1} → statement M
 unfolding isCapped
 is-capped-spec =
     tie.close
     (tie.spec
-    Inv-loop μ-loop (λ c. (omega arith, some-none _)) (λ c κs. search needs) (λ c κs. search needs) (λ c κs. search needs)
-    (λ c.
-    let at-says = c .before .before .says in
-    let at-top-of = c .before .before .before .top-of in
-    let at-loop = c .before .before .before .before .before .loop in
-    some-here _ (at-loop .q) helds (omega arith)
-    (via (rw (at-says .ensures, at-top-of .ensures) at (c .before .field-above .ensures)) (c .if1 .taken)))
-    (λ c. omega arith) (λ c. omega arith)
-    (λ c.
-    let at-says = c .before .before .says in
-    let at-top-of = c .before .before .before .top-of in
-    let at-loop = c .before .before .before .before .before .loop in (
-      omega arith,
-      some-turn _ (at-loop .q) (at-loop .inv .1)
-          (via (rw (at-says .ensures, at-top-of .ensures) at (c .before .field-above .ensures)) (c .if1 .left)),
-    ))
-    (λ c. some-end _ (c .before .loop .q) helds (c .before .loop .inv .0) (omega arith) (c .before .loop .inv .1)))
+    (λ c κs. search needs)
+    (λ c. c .some-is .ensures))

@@ -1,8 +1,8 @@
 -- The test of the name comes first, as in the definition.
 use Rattle.store.proofs.Tests.{via}
 use borrow.Author.Needs.{needs}
-use Rattle.command.proofs.content.is_beyond.Statement.{statement}
-use Rattle.command.proofs.content.is_beyond.Tie as tie
+use Rattle.command.proofs.asked.is_beyond.Statement.{statement}
+use Rattle.command.proofs.asked.is_beyond.Tie as tie
 
 pub is-beyond-spec : {M : Type 1} → statement M
 is-beyond-spec =
