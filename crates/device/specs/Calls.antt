@@ -80,7 +80,7 @@ clearNumber ws t = firstOf (clearTests (clockOf ws) (overrideOf ws) t)
 unfoldable pub clearAfter : List ℕ → ℕ → List ℕ
 clearAfter ws t = after ws (clearNumber ws t) (headChange ws t 0)
 
--- ask at t: the five values at t; "Beside a refusal, values are -1"
+-- ask at t: the eleven values at t; "Beside a refusal, values are -1"
 abbrev pub askTests : ℕ → ℕ → List (Bool × ℕ)
 askTests clock t = (late clock t, 5) ∷ []
 

@@ -10,7 +10,8 @@ use Rattle.rules.specs.Rules.{badSettings}
 use Rattle.device.specs.Refusals.{firstOf}
 use Rattle.store.specs.declared.Settings.{Settings}
 
--- "a fresh device that accepts neither limits nor setpoints, consumption only, failsafe duration 7,200, all else 0, none or no"
+-- "a fresh device that accepts neither limits nor setpoints, consumption only, failsafe duration 7,200, all else 0, none or no"; L5: phase
+-- count "1 after a refused start"
 abbrev pub refusedSettings : Settings
 refusedSettings =
     record {
@@ -22,6 +23,8 @@ refusedSettings =
       failsafe = 0 ∷ 0 ∷ [];
       duration = 7200;
       manager = false;
+      phases = 1;
+      currents = false;
     }
 
 unfoldable pub startNumber : Settings → ℕ

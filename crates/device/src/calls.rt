@@ -33,6 +33,8 @@ fn refused_settings() -> Settings
         failsafe: [0; 2],
         duration: 7200,
         manager: false,
+        phases: 1,
+        currents: false,
     }
 }
 

@@ -1,4 +1,4 @@
-// The four commands: decided, answered from what would hold, applied.
+// The six commands: decided, answered from what would hold, applied.
 use crate::Change;
 use crate::Decision;
 use crate::SLOTS;
@@ -99,6 +99,16 @@ pub fn outcome_of(d: &State, t: u64, c: Command, x: Decision) -> Outcome
             Outcome::Nothing
         }
         Command::ClearSetpoint(_) => success_if(n),
+        Command::SetCurrentLimits(m) => {
+            if n == 0 {
+                return command::current_outcome(
+                    m.direction,
+                    holds::values_with(d, x.slot, zone, t),
+                );
+            }
+            Outcome::Nothing
+        }
+        Command::ClearCurrentLimits(_) => success_if(n),
         Command::Unserved(_) => Outcome::Nothing,
     }
 }

@@ -34,6 +34,12 @@ outcome-of-spec =
     let at-if2 = c .before .before .if2 in
     let at-enum-told3 = c .before .before .before .enum-told3 in
     rw (c .setpoint-outcome .ensures, c .before .values-with2 .ensures, at-enum-told3 .given .1, eq-eqb _ _ (at-if2 .taken)))
+    (λ c. search needs) (λ c κs. search needs) (λ c. search needs) (λ c κs. search needs)
+    (λ c κs. search needs)
+    (λ c.
+    let at-if3 = c .before .before .if3 in
+    let at-c = c .before .before .before .before .c in
+    rw (c .current-outcome .ensures, c .before .values-with3 .ensures, at-c .given .1, eq-eqb _ _ (at-if3 .taken)))
     (λ c. search needs) (λ c κs. search needs) (λ c. search needs)
     (λ c.
     let at-enum-told = c .before .before .enum-told in
@@ -41,4 +47,8 @@ outcome-of-spec =
     (λ c. rw (c .before .enum-told2 .given .1) (c .success-if .ensures))
     (λ c. rw (c .before .enum-told3 .given .1, ne-eqb _ _ (c .if2 .left)))
     (λ c. rw (c .before .enum-told4 .given .1) (c .success-if2 .ensures))
-    (λ c. rw (c .enum-told5 .given .1)))
+    (λ c.
+    let at-c = c .before .before .c in
+    rw (at-c .given .1, ne-eqb _ _ (c .if3 .left)))
+    (λ c. rw (c .before .enum-told5 .given .1) (c .success-if3 .ensures))
+    (λ c. rw (c .enum-told6 .given .1)))
