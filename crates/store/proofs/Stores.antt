@@ -1,20 +1,21 @@
 -- What the functions of `store` leave, as the definitions say it: single words of a record, and the stores of a whole one.
-use Prim.Native.Nat.{ℕ, suc, _+_, _<_, _≤_}
+use Prim.Native.Nat.{ℕ, zero, suc, _+_, _<_, _≤_}
 use mathlib.Core.Bool.{cond}
-use mathlib.Core.Path.{_≡_, sym, ap}
+use mathlib.Core.Path.{_≡_, refl, sym, ap}
 use mathlib.Core.List.{List}
 use native.Mathlib.Decide.{decLt}
 use native.Mathlib.Numerals.{add-one}
 use native.Mathlib.Omega.{arith}
 use borrow.Author.Tests.{lt-ltb, le-ltb}
 use lib.Dec.{ltb}
-use lib.ListN.{getD, set, drop, length, drop-of-length-le}
+use lib.ListN.{getD, set, drop, length, replicate, drop-of-length-le, List·getD-eq-default}
 use lib.Seq.{sets, set-getD, drop-cons}
-use Rattle.store.specs.Sizes.{slots}
-use Rattle.store.specs.Zones.{freeZone}
-use Rattle.store.specs.Words.{base, zoneAt, zonesOf, bit, heldWords, putZone, applied}
+use Rattle.store.specs.Sizes.{helds, slots}
+use Rattle.store.specs.Zones.{nothing, freeZone, heldOf}
+use Rattle.store.specs.Words.{base, heldIn, zoneAt, zonesOf, bit, heldWords, putZone, applied}
 use Rattle.store.specs.Words.{headChange}
 use Rattle.store.specs.declared.Zone.{Zone}
+use Rattle.store.proofs.Runs.{length-upTo, getD-upTo}
 use Rattle.store.proofs.Lens.{zones-at, zones-past}
 
 -- word k of slot i, 0 past the last slot
@@ -29,6 +30,27 @@ module _ {A : Type 0} (ws : List ℕ) (i : ℕ) (get : Zone → A) (f : ℕ → 
         | yes h ↦ rw (lt-ltb i slots h, zones-at ws i freeZone h) (sym here)
         | no h ↦ let l : slots ≤ i = omega arith in rw (le-ltb i slots l, zones-past ws i l) (sym past)
       ]
+
+-- a held value by its own words; nothing past the last quantity, or the last slot
+same-all : {A : Type 0} (n q : ℕ) (a : A) → a ≡ getD (replicate n a) q a
+same-all zero q a = refl
+same-all (suc n) zero a = refl
+same-all (suc n) (suc q) a = same-all n q a
+
+module _ (ws : List ℕ) (i q : ℕ) where
+  pub held-here : i < slots → q < helds → heldIn ws (base i + 2) q ≡ heldOf (getD (zonesOf ws) i freeZone) q
+  unfolding heldOf zoneAt
+  held-here h k = rw (zones-at ws i freeZone h) (sym (getD-upTo (heldIn ws (base i + 2)) helds q nothing k))
+
+  pub held-past : i < slots → helds ≤ q → nothing ≡ heldOf (getD (zonesOf ws) i freeZone) q
+  unfolding heldOf zoneAt
+  held-past h k =
+      rw (zones-at ws i freeZone h)
+      (sym (List·getD-eq-default (zoneAt ws i .held) nothing {n = q} (rw (length-upTo (heldIn ws (base i + 2)) helds) k)))
+
+  pub held-free : slots ≤ i → nothing ≡ heldOf (getD (zonesOf ws) i freeZone) q
+  unfolding heldOf
+  held-free h = rw (zones-past ws i h) (same-all helds q nothing)
 
 -- what the stores of a record leave
 pub stored : (ws s₁ s₂ s₃ : List ℕ) (i b : ℕ) (x : Zone) → i < slots → s₁ ≡ set ws (base i) (x .seat) → b ≡ bit (x .up) → s₂ ≡ set s₁ (base i + 1) b

@@ -5,7 +5,7 @@ ghost use Prim.Native.Nat.{_+_, _*_, _<_};
 ghost use lib.Dec.{ltb};
 ghost use lib.ListN.{getD};
 ghost use Rattle.store.specs.Sizes.{helds, slots, zoneSize, words};
-ghost use Rattle.store.specs.Zones.{upTo, idOf, freeZone, slotOf, joined};
+ghost use Rattle.store.specs.Zones.{upTo, idOf, freeZone, slotOf, joined, heldOf};
 ghost use Rattle.store.specs.Words.{clockOf, sinceOf, overrideOf, settingsOf, base, heldIn, zonesOf};
 use crate::HEAD;
 use crate::HELDS;
@@ -144,6 +144,26 @@ fn part(d: &State, slot: usize, k: usize) -> u64
         return word(d, HEAD + slot * ZONE + k);
     }
     0
+}
+
+// What a slot's zone set for quantity q; past the last slot or quantity, nothing.
+pub fn held_at(d: &State, slot: usize, q: usize) -> Held
+    ensures { λ r. ⌜ r ≡ heldOf (getD (zonesOf (now (d .entry))) slot freeZone) q ⌝ }
+{
+    if slot < SLOTS {
+        if q < HELDS {
+            return held_in(d, HEAD + slot * ZONE + 2, q);
+        }
+        return Held { value: 0, until: 0 };
+    }
+    Held { value: 0, until: 0 }
+}
+
+// The seat in a slot, 0 in a free one.
+pub fn seat_at(d: &State, slot: usize) -> u64
+    ensures { λ r. ⌜ r ≡ getD (zonesOf (now (d .entry))) slot freeZone .seat ⌝ }
+{
+    part(d, slot, 0)
 }
 
 // The id in a slot, 0 in a free one.
