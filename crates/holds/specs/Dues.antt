@@ -3,25 +3,33 @@ use Prim.Native.Nat.{ℕ, _+_}
 use mathlib.Core.Bool.{cond, _&&_}
 use mathlib.Core.List.{List, [], _∷_, _++_, foldl}
 use lib.Dec.{ltb}
-use Rattle.store.specs.Sizes.{helds, end}
+use Rattle.quantities.specs.Quantities.{lows, leads, lowAt, leadAt}
+use Rattle.store.specs.Sizes.{end}
 use Rattle.store.specs.Zones.{upTo, heldOf, isJoined, anyJoined, anyUp}
-use Rattle.holds.specs.Holds.{lows, Situation, valuesAt}
+use Rattle.holds.specs.Holds.{Situation, valuesAt}
 use Rattle.store.specs.declared.Zone.{Zone}
 use Rattle.holds.specs.declared.View.{View}
 
--- the seconds at which the first n quantities of a joined zone end
-unfoldable pub zoneDues : ℕ → Zone → List ℕ
-zoneDues n x = cond (isJoined x) (upTo (λ q. heldOf x q .until) n) []
+-- the seconds at which the quantities at 0, at 1, .. at (n - 1) of a joined zone end
+unfoldable pub zoneDues : (ℕ → ℕ) → ℕ → Zone → List ℕ
+zoneDues at n x = cond (isJoined x) (upTo (λ k. heldOf x (at k) .until) n) []
 
-unfoldable pub heldDues : ℕ → List Zone → List ℕ
-heldDues n [] = []
-heldDues n (x ∷ xs) = zoneDues n x ++ heldDues n xs
+unfoldable pub heldDues : (ℕ → ℕ) → ℕ → List Zone → List ℕ
+heldDues at n [] = []
+heldDues at n (x ∷ xs) = zoneDues at n x ++ heldDues at n xs
 
--- the seconds at which what holds can change, links and override unmoved; with no link up the limits alone count
+-- the ends of all that go by the smallest, and of all that go by the seat
+abbrev pub lowDues : List Zone → List ℕ
+lowDues zs = heldDues lowAt lows zs
+
+abbrev pub leadDues : List Zone → List ℕ
+leadDues zs = heldDues leadAt leads zs
+
+-- the seconds at which what holds can change, links and override unmoved; with no link up no setpoint counts
 unfoldable pub dues : Situation → List ℕ
 dues s =
-    cond (anyUp (s .zones)) (heldDues helds (s .zones))
-    (cond (anyJoined (s .zones)) ((s .since + s .settings .duration) ∷ heldDues lows (s .zones)) [])
+    cond (anyUp (s .zones)) (lowDues (s .zones) ++ leadDues (s .zones))
+    (cond (anyJoined (s .zones)) ((s .since + s .settings .duration) ∷ lowDues (s .zones)) [])
 
 -- the nearer of r and, where it lies past cur, e
 unfoldable pub nearer : ℕ → ℕ → ℕ → ℕ

@@ -1,5 +1,5 @@
 -- What holds at a second t: document 01's table of links, and the control state.
-use Prim.Native.Nat.{ℕ, _+_, _-_, _%_}
+use Prim.Native.Nat.{ℕ, _+_}
 use mathlib.Core.Bool.{Bool, true, false, cond, not, _&&_, _||_}
 use mathlib.Core.List.{List, _∷_, foldl}
 use lib.Dec.{ltb, eqb}
@@ -8,28 +8,12 @@ use lib.IntN.{ℤ, pos, negsuc}
 use Rattle.messages.specs.Numbers.{AUTONOMOUS, CONTROLLED, LIMITED, FAILSAFE, OVERRIDE}
 use Rattle.messages.specs.declared.Amount.{Amount}
 use Rattle.messages.specs.declared.Amount.the-variants.{Absent, Is}
-use Rattle.store.specs.Sizes.{helds, valueEnd}
+use Rattle.quantities.specs.Quantities.{helds, isLimit, isSetpoint, directionOf, supports}
+use Rattle.store.specs.Sizes.{valueEnd}
 use Rattle.store.specs.Zones.{upTo, idOf, rankOf, isJoined, anyJoined, anyUp, heldOf}
 use Rattle.store.specs.Words.{settingsOf, zonesOf, sinceOf, overrideOf}
 use Rattle.store.specs.declared.Zone.{Zone}
 use Rattle.store.specs.declared.Settings.{Settings}
-
--- A quantity is an index: the limits of consumption and production, then the setpoints. How many go by the smallest, and how many by the seat:
-abbrev pub lows : ℕ
-lows = 2
-
-abbrev pub leads : ℕ
-leads = helds - lows
-
-abbrev pub isLimit : ℕ → Bool
-isLimit q = ltb q lows
-
-abbrev pub directionOf : ℕ → ℕ
-directionOf q = q % 2
-
--- "supported directions (consumption 0, production 1, both 2)"
-unfoldable pub supports : ℕ → ℕ → Bool
-supports has d = ltb d 2 && (eqb has 2 || eqb has d)
 
 -- what a zone claims for a quantity at a second
 pub record Claim : Type 0 where
@@ -48,11 +32,11 @@ claimOf t q x =
     (record { there = true; value = heldOf x q .value; rank = rankOf x; id = idOf x })
     noClaim
 
--- of two limits the smaller; of two setpoints "the best rank that has one; equal rank, smaller id"
+-- of two setpoints "the best rank that has one; equal rank, smaller id"; of two power or current limits the smaller
 unfoldable pub goesBefore : ℕ → Claim → Claim → Bool
 goesBefore q a b =
-    cond (isLimit q) (ltb (a .value) (b .value))
-    (ltb (a .rank) (b .rank) || (eqb (a .rank) (b .rank) && ltb (a .id) (b .id)))
+    cond (isSetpoint q) (ltb (a .rank) (b .rank) || (eqb (a .rank) (b .rank) && ltb (a .id) (b .id)))
+    (ltb (a .value) (b .value))
 
 -- the winner so far, and one claim more; of two that neither goes before, as no history makes of setpoints, the later
 unfoldable pub better : ℕ → Claim → Claim → Claim
@@ -87,9 +71,11 @@ inFailsafe s t = not (anyUp (s .zones)) && (anyJoined (s .zones) && ltb t (s .si
 unfoldable pub smallestWith : ℕ → Claim → ℕ
 smallestWith safe c = cond (c .there && ltb (c .value) safe) (c .value) safe
 
--- the second row of a quantity; setpoints are absent
+-- the second row of a quantity: setpoints are absent, current limits hold on, without a failsafe limit of their own
 unfoldable pub failsafeValue : Situation → ℕ → ℕ → Amount
-failsafeValue s t q = cond (isLimit q) (Is (smallestWith (getD (s .settings .failsafe) q 0) (winner t q (s .zones)))) Absent
+failsafeValue s t q =
+    cond (isLimit q) (Is (smallestWith (getD (s .settings .failsafe) q 0) (winner t q (s .zones))))
+    (cond (isSetpoint q) Absent (amountOf (winner t q (s .zones))))
 
 -- the four rows; "an unsupported direction is always absent"
 unfoldable pub valueAt : Situation → ℕ → ℕ → Amount
@@ -104,7 +90,7 @@ unfoldable pub present : Amount → Bool
 present Absent = false
 present (Is v) = ltb v valueEnd
 
--- "FAILSAFE in the second row; else OVERRIDE if set; else LIMITED if a limit is present; else CONTROLLED if a zone is up; else AUTONOMOUS"
+-- "FAILSAFE in the second row; else OVERRIDE if set; else LIMITED if a limit is present; else CONTROLLED if a zone is up; else AUTONOMOUS"; current limits do not count
 unfoldable pub stateAt : Situation → ℕ → ℕ
 stateAt s t =
     cond (inFailsafe s t) FAILSAFE
@@ -117,6 +103,6 @@ unfoldable pub shown : Amount → ℤ
 shown Absent = negsuc 0
 shown (Is v) = cond (ltb v valueEnd) (pos v) (negsuc 0)
 
--- the five values of a plan's row: control state, then each quantity
+-- the values of a plan's row: control state, then each quantity
 unfoldable pub valuesAt : Situation → ℕ → List ℤ
 valuesAt s t = pos (stateAt s t) ∷ upTo (λ q. shown (valueAt s t q)) helds

@@ -1,4 +1,4 @@
-// What holds at a second: the links, one pass over the zones, the table, and the next second at which it can change.
+// What holds at a second: the links, the passes over the zones, the table, and the next second at which it can change.
 mod links;
 mod tops;
 mod values;
@@ -6,7 +6,6 @@ mod values;
 pub use links::since_without;
 use store::VALUES;
 pub use values::shown;
-pub use values::supports;
 pub use values::values_at;
 pub use values::values_with;
 pub use values::view_at;

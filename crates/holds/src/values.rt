@@ -2,17 +2,23 @@
 use crate::View;
 use crate::links::link_row;
 use crate::links::link_row_with;
-use crate::tops::LOWS;
-use crate::tops::Met;
+use crate::tops::Leads;
+use crate::tops::Lows;
+use crate::tops::leads_at;
+use crate::tops::leads_with;
 use crate::tops::least;
-use crate::tops::limits;
-use crate::tops::limits_with;
-use crate::tops::tops;
-use crate::tops::tops_with;
+use crate::tops::lows_at;
+use crate::tops::lows_with;
 use messages::Amount;
+use quantities::CURRENTS;
+use quantities::HELDS;
+use quantities::LEADS;
+use quantities::LIMITS;
+use quantities::LOWS;
+use quantities::SETPOINTS;
+use quantities::supports;
 use store::END;
-use store::HELDS;
-use store::Settings;
+use store::MOST;
 use store::State;
 use store::VALUE_END;
 use store::VALUES;
@@ -21,26 +27,15 @@ use store::overridden;
 use store::settings_at;
 use store::since;
 ghost use mathlib.Core.Path.{_≡_};
-ghost use Prim.Native.Nat.{_+_, _<_};
+ghost use Prim.Native.Nat.{_+_, _<_, _≤_};
 ghost use lib.Dec.{ltb};
-ghost use Rattle.store.specs.Sizes.{helds, end};
+ghost use lib.ListN.{length};
+ghost use Rattle.quantities.specs.Quantities.{helds};
+ghost use Rattle.store.specs.Sizes.{end, valueEnd};
 ghost use Rattle.store.specs.Words.{overrideOf, settingsOf};
-ghost use Rattle.holds.specs.Holds.{supports, shown, situationOf, withZone, valuesAt};
+ghost use Rattle.holds.specs.Holds.{shown, situationOf, withZone, valuesAt};
 ghost use Rattle.holds.specs.Dues.{nearer, viewAt};
-ghost use Rattle.holds.specs.Pass.{shownIf, stateUp, stateDown, numberIn, shownIn, valuesUp, valuesNone, ShowsLow, ShowsDown};
-
-// Of the supported directions, 2 is both.
-pub fn supports(has: u64, d: u64) -> bool
-    ensures { λ r. ⌜ r ≡ supports has d ⌝ }
-{
-    if d < 2 {
-        if has == 2 {
-            return true;
-        }
-        return has == d;
-    }
-    false
-}
+ghost use Rattle.holds.specs.Pass.{topOf, shownBelow, numberIn, shownIn, Filled, stateUp, stateDown, valuesUp, valuesNone, SafeLow, ShowsDown};
 
 // A value at the edges: -1 where it is absent, or too large to be one.
 pub fn shown(a: Amount) -> i64
@@ -52,13 +47,49 @@ pub fn shown(a: Amount) -> i64
     }
 }
 
-fn shown_if(has: u64, d: u64, v: u64) -> i64
-    ensures { λ r. ⌜ r ≡ shownIf has d v ⌝ }
+// The first number that is not shown in a direction: 0 where it is not supported.
+fn top_of(has: u64, d: u64) -> u64
+    ensures { λ r. ⌜ r ≡ topOf has d ⌝ }
 {
     if supports(has, d) {
-        return shown(Amount::Is(v));
+        return VALUE_END;
     }
-    -1
+    0
+}
+
+fn shown_below(top: u64, v: u64) -> i64
+    requires { ⌜ top ≤ valueEnd ⌝ }
+    ensures { λ r. ⌜ r ≡ shownBelow top v ⌝ }
+{
+    if v < top { v as i64 } else { -1 }
+}
+
+// What the passes have met for quantity q.
+fn number_of(low: [u64; LOWS], lead: [u64; LEADS], q: usize) -> u64
+    requires { ⌜ q < helds ⌝ }
+    ensures { λ r. ⌜ r ≡ numberIn low lead q ⌝ }
+{
+    if q < LIMITS {
+        return low[q];
+    }
+    if q < CURRENTS {
+        return lead[q - LIMITS];
+    }
+    low[q - SETPOINTS]
+}
+
+// A row behind its first place. A bound for each direction stands for a test for each value.
+fn row(has: u64, low: [u64; LOWS], lead: [u64; LEADS]) -> [i64; VALUES]
+    ensures { λ r. ⌜ (length r ≡ 1 + helds) × Filled (shownIn has low lead) r helds ⌝ }
+{
+    let tops = [top_of(has, 0), top_of(has, 1)];
+    let mut v = [-1; VALUES];
+    let mut q = 0;
+    while q < HELDS {
+        v[q + 1] = shown_below(tops[q % 2], number_of(low, lead, q));
+        q += 1;
+    }
+    v
 }
 
 fn state_up(overridden: u64, a: i64, b: i64) -> i64
@@ -76,37 +107,11 @@ fn state_up(overridden: u64, a: i64, b: i64) -> i64
     1
 }
 
-// What a pass has met for quantity q.
-fn number_of(g: Met, q: usize) -> u64
-    requires { ⌜ q < helds ⌝ }
-    ensures { λ r. ⌜ r ≡ numberIn g q ⌝ }
-{
-    let low = g.low;
-    let lead = g.lead;
-    if q < LOWS {
-        return low[q];
-    }
-    lead[q - LOWS]
-}
-
-fn shown_in(has: u64, g: Met, q: usize) -> i64
-    requires { ⌜ q < helds ⌝ }
-    ensures { λ r. ⌜ r ≡ shownIn has g q ⌝ }
-{
-    shown_if(has, (q % 2) as u64, number_of(g, q))
-}
-
 // The first row: some zone up.
-fn values_up(d: &State, g: Met) -> [i64; VALUES]
-    ensures { λ r. ⌜ r ≡ valuesUp (settingsOf (now (d .entry)) .directions) (overrideOf (now (d .entry))) g ⌝ }
+fn values_up(d: &State, a: Lows, b: Leads) -> [i64; VALUES]
+    ensures { λ r. ⌜ r ≡ valuesUp (settingsOf (now (d .entry)) .directions) (overrideOf (now (d .entry))) (a .low) (b .lead) ⌝ }
 {
-    let has = settings_at(d).directions;
-    let mut v = [-1; VALUES];
-    let mut q = 0;
-    while q < HELDS {
-        v[q + 1] = shown_in(has, g, q);
-        q += 1;
-    }
+    let mut v = row(settings_at(d).directions, a.low, b.lead);
     v[0] = state_up(overridden(d), v[1], v[2]);
     v
 }
@@ -134,26 +139,30 @@ fn state_down(overridden: u64) -> i64
 fn values_none(d: &State) -> [i64; VALUES]
     ensures { λ r. ⌜ r ≡ valuesNone (overrideOf (now (d .entry))) ⌝ }
 {
-    [state_down(overridden(d)), -1, -1, -1, -1]
+    let mut v = [-1; VALUES];
+    v[0] = state_down(overridden(d));
+    v
 }
 
 // A limit of the second row: the failsafe limit, or the smallest of the zones' where that is smaller. MOST is none.
-fn shown_low(has: u64, d: u64, safe: u64, low: u64) -> i64
-    ensures { λ r. ⌜ ShowsLow has d safe low r ⌝ }
+fn safe_low(safe: u64, low: u64) -> u64
+    ensures { λ r. ⌜ SafeLow safe low r ⌝ }
 {
-    shown_if(has, d, least(safe, low))
+    least(safe, low)
 }
 
 // Zones joined and none up: the second row while the failsafe lasts, the third behind it.
-fn values_down(d: &State, g: Met, t: u64) -> [i64; VALUES]
+fn values_down(d: &State, g: Lows, t: u64) -> [i64; VALUES]
     ensures { λ r. ⌜ ShowsDown (now (d .entry)) t g r ⌝ }
 {
     let s = settings_at(d);
-    let low = g.low;
     if failsafe_holds(since(d), s.duration, t) {
-        let a = shown_low(s.directions, 0, s.failsafe[0], low[0]);
-        let b = shown_low(s.directions, 1, s.failsafe[1], low[1]);
-        return [3, a, b, -1, -1];
+        let mut low = g.low;
+        low[0] = safe_low(s.failsafe[0], low[0]);
+        low[1] = safe_low(s.failsafe[1], low[1]);
+        let mut v = row(s.directions, low, [MOST; LEADS]);
+        v[0] = 3;
+        return v;
     }
     values_none(d)
 }
@@ -164,10 +173,10 @@ pub fn values_at(d: &State, t: u64) -> [i64; VALUES]
 {
     let n = link_row(d);
     if n == 2 {
-        return values_up(d, tops(d, t));
+        return values_up(d, lows_at(d, t, END), leads_at(d, t, END));
     }
     if n == 1 {
-        return values_down(d, limits(d, t, END), t);
+        return values_down(d, lows_at(d, t, END), t);
     }
     values_none(d)
 }
@@ -178,10 +187,10 @@ pub fn values_with(d: &State, slot: usize, zone: Zone, t: u64) -> [i64; VALUES]
 {
     let n = link_row_with(d, slot, zone);
     if n == 2 {
-        return values_up(d, tops_with(d, slot, zone, t));
+        return values_up(d, lows_with(d, slot, zone, t), leads_with(d, slot, zone, t));
     }
     if n == 1 {
-        return values_down(d, limits_with(d, slot, zone, t), t);
+        return values_down(d, lows_with(d, slot, zone, t), t);
     }
     values_none(d)
 }
@@ -217,14 +226,15 @@ pub fn view_at(d: &State, t: u64) -> View
 {
     let n = link_row(d);
     if n == 2 {
-        let g = tops(d, t);
+        let a = lows_at(d, t, END);
+        let b = leads_at(d, t, a.next);
         return View {
-            values: values_up(d, g),
-            next: g.next,
+            values: values_up(d, a, b),
+            next: b.next,
         };
     }
     if n == 1 {
-        let g = limits(d, t, failsafe_end(since(d), settings_at(d).duration, t));
+        let g = lows_at(d, t, failsafe_end(since(d), settings_at(d).duration, t));
         return View {
             values: values_down(d, g, t),
             next: g.next,
