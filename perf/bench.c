@@ -8,12 +8,12 @@
 static void print_rows(const int64_t *rows, size_t count)
 {
     for (size_t i = 0; i < count; i++)
-        for (size_t j = 0; j < 6; j++) {
-            if (rows[6 * i + j] < 0)
+        for (size_t j = 0; j < PLAIN_ROW; j++) {
+            if (rows[PLAIN_ROW * i + j] < 0)
                 putchar('-');
             else
-                printf("%lld", (long long)rows[6 * i + j]);
-            putchar(j == 5 ? '\n' : ' ');
+                printf("%lld", (long long)rows[PLAIN_ROW * i + j]);
+            putchar(j == PLAIN_ROW - 1 ? '\n' : ' ');
         }
 }
 
@@ -41,7 +41,7 @@ static int length_fits(unsigned kind, size_t length)
 
 static void run_record(struct plain *d, unsigned kind, uint64_t zone, uint64_t time, const uint8_t *body, size_t length)
 {
-    static int64_t rows[6 * PLAIN_ROWS];
+    static int64_t rows[PLAIN_ROW * PLAIN_ROWS];
     static uint8_t out[PLAIN_RESPONSE_MAX];
     struct plain_written w = {0, 0};
     uint64_t number = 0;
@@ -62,7 +62,7 @@ static void run_record(struct plain *d, unsigned kind, uint64_t zone, uint64_t t
         number = plain_frame(d, zone, time, body, length, out, sizeof out).number;
         break;
     case 6:
-        w = plain_plan(d, time, rows, 6 * PLAIN_ROWS);
+        w = plain_plan(d, time, rows, PLAIN_ROW * PLAIN_ROWS);
         number = w.number;
         break;
     case 7:
@@ -87,7 +87,9 @@ static void run(const uint8_t *p, size_t n)
                                                    .has_maximum = {true, false},
                                                    .maximum = {43000000, 0},
                                                    .failsafe = {4200000, 0},
-                                                   .duration = 7200};
+                                                   .duration = 7200,
+                                                   .phases = 3,
+                                                   .accepts_currents = true};
     struct plain d;
     plain_start(&d, &settings);
     while (n > 0) {

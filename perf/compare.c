@@ -12,7 +12,7 @@
 #define U(n) ((unsigned long long)(n))
 #define S(n) ((long long)(n))
 
-enum { OUT = 128, ROWS = 6 * PLAIN_ROWS + 16, PAIRS = 2 * PLAIN_PAIRS + 16, CALLS = 16, NUMBERS = 19 };
+enum { OUT = 128, ROWS = PLAIN_ROW * PLAIN_ROWS + 16, PAIRS = 2 * PLAIN_PAIRS + 16, CALLS = 16, NUMBERS = 19 };
 
 enum call {
     START,
@@ -57,7 +57,7 @@ struct side {
     const struct kernel *k;
     void *device, *before;
     uint64_t number, length;
-    int64_t value[5];
+    int64_t value[PLAIN_VALUES];
     uint8_t out[OUT];
     int64_t rows[ROWS];
     uint64_t pairs[PAIRS];
@@ -87,7 +87,7 @@ struct ask {
 static struct side sides[2];
 static struct ask ask;
 static struct plain_settings settings; /* of the device as it is */
-static uint64_t compared, differ, most_rows, most_pairs, longest_in, clock_now;
+static uint64_t compared, differ, most_rows, most_lost, most_pairs, longest_in, clock_now;
 static uint64_t counts[CALLS][NUMBERS], answered[NUMBERS], unanswered[NUMBERS];
 
 static uint64_t call_one(struct side *s, const struct ask *q)
@@ -144,23 +144,28 @@ static uint64_t call_one(struct side *s, const struct ask *q)
     return w.number;
 }
 
+static bool same_fields(const struct plain_field *x, const struct plain_field *y, unsigned n)
+{
+    for (unsigned i = 0; i < n; i++)
+        if (x[i].kind != y[i].kind || x[i].value != y[i].value)
+            return false;
+    return true;
+}
+
+/* What a command does not use is absent or 0 when read. */
 static bool same_request(const struct plain_request *x, const struct plain_request *y)
 {
     if (x->id != y->id || x->endpoint != y->endpoint || x->feature != y->feature || x->command != y->command)
         return false;
-    if (x->command == 2 || x->command == 4)
-        return x->has_direction == y->has_direction && (!x->has_direction || x->direction == y->direction);
-    for (unsigned i = 0; i < 2; i++)
-        if (x->field[i].kind != y->field[i].kind ||
-            (x->field[i].kind == PLAIN_NUMBER && x->field[i].value != y->field[i].value))
-            return false;
-    return x->duration == y->duration && x->cause == y->cause;
+    return same_fields(x->field, y->field, 2) && same_fields(x->phase, y->phase, PLAIN_PHASES) && x->duration == y->duration &&
+           x->cause == y->cause && x->has_direction == y->has_direction && x->direction == y->direction;
 }
 
 static bool same_response(const struct plain_response *x, const struct plain_response *y)
 {
     return x->id == y->id && x->status == y->status && x->has_result == y->has_result && x->applied == y->applied &&
-           x->state == y->state && x->value[0] == y->value[0] && x->value[1] == y->value[1] && x->reason == y->reason;
+           x->state == y->state && x->reason == y->reason && memcmp(x->value, y->value, sizeof x->value) == 0 &&
+           memcmp(x->current, y->current, sizeof x->current) == 0;
 }
 
 /* The first thing in which the two sides differ, or NULL. */
@@ -211,8 +216,8 @@ static void complain(const char *what)
     for (unsigned i = 0; i < 2; i++) {
         struct side *s = &sides[i];
         printf("  %s: number %llu, length %llu, values", s->k->name, U(s->number), U(s->length));
-        for (unsigned j = 0; j < 5; j++)
-            printf(" %lld%s", S(s->value[j]), j == 4 ? "\n" : "");
+        for (unsigned j = 0; j < PLAIN_VALUES; j++)
+            printf(" %lld%s", S(s->value[j]), j == PLAIN_VALUES - 1 ? "\n" : "");
         if (s->length > 0 && s->length <= OUT && ask.call != PLAN && ask.call != REPORT)
             print_bytes("out", s->out, s->length);
     }
@@ -294,7 +299,7 @@ static uint64_t some_time(void)
     case 985 ... 990:
         return PLAIN_LAST_SECOND + 1 + mix_below(3);
     case 991:
-        return PLAIN_LAST_SECOND - mix_below(8000);
+        return PLAIN_LAST_SECOND - mix_below(mix_chance(200) ? 2 : 8000);
     case 992 ... 995:
         return mix_any();
     default:
@@ -323,7 +328,7 @@ static void mix_call(void)
     ask.call = mix_chance(900) ? often[mix_below(sizeof often / sizeof *often)] : READ_REQUEST + mix_below(5);
     ask.zone = some_zone();
     ask.time = some_time();
-    ask.room = some_room(64);
+    ask.room = some_room(72);
     switch (ask.call) {
     case JOIN:
         ask.a = mix_chance(950) ? 1 + mix_below(4) : mix_chance(800) ? mix_below(6) : mix_any();
@@ -333,7 +338,7 @@ static void mix_call(void)
         ask.b = mix_chance(950) ? mix_below(2) : mix_chance(800) ? 2 : mix_any();
         break;
     case PLAN:
-        ask.room = mix_chance(200) ? mix_below(40) : some_room(ROWS);
+        ask.room = mix_chance(200) ? mix_below(80) : some_room(ROWS);
         break;
     case FRAME:
     case READ_REQUEST:
@@ -343,11 +348,11 @@ static void mix_call(void)
         mix_request_fields(&ask.request, &settings);
         break;
     case READ_RESPONSE:
-        ask.a = mix_chance(980) ? 1 + mix_below(4) : mix_chance(500) ? mix_below(7) : mix_any();
-        mix_response(&ask.in);
+        ask.a = mix_chance(980) ? 1 + mix_below(6) : mix_chance(500) ? mix_below(9) : mix_any();
+        mix_response(&ask.in, ask.a);
         break;
     case WRITE_RESPONSE:
-        ask.a = mix_chance(980) ? 1 + mix_below(4) : mix_chance(500) ? mix_below(7) : mix_any();
+        ask.a = mix_chance(980) ? 1 + mix_below(6) : mix_chance(500) ? mix_below(9) : mix_any();
         mix_response_fields(ask.a, &ask.response);
         break;
     case REPORT:
@@ -454,14 +459,20 @@ static void start(bool sound)
     both();
 }
 
-/* Writes a Set command's frame with the first kernel's writer. */
-static void set_frame(uint64_t command, uint64_t consumption, uint64_t production, uint64_t lasts)
+/* A Set command that gives one quantity a value, written with the first kernel's writer. */
+static void set_frame(unsigned quantity, uint64_t value, uint64_t lasts)
 {
-    struct plain_request r = {.id = mix_any() >> 32, .endpoint = 1, .feature = 5, .command = command, .duration = lasts};
-    r.field[0] = (struct plain_field){PLAIN_NUMBER, (int64_t)consumption};
-    r.field[1] = (struct plain_field){PLAIN_NUMBER, (int64_t)production};
-    if (mix_chance(200))
-        r.field[mix_below(2)].kind = PLAIN_ABSENT;
+    struct plain_request r = {.id = mix_any() >> 32, .endpoint = 1, .feature = 5, .duration = lasts};
+    struct plain_field f = {PLAIN_NUMBER, (int64_t)value};
+    r.command = quantity < 2 ? 1 : quantity < 4 ? 3 : 5;
+    if (quantity < 4) {
+        r.field[quantity % 2] = f;
+    } else {
+        r.phase[(quantity - 4) / 2] = f;
+        r.direction = quantity % 2;
+    }
+    ask.call = FRAME;
+    ask.room = 72;
     ask.in.n = first_kernel.write_request(&r, ask.in.at, MIX_MOST).length;
 }
 
@@ -470,12 +481,12 @@ static void crowd_plans(void)
     for (unsigned i = 0; i < 6; i++) {
         ask.call = PLAN;
         ask.time = clock_now + mix_below(2);
-        ask.room = i == 5 ? 6 * PLAIN_ROWS : mix_below(6 * PLAIN_ROWS + 2);
+        ask.room = i == 5 ? PLAIN_ROW * PLAIN_ROWS : mix_below(PLAIN_ROW * PLAIN_ROWS + 2);
         both();
     }
 }
 
-/* Every link goes while limits stand: up to 17 rows in the failsafe. */
+/* Every link goes while limits and currents stand: up to 65 rows in the failsafe. */
 static void crowd_lost(void)
 {
     for (unsigned i = 0; i < 8; i++) {
@@ -487,9 +498,11 @@ static void crowd_lost(void)
     ask.call = ASK;
     both();
     crowd_plans();
+    if (sides[0].number == 0 && sides[0].length > most_lost)
+        most_lost = sides[0].length;
 }
 
-/* Eight zones whose values give way to one another, so that plans grow long: up to 32 rows where all parts differ. */
+/* Eight zones whose values give way to one another, so that plans grow long: up to 80 rows where all parts differ. */
 static void crowd(void)
 {
     start(true);
@@ -503,14 +516,10 @@ static void crowd(void)
         both();
     }
     for (unsigned i = 0; i < 8; i++)
-        for (unsigned j = 0; j < 4; j++) {
-            uint64_t lasts = even ? 1 + 4 * i + j : 1 + mix_below(40);
-            struct plain_request r = {.id = i, .endpoint = 1, .feature = 5, .command = j < 2 ? 1 : 3, .duration = lasts};
-            r.field[j % 2] = (struct plain_field){PLAIN_NUMBER, (int64_t)(settings.minimum + (even ? i : mix_below(9)))};
-            ask.call = FRAME;
+        for (unsigned j = 0; j < PLAIN_HELDS; j++) {
+            uint64_t lasts = even ? 1 + PLAIN_HELDS * i + j : 1 + mix_below(100);
+            set_frame(j, settings.minimum + (even ? i : mix_below(9)), lasts);
             ask.zone = 1 + i;
-            ask.room = 64;
-            ask.in.n = first_kernel.write_request(&r, ask.in.at, MIX_MOST).length;
             both();
         }
     if (mix_chance(300))
@@ -518,9 +527,8 @@ static void crowd(void)
     else
         crowd_plans();
     if (mix_chance(500)) {
-        ask.call = FRAME;
+        set_frame((unsigned)mix_below(PLAIN_HELDS), settings.minimum + 5, mix_below(90));
         ask.zone = 1 + mix_below(8);
-        set_frame(1 + 2 * mix_below(2), settings.minimum + 5, 5, mix_below(90));
         both();
     }
 }
@@ -550,8 +558,8 @@ static void print_counts(void)
     for (unsigned n = 1; n < NUMBERS; n++)
         if (answered[n] > 0)
             printf(" %u: %llu (and %llu without room)", n, U(answered[n]), U(unanswered[n]));
-    printf("\nlongest plan %llu rows, longest report %llu pairs, longest accepted frame %llu bytes\n", U(most_rows), U(most_pairs),
-           U(longest_in));
+    printf("\nlongest plan %llu rows (%llu in the failsafe), longest report %llu pairs, longest accepted frame %llu bytes\n",
+           U(most_rows), U(most_lost), U(most_pairs), U(longest_in));
     printf("every number reached: %s\n", all ? "yes" : "NO");
 }
 

@@ -3,7 +3,7 @@
 #include <stdio.h>
 #include <string.h>
 
-enum { LONGEST = 16384, WORDS = 12, PAIRS_ROOM = 2 * PLAIN_PAIRS };
+enum { LONGEST = 16384, WORDS = 14, PAIRS_ROOM = 2 * PLAIN_PAIRS };
 
 static struct plain device;
 static uint8_t bytes[LONGEST];
@@ -130,7 +130,8 @@ static bool do_start(char **w)
     if (!natural(w[1], &s.directions) || !flag(w[2], &s.accepts_limits) || !flag(w[3], &s.accepts_setpoints) ||
         !natural(w[4], &s.minimum) || !maximum(w[5], &s.has_maximum[0], &s.maximum[0]) ||
         !maximum(w[6], &s.has_maximum[1], &s.maximum[1]) || !natural(w[7], &s.failsafe[0]) ||
-        !natural(w[8], &s.failsafe[1]) || !natural(w[9], &s.duration) || !flag(w[10], &s.manager))
+        !natural(w[8], &s.failsafe[1]) || !natural(w[9], &s.duration) || !flag(w[10], &s.manager) ||
+        !natural(w[11], &s.phases) || !flag(w[12], &s.accepts_currents))
         return false;
     return print_number(plain_start(&device, &s));
 }
@@ -172,7 +173,7 @@ static bool do_ask(char **w)
         return false;
     struct plain_answer a = plain_ask(&device, time);
     printf("%llu", (unsigned long long)a.number);
-    for (int i = 0; i < 5; i++)
+    for (int i = 0; i < PLAIN_VALUES; i++)
         printf(" %lld", (long long)a.value[i]);
     putchar('\n');
     return true;
@@ -180,14 +181,14 @@ static bool do_ask(char **w)
 
 static bool do_plan(char **w)
 {
-    static int64_t rows[6 * PLAIN_ROWS];
+    static int64_t rows[PLAIN_ROW * PLAIN_ROWS];
     uint64_t time;
     size_t room;
-    if (!natural(w[1], &time) || !room_of(w[2], 6 * PLAIN_ROWS, &room))
+    if (!natural(w[1], &time) || !room_of(w[2], PLAIN_ROW * PLAIN_ROWS, &room))
         return false;
     struct plain_written r = plain_plan(&device, time, rows, room);
     printf("%llu", (unsigned long long)r.number);
-    for (size_t i = 0; i < 6 * r.length; i++)
+    for (size_t i = 0; i < PLAIN_ROW * r.length; i++)
         printf(" %lld", (long long)rows[i]);
     putchar('\n');
     return true;
@@ -276,7 +277,7 @@ static const struct {
     int words;
     bool (*run)(char **);
 } commands[] = {
-    {"start", 11, do_start},   {"join", 4, do_join},         {"leave", 3, do_zone},
+    {"start", 13, do_start},   {"join", 4, do_join},         {"leave", 3, do_zone},
     {"lost", 3, do_zone},      {"back", 3, do_zone},         {"override", 4, do_override},
     {"clear", 2, do_clear},    {"ask", 2, do_ask},           {"plan", 3, do_plan},
     {"frame", 5, do_frame},    {"request", 2, do_request},   {"response", 3, do_response},

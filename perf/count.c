@@ -21,7 +21,7 @@ static struct plain_receiver receiver;
 
 static uint8_t in[PLAIN_FRAME_MAX], out[PLAIN_FRAME_MAX], room[PLAIN_FRAME_MAX];
 static size_t in_length;
-static int64_t rows[6 * PLAIN_ROWS];
+static int64_t rows[PLAIN_ROW * PLAIN_ROWS];
 static volatile uint64_t kept; /* so that no call is left out */
 
 enum { NOW = 1000 };
@@ -36,7 +36,9 @@ static void begin(void)
                                        .minimum = 1380000,
                                        .maximum = {43000000, CEKARUM_NONE},
                                        .failsafe = {4200000, 0},
-                                       .failsafe_duration = 7200});
+                                       .failsafe_duration = 7200,
+                                       .phases = 3,
+                                       .accepts_current_limits = true});
 #else
     static const struct plain_settings s = {.directions = 2,
                                             .accepts_limits = true,
@@ -45,7 +47,9 @@ static void begin(void)
                                             .has_maximum = {true, false},
                                             .maximum = {43000000, 0},
                                             .failsafe = {4200000, 0},
-                                            .duration = 7200};
+                                            .duration = 7200,
+                                            .phases = 3,
+                                            .accepts_currents = true};
     CALL(start)(DEVICE, &s);
 #endif
 }
@@ -62,21 +66,34 @@ static void request(uint64_t command, int64_t consumption, int64_t production, u
     in_length = plain_write_request(&r, in, sizeof in).length;
 }
 
+/* SetCurrentLimits of the phases from one up to another. */
+static void currents(unsigned from, unsigned to, uint64_t direction, int64_t v, uint64_t duration)
+{
+    struct plain_request r = {.id = 70000, .endpoint = 1, .feature = 5, .command = 5, .duration = duration};
+    r.direction = direction;
+    for (unsigned i = from; i <= to; i++)
+        r.phase[i] = (struct plain_field){PLAIN_NUMBER, v};
+    in_length = plain_write_request(&r, in, sizeof in).length;
+}
+
 static void apply(uint64_t zone)
 {
     CALL(frame)(DEVICE, zone, NOW, in, in_length, out, sizeof out);
 }
 
-/* Zones 1 to n, each with four held values: for ever, or each step seconds longer than the one before. */
+/* Zones 1 to n, each with ten held values: for ever, or each step seconds longer than the one before. */
 static void zones(unsigned n, uint64_t step)
 {
     begin();
     for (uint64_t i = 0; i < n; i++) {
         CALL(join)(DEVICE, i + 1, 1 + i / 2, NOW);
-        for (uint64_t j = 0; j < 4; j++) {
+        for (unsigned j = 0; j < PLAIN_HELDS; j++) {
             int64_t v = (int64_t)(2000000 + i);
-            uint64_t lasts = step == 0 ? 0 : 1 + (4 * i + j) * step;
-            request(j < 2 ? 1 : 3, j % 2 == 0 ? v : INT64_MIN, j % 2 == 1 ? v : INT64_MIN, lasts);
+            uint64_t lasts = step == 0 ? 0 : 1 + (PLAIN_HELDS * i + j) * step;
+            if (j < 4)
+                request(j < 2 ? 1 : 3, j % 2 == 0 ? v : INT64_MIN, j % 2 == 1 ? v : INT64_MIN, lasts);
+            else
+                currents((j - 4) / 2, (j - 4) / 2, j % 2, v, lasts);
             apply(i + 1);
         }
     }
@@ -109,6 +126,24 @@ static void clear_limit(void)
 {
     two_zones();
     request(2, INT64_MIN, INT64_MIN, 0);
+}
+
+static void set_currents(void)
+{
+    two_zones();
+    currents(0, 2, 0, 16000, 60);
+}
+
+static void set_currents_eight(void)
+{
+    eight_zones();
+    currents(0, 2, 0, 16000, 60);
+}
+
+static void clear_currents(void)
+{
+    two_zones();
+    request(6, INT64_MIN, INT64_MIN, 0);
 }
 
 static void wrong_prefix(void)
@@ -222,9 +257,9 @@ static void rows_8(void)
     }
 }
 
-static void rows_32(void) { zones(8, 1); }
+static void rows_all(void) { zones(8, 1); }
 
-/* Every link lost, the limits below the failsafe limit still standing. */
+/* Every link lost, the currents and the limits below the failsafe limit still standing. */
 static void eight_lost(uint64_t step)
 {
     zones(8, step);
@@ -258,7 +293,7 @@ static void asks(uint64_t times)
 static void plans(uint64_t times)
 {
     for (uint64_t i = 0; i < times; i++)
-        kept = CALL(plan)(DEVICE, NOW, rows, 6 * PLAIN_ROWS).number;
+        kept = CALL(plan)(DEVICE, NOW, rows, PLAIN_ROW * PLAIN_ROWS).number;
 }
 
 static void joins_and_leaves(uint64_t times)
@@ -341,6 +376,9 @@ static const struct {
     {"limit8", "frame accepted: SetLimit, 8 zones", 0, set_limit_eight, frames},
     {"setpoint", "frame accepted: SetSetpoint, 2 zones", 0, set_both_setpoints, frames},
     {"clearlimit", "frame accepted: ClearLimit, 2 zones", 0, clear_limit, frames},
+    {"current2", "frame accepted: SetCurrentLimits, 2 zones", 0, set_currents, frames},
+    {"current8", "frame accepted: SetCurrentLimits, 8 zones", 0, set_currents_eight, frames},
+    {"clearcurrent", "frame accepted: ClearCurrentLimits, 2", 0, clear_currents, frames},
     {"early1", "frame refused early: prefix (1)", 1, wrong_prefix, frames},
     {"early2", "frame refused early: first byte (2)", 2, wrong_first_byte, frames},
     {"late2", "frame refused at its last byte (2)", 2, wrong_last_byte, frames},
@@ -356,8 +394,8 @@ static const struct {
     {"asklost", "ask, 8 zones, all links lost", 0, lost_zones, asks},
     {"plan1", "plan, 1 row", 0, rows_1, plans},
     {"plan8", "plan, 8 rows", 0, rows_8, plans},
-    {"plan32", "plan, 32 rows", 0, rows_32, plans},
-    {"planlost", "plan, 9 rows, all links lost", 0, rows_lost, plans},
+    {"plan80", "plan, 80 rows", 0, rows_all, plans},
+    {"planlost", "plan, 57 rows, all links lost", 0, rows_lost, plans},
     {"join0", "join and leave, alone", 0, no_zone, joins_and_leaves},
     {"join7", "join and leave, 7 others", 0, seven_zones, joins_and_leaves},
     {"lost", "lost and back, 2 zones", 0, two_zones, losts_and_backs},

@@ -14,7 +14,9 @@ static uint64_t start(void *d, const struct plain_settings *s)
                                  .maximum = {maximum(s->has_maximum[0], s->maximum[0]), maximum(s->has_maximum[1], s->maximum[1])},
                                  .failsafe = {s->failsafe[0], s->failsafe[1]},
                                  .failsafe_duration = s->duration,
-                                 .energy_manager = s->manager};
+                                 .energy_manager = s->manager,
+                                 .phases = s->phases,
+                                 .accepts_current_limits = s->accepts_currents};
     return cekarum_start(d, t);
 }
 
@@ -32,7 +34,10 @@ static uint64_t override(void *d, uint64_t reason, uint64_t direction, uint64_t 
 static struct plain_answer ask(void *d, uint64_t time)
 {
     struct cekarum_answer a = cekarum_ask(d, time);
-    return (struct plain_answer){a.number, {a.values[0], a.values[1], a.values[2], a.values[3], a.values[4]}};
+    struct plain_answer b = {.number = a.number};
+    for (unsigned i = 0; i < PLAIN_VALUES; i++)
+        b.value[i] = a.values[i];
+    return b;
 }
 
 static struct plain_written written(struct cekarum_written w)
@@ -63,6 +68,8 @@ static uint64_t read_request(const uint8_t *in, size_t n, struct plain_request *
                                 .cause = q.cause,
                                 .has_direction = q.directed,
                                 .direction = q.direction};
+    for (unsigned i = 0; i < PLAIN_PHASES; i++)
+        r->phase[i] = (struct plain_field){q.phases[i].kind, q.phases[i].value};
     return got.number;
 }
 
@@ -78,6 +85,8 @@ static struct plain_written write_request(const struct plain_request *r, uint8_t
                                 .cause = r->cause,
                                 .directed = r->has_direction,
                                 .direction = r->direction};
+    for (unsigned i = 0; i < PLAIN_PHASES; i++)
+        q.phases[i] = (struct cekarum_field){r->phase[i].kind, r->phase[i].value};
     return written(cekarum_write_request(q, out, room));
 }
 
@@ -85,13 +94,28 @@ static uint64_t read_response(uint64_t command, const uint8_t *in, size_t n, str
 {
     struct cekarum_response_read got = cekarum_read_response(command, in, n);
     struct cekarum_response p = got.response;
-    *r = (struct plain_response){p.id, p.status, p.result, p.applied, p.state, {p.consumption, p.production}, p.reason};
+    *r = (struct plain_response){.id = p.id,
+                                 .status = p.status,
+                                 .has_result = p.result,
+                                 .applied = p.applied,
+                                 .state = p.state,
+                                 .value = {p.consumption, p.production},
+                                 .reason = p.reason,
+                                 .current = {p.currents[0], p.currents[1], p.currents[2]}};
     return got.number;
 }
 
 static struct plain_written write_response(uint64_t command, const struct plain_response *r, uint8_t *out, size_t room)
 {
-    struct cekarum_response p = {r->id, r->status, r->has_result, r->applied, r->state, r->value[0], r->value[1], r->reason};
+    struct cekarum_response p = {.id = r->id,
+                                 .status = r->status,
+                                 .result = r->has_result,
+                                 .applied = r->applied,
+                                 .state = r->state,
+                                 .consumption = r->value[0],
+                                 .production = r->value[1],
+                                 .reason = r->reason,
+                                 .currents = {r->current[0], r->current[1], r->current[2]}};
     return written(cekarum_write_response(command, p, out, room));
 }
 

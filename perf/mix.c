@@ -67,6 +67,13 @@ static int64_t amount(const struct plain_settings *s)
     return (int64_t)(watts(s) & PLAIN_LARGEST);
 }
 
+/* A current in mA. */
+static int64_t current(const struct plain_settings *s)
+{
+    static const int64_t usual[] = {6000, 10000, 13000, 16000, 20000, 32000, 0, 1};
+    return mix_chance(800) ? PICK(usual) : amount(s);
+}
+
 static uint64_t duration(void)
 {
     static const uint64_t usual[] = {1, 2, 3, 5, 10, 20, 50, 60, 100, 7200, 4294967295};
@@ -242,10 +249,9 @@ static void close_map(struct bytes *to, struct entries *e)
     append(to, &e->body);
 }
 
-static void amount_field(struct entries *e, uint64_t k, const struct plain_settings *s, bool nullable)
+/* A number under a key: now and then null, of another type, or past 64 signed bits. */
+static void amount_entry(struct entries *e, uint64_t k, int64_t v, bool nullable)
 {
-    if (mix_chance(350))
-        return;
     key(e, k);
     if (mix_chance(nullable ? 150 : 8))
         byte(&e->body, 0xf6);
@@ -254,7 +260,33 @@ static void amount_field(struct entries *e, uint64_t k, const struct plain_setti
     else if (mix_chance(10))
         head(&e->body, (unsigned)mix_below(2), mix_chance(500) ? BIT(63) : UINT64_MAX);
     else
-        number(&e->body, amount(s));
+        number(&e->body, v);
+}
+
+static void amount_field(struct entries *e, uint64_t k, const struct plain_settings *s, bool nullable)
+{
+    if (mix_chance(650))
+        amount_entry(e, k, amount(s), nullable);
+}
+
+/* A map of phases under a key: seldom one that the device does not have, or a key that is no phase; now and then empty. */
+static void phase_map(struct entries *e, uint64_t k, const struct plain_settings *s, bool nullable)
+{
+    static struct entries phases;
+    phases.count = phases.body.n = 0;
+    if (mix_chance(6))
+        return;
+    key(e, k);
+    if (mix_chance(10)) {
+        item(&e->body, 2);
+        return;
+    }
+    for (uint64_t p = 0; p < PLAIN_PHASES; p++)
+        if (mix_chance(p < s->phases ? 600 : 30))
+            amount_entry(&phases, p, current(s), nullable);
+    if (mix_chance(nullable ? 10 : 50))
+        amount_entry(&phases, 3 + mix_below(4), current(s), nullable);
+    close_map(&e->body, &phases);
 }
 
 static void parameters(struct entries *e, uint64_t command, const struct plain_settings *s)
@@ -264,6 +296,12 @@ static void parameters(struct entries *e, uint64_t command, const struct plain_s
     if (command == 1 || command == 3) {
         amount_field(e, 1, s, command == 1);
         amount_field(e, 2, s, command == 1);
+        if (mix_chance(600))
+            field(e, 3, duration(), 2);
+        field(e, 4, mix_below(6), 2);
+    } else if (command == 5) {
+        phase_map(e, 1, s, true);
+        field(e, 2, mix_chance(970) ? mix_below(2) : 2, 2);
         if (mix_chance(600))
             field(e, 3, duration(), 2);
         field(e, 4, mix_below(6), 2);
@@ -292,9 +330,9 @@ static uint64_t usually(uint64_t v, uint64_t most)
 static void request_map(struct entries *e, const struct plain_settings *s)
 {
     static struct entries inner;
-    uint64_t command = usually(1 + mix_below(4), 9);
+    uint64_t command = usually(1 + mix_below(6), 9);
     if (mix_chance(300))
-        command = 1;
+        command = mix_chance(500) ? 1 : 5;
     inner.count = inner.body.n = 0;
     if (mix_chance(20))
         unknown(e, 0, 7);
@@ -315,11 +353,14 @@ static void request_map(struct entries *e, const struct plain_settings *s)
 
 static void result_map(struct entries *e, uint64_t command)
 {
+    static const struct plain_settings three = {.phases = PLAIN_PHASES};
     key(e, 1);
     byte(&e->body, mix_chance(900) ? 0xf5 : 0xf4);
     if (command == 1)
         field(e, 2, mix_below(5), 2);
-    for (uint64_t k = command == 1 ? 3 : 2; k < (command == 1 ? 5 : 4); k++)
+    if (command == 5)
+        phase_map(e, 2, &three, false);
+    for (uint64_t k = command == 1 ? 3 : 2; command != 5 && k < (command == 1 ? 5 : 4); k++)
         if (mix_chance(500))
             field(e, k, mix_chance(900) ? mix_below(50000000) : edge(), 2);
     if (command == 1 && mix_chance(300))
@@ -328,7 +369,7 @@ static void result_map(struct entries *e, uint64_t command)
         unknown(e, 6 + mix_below(30), 6);
 }
 
-static void response_map(struct entries *e)
+static void response_map(struct entries *e, uint64_t command)
 {
     static struct entries inner;
     static const uint64_t statuses[] = {0, 0, 0, 4, 5, 9, 10, 11, 12, 13, 14};
@@ -340,7 +381,7 @@ static void response_map(struct entries *e)
         if (mix_chance(10)) {
             item(&e->body, 2);
         } else {
-            result_map(&inner, 1 + mix_below(4));
+            result_map(&inner, mix_chance(500) ? command : 1 + mix_below(6));
             close_map(&e->body, &inner);
         }
     }
@@ -437,17 +478,17 @@ void mix_request(struct bytes *to, const struct plain_settings *s)
 {
     static struct entries e;
     e.count = e.body.n = 0;
-    long_heads = mix_chance(10) ? 60 : 0;
+    long_heads = mix_chance(25) ? 60 : 0;
     request_map(&e, s);
     frame_of(to, &e);
 }
 
-void mix_response(struct bytes *to)
+void mix_response(struct bytes *to, uint64_t command)
 {
     static struct entries e;
     e.count = e.body.n = 0;
-    long_heads = mix_chance(10) ? 60 : 0;
-    response_map(&e);
+    long_heads = mix_chance(25) ? 60 : 0;
+    response_map(&e, command);
     frame_of(to, &e);
 }
 
@@ -464,7 +505,7 @@ void mix_request_fields(struct plain_request *r, const struct plain_settings *s)
     r->id = spoil(message_id());
     r->endpoint = spoil(usually(1, 255));
     r->feature = spoil(usually(5, 65535));
-    r->command = spoil(usually(1 + mix_below(4), 9));
+    r->command = spoil(usually(1 + mix_below(6), 9));
     if (r->command == 1 || r->command == 3) {
         for (unsigned i = 0; i < 2; i++) {
             r->field[i].kind = mix_chance(600) ? PLAIN_NUMBER : r->command == 1 ? mix_below(2) : PLAIN_ABSENT;
@@ -475,7 +516,16 @@ void mix_request_fields(struct plain_request *r, const struct plain_settings *s)
         }
         r->duration = spoil(mix_chance(300) ? 0 : duration());
         r->cause = spoil(mix_below(256));
-    } else if (r->command == 2 || r->command == 4) {
+    } else if (r->command == 5) {
+        for (unsigned i = 0; i < PLAIN_PHASES; i++) {
+            r->phase[i].kind = mix_chance(8) ? edge() : mix_below(3);
+            if (r->phase[i].kind == PLAIN_NUMBER)
+                r->phase[i].value = mix_chance(900) ? current(s) : (int64_t)edge();
+        }
+        r->direction = spoil(mix_below(2));
+        r->duration = spoil(mix_chance(300) ? 0 : duration());
+        r->cause = spoil(mix_below(256));
+    } else if (r->command == 2 || r->command == 4 || r->command == 6) {
         r->has_direction = mix_chance(500);
         if (r->has_direction)
             r->direction = spoil(mix_below(2));
@@ -490,7 +540,7 @@ static int64_t maybe(uint64_t v)
 void mix_response_fields(uint64_t command, struct plain_response *r)
 {
     static const uint64_t statuses[] = {0, 0, 0, 4, 5, 9, 10, 11, 12, 13, 14};
-    *r = (struct plain_response){.value = {-1, -1}, .reason = -1};
+    *r = (struct plain_response){.value = {-1, -1}, .reason = -1, .current = {-1, -1, -1}};
     r->id = spoil(message_id());
     r->status = spoil(mix_chance(950) ? PICK(statuses) : mix_below(17));
     r->has_result = r->status == 0 || (command == 1 && r->status >= 11 && r->status <= 14);
@@ -501,11 +551,16 @@ void mix_response_fields(uint64_t command, struct plain_response *r)
     r->applied = mix_chance(command == 1 ? 500 : 970);
     if (command == 1) {
         r->state = spoil(mix_below(5));
-        r->reason = maybe(spoil(mix_below(5)));
+        r->reason = maybe(spoil(mix_chance(20) ? 5 : mix_below(5)));
     }
     if (command == 1 || command == 3)
         for (unsigned i = 0; i < 2; i++)
             r->value[i] = maybe(mix_chance(900) ? mix_below(50000000) : edge());
+    if (command == 5)
+        for (unsigned i = 0; i < PLAIN_PHASES; i++)
+            r->current[i] = maybe(mix_chance(900) ? mix_below(40000) : edge());
+    if (mix_chance(15))
+        r->value[mix_below(2)] = r->current[mix_below(PLAIN_PHASES)] = -2;
 }
 
 /* ---- settings and inputs ---- */
@@ -525,9 +580,11 @@ void mix_settings(struct plain_settings *s, bool sound)
     }
     s->duration = mix_chance(800) ? 7200 : mix_chance(500) ? 86400 : 7200 + mix_below(79201);
     s->manager = mix_chance(500);
+    s->phases = mix_chance(600) ? 3 : 1 + mix_below(3);
+    s->accepts_currents = mix_chance(900);
     if (sound)
         return;
-    switch (mix_below(7)) {
+    switch (mix_below(8)) {
     case 0:
         s->directions = edge();
         break;
@@ -544,6 +601,9 @@ void mix_settings(struct plain_settings *s, bool sound)
         break;
     case 4:
         s->failsafe[mix_below(2)] = edge();
+        break;
+    case 5:
+        s->phases = mix_chance(500) ? 4 * mix_below(2) : edge();
         break;
     default:
         s->duration = mix_chance(300) ? edge() : mix_chance(500) ? 7199 + mix_below(2) : 86400 + mix_below(2);

@@ -21,7 +21,7 @@ void mix_inputs(struct plain_inputs *in, uint16_t *attributes, size_t *n);
 
 /* Frames: prefix and payload. Most are sound; the others are damaged, oversize or off by one somewhere. */
 void mix_request(struct bytes *to, const struct plain_settings *s);
-void mix_response(struct bytes *to);
+void mix_response(struct bytes *to, uint64_t command); /* half of the results are this command's */
 void mix_request_fields(struct plain_request *r, const struct plain_settings *s);
 void mix_response_fields(uint64_t command, struct plain_response *r);
 #endif

@@ -17,18 +17,25 @@ struct item {
     uint8_t kind;
 };
 
-/* Known keys are 1 to 5, in the envelope and in the one map beneath it that matters. */
+/* Known keys are below 6 in the envelope and in the one map beneath it that matters, and are the phases in a map of that. */
 enum { KEYS = 6 };
 
 struct scan {
-    struct item outer[KEYS], inner[KEYS];
+    struct item outer[KEYS], inner[KEYS], phases[PLAIN_PHASES];
     bool is_map;
 };
 
-/* An open map or array: entries still to come, the least key that may follow, and where its known keys go, if it has any. */
+/* Where the maps beneath the envelope stand: its own key, then the key in there that may have phases. */
+struct places {
+    unsigned inner, phases;
+};
+
+/* An open map or array: entries still to come, the least key that may follow, how many keys are known, if any, and where those
+   go. */
 struct level {
     uint64_t left, least;
     struct item *known;
+    uint8_t keys;
     bool map;
 };
 
@@ -79,10 +86,10 @@ static inline const uint8_t *head(const uint8_t *p, const uint8_t *end, unsigned
 }
 
 /* Checks that p is one strict item, and remembers the known keys on the way: those of the payload's map, and those of the
-   map at its key `under`. */
-static bool scan(const uint8_t *p, size_t n, unsigned under, struct scan *s)
+   maps at these places. */
+static bool scan(const uint8_t *p, size_t n, struct places at, struct scan *s)
 {
-    struct level stack[8], now = {1, 0, NULL, false};
+    struct level stack[8], now = {1, 0, NULL, 0, false};
     const uint8_t *end = p + n;
     unsigned depth = 0, kind;
     uint64_t argument;
@@ -97,7 +104,7 @@ static bool scan(const uint8_t *p, size_t n, unsigned under, struct scan *s)
             now.least = argument + 1;
             if (now.least == 0 && now.left > 0) /* no key can follow the largest */
                 return false;
-            if (now.known != NULL && argument < KEYS)
+            if (argument < now.keys)
                 slot = &now.known[argument];
         }
         p = head(p, end, &kind, &argument);
@@ -121,7 +128,13 @@ static bool scan(const uint8_t *p, size_t n, unsigned under, struct scan *s)
                 return false;
             s->is_map |= depth == 0 && kind == MAP;
             stack[depth++] = now;
-            now.known = depth == 1 ? s->outer : slot == &s->outer[under] ? s->inner : NULL;
+            now.keys = 0;
+            if (depth == 1)
+                now.known = s->outer, now.keys = KEYS;
+            else if (depth == 2 && slot == &s->outer[at.inner])
+                now.known = s->inner, now.keys = KEYS;
+            else if (depth == 3 && slot == &s->inner[at.phases])
+                now.known = s->phases, now.keys = PLAIN_PHASES;
             now.left = argument;
             now.least = 0;
             now.map = kind == MAP;
@@ -212,6 +225,24 @@ static size_t close_frame(uint8_t *frame, const uint8_t *end)
     return length + 4;
 }
 
+/* A map's entry that is a field of a Set command; an absent one is left out. */
+static uint8_t *put_field(uint8_t *to, unsigned key, const struct plain_field *f)
+{
+    if (f->kind == PLAIN_ABSENT)
+        return to;
+    to = put(to, 0, key);
+    return f->kind == PLAIN_NULL ? put(to, 7, NIL) : put_signed(to, f->value);
+}
+
+/* A map's entry that is a value; an absent one is left out. */
+static inline uint8_t *put_value(uint8_t *to, unsigned key, int64_t v)
+{
+    if (v < 0)
+        return to;
+    *to++ = (uint8_t)key;
+    return put(to, 0, (uint64_t)v);
+}
+
 static bool put_frame(const uint8_t *frame, size_t length, uint8_t *out, size_t room)
 {
     if (length > room)
@@ -221,6 +252,17 @@ static bool put_frame(const uint8_t *frame, size_t length, uint8_t *out, size_t 
 }
 
 /* ---- requests ---- */
+
+static bool is_served(uint64_t command)
+{
+    return command >= 1 && command <= 6;
+}
+
+/* SetLimit and SetSetpoint, which name two directions. */
+static bool sets_power(uint64_t command)
+{
+    return command == 1 || command == 3;
+}
 
 static bool fits(const struct item *i, uint64_t largest)
 {
@@ -236,7 +278,7 @@ static uint64_t read_envelope(const struct scan *s, struct plain_request *r)
     r->endpoint = s->outer[2].argument;
     r->feature = s->outer[3].argument;
     r->command = s->outer[4].argument;
-    return r->endpoint == 1 && r->feature == 5 && r->command >= 1 && r->command <= 4 ? 0 : 4;
+    return r->endpoint == 1 && r->feature == 5 && is_served(r->command) ? 0 : 4;
 }
 
 static bool read_field(const struct item *i, bool nullable, struct plain_field *f)
@@ -261,17 +303,39 @@ static bool read_field(const struct item *i, bool nullable, struct plain_field *
     }
 }
 
+/* Whether an item is a map of phases, and has no other key than those. */
+static bool has_phases(const struct item *map, const struct item *phases)
+{
+    unsigned known = (phases[0].kind != NONE) + (phases[1].kind != NONE) + (phases[2].kind != NONE);
+    return map->kind == MAP && map->argument == known;
+}
+
+/* Duration and cause of a Set command. */
+static uint64_t read_ends(const struct item *i, struct plain_request *r)
+{
+    if ((i[3].kind != NONE && !fits(&i[3], UINT32_MAX)) || !fits(&i[4], 255))
+        return 3;
+    r->duration = i[3].argument;
+    r->cause = i[4].argument;
+    return 0;
+}
+
 static uint64_t read_parameters(const struct scan *s, struct plain_request *r)
 {
     const struct item *i = s->inner;
-    if (r->command == 1 || r->command == 3) {
+    if (sets_power(r->command)) {
         if (!read_field(&i[1], r->command == 1, &r->field[0]) || !read_field(&i[2], r->command == 1, &r->field[1]))
             return 3;
-        if ((i[3].kind != NONE && !fits(&i[3], UINT32_MAX)) || !fits(&i[4], 255))
+        return read_ends(i, r);
+    }
+    if (r->command == 5) {
+        if (!has_phases(&i[1], s->phases) || !fits(&i[2], 1))
             return 3;
-        r->duration = i[3].argument;
-        r->cause = i[4].argument;
-        return 0;
+        for (unsigned k = 0; k < PLAIN_PHASES; k++)
+            if (!read_field(&s->phases[k], true, &r->phase[k]))
+                return 3;
+        r->direction = i[2].argument;
+        return read_ends(i, r);
     }
     if (i[1].kind != NONE && !fits(&i[1], 1))
         return 3;
@@ -287,7 +351,7 @@ static inline uint64_t read_request(const uint8_t *in, size_t n, struct plain_re
     size_t length = payload(in, n);
     if (length == 0)
         return 1;
-    if (!scan(in + 4, length, 5, &s))
+    if (!scan(in + 4, length, (struct places){5, 1}, &s))
         return 2;
     uint64_t number = read_envelope(&s, r);
     return number != 0 ? number : read_parameters(&s, r);
@@ -308,15 +372,55 @@ static bool request_in_range(const struct plain_request *r)
 {
     if (r->id > UINT32_MAX || r->endpoint > 255 || r->feature > 65535 || r->command > 65535)
         return false;
-    if (r->command == 1 || r->command == 3) {
+    if (sets_power(r->command)) {
         for (unsigned i = 0; i < 2; i++)
             if (r->field[i].kind > PLAIN_NUMBER || (r->field[i].kind == PLAIN_NULL && r->command == 3))
                 return false;
         return r->duration <= UINT32_MAX && r->cause <= 255;
     }
-    if (r->command == 2 || r->command == 4)
-        return !r->has_direction || r->direction <= 1;
-    return true;
+    if (r->command == 5) {
+        for (unsigned i = 0; i < PLAIN_PHASES; i++)
+            if (r->phase[i].kind > PLAIN_NUMBER)
+                return false;
+        return r->direction <= 1 && r->duration <= UINT32_MAX && r->cause <= 255;
+    }
+    return !is_served(r->command) || !r->has_direction || r->direction <= 1;
+}
+
+/* How many of so many fields stand. */
+static unsigned standing(const struct plain_field *f, unsigned n)
+{
+    unsigned count = 0;
+    for (unsigned i = 0; i < n; i++)
+        count += f[i].kind != PLAIN_ABSENT;
+    return count;
+}
+
+/* Duration and cause of a Set command; a duration of 0 is left out. */
+static uint8_t *put_ends(uint8_t *to, const struct plain_request *r)
+{
+    if (r->duration != 0)
+        to = put(put(to, 0, 3), 0, r->duration);
+    return put(put(to, 0, 4), 0, r->cause);
+}
+
+static uint8_t *put_parameters(uint8_t *to, const struct plain_request *r)
+{
+    if (sets_power(r->command)) {
+        to = put(to, 5, 1 + standing(r->field, 2) + (r->duration != 0));
+        for (unsigned i = 0; i < 2; i++)
+            to = put_field(to, i + 1, &r->field[i]);
+        return put_ends(to, r);
+    }
+    if (r->command == 5) {
+        to = put(to, 5, 3 + (r->duration != 0));
+        to = put(put(to, 0, 1), 5, standing(r->phase, PLAIN_PHASES));
+        for (unsigned i = 0; i < PLAIN_PHASES; i++)
+            to = put_field(to, i, &r->phase[i]);
+        return put_ends(put(put(to, 0, 2), 0, r->direction), r);
+    }
+    to = put(to, 5, r->has_direction);
+    return r->has_direction ? put(put(to, 0, 1), 0, r->direction) : to;
 }
 
 struct plain_written plain_write_request(const struct plain_request *r, uint8_t *out, size_t room)
@@ -324,31 +428,14 @@ struct plain_written plain_write_request(const struct plain_request *r, uint8_t 
     uint8_t frame[PLAIN_REQUEST_MAX], *to = frame + 4;
     if (!request_in_range(r))
         return (struct plain_written){3, 0};
-    if (r->endpoint != 1 || r->feature != 5 || r->command < 1 || r->command > 4)
+    if (r->endpoint != 1 || r->feature != 5 || !is_served(r->command))
         return (struct plain_written){4, 0};
     to = put(to, 5, 5);
     to = put(put(to, 0, 1), 0, r->id);
     to = put(put(to, 0, 2), 0, r->endpoint);
     to = put(put(to, 0, 3), 0, r->feature);
     to = put(put(to, 0, 4), 0, r->command);
-    to = put(to, 0, 5);
-    if (r->command == 1 || r->command == 3) {
-        unsigned entries = 1 + (r->field[0].kind != PLAIN_ABSENT) + (r->field[1].kind != PLAIN_ABSENT) + (r->duration != 0);
-        to = put(to, 5, entries);
-        for (unsigned i = 0; i < 2; i++) {
-            if (r->field[i].kind == PLAIN_ABSENT)
-                continue;
-            to = put(to, 0, i + 1);
-            to = r->field[i].kind == PLAIN_NULL ? put(to, 7, 22) : put_signed(to, r->field[i].value);
-        }
-        if (r->duration != 0)
-            to = put(put(to, 0, 3), 0, r->duration);
-        to = put(put(to, 0, 4), 0, r->cause);
-    } else {
-        to = put(to, 5, r->has_direction);
-        if (r->has_direction)
-            to = put(put(to, 0, 1), 0, r->direction);
-    }
+    to = put_parameters(put(to, 0, 5), r);
     size_t length = close_frame(frame, to);
     if (!put_frame(frame, length, out, room))
         return (struct plain_written){15, 0};
@@ -373,7 +460,7 @@ static bool read_value(const struct item *i, int64_t *v)
     return i->kind == NONE || fits(i, PLAIN_LARGEST);
 }
 
-static bool read_result(uint64_t command, const struct item *i, struct plain_response *r)
+static bool read_result(uint64_t command, const struct item *i, const struct item *phases, struct plain_response *r)
 {
     if (command == 1) {
         if (i[1].kind != SIMPLE || i[1].argument == NIL || !fits(&i[2], 4) || (i[5].kind != NONE && !fits(&i[5], 4)))
@@ -386,27 +473,30 @@ static bool read_result(uint64_t command, const struct item *i, struct plain_res
     if (i[1].kind != SIMPLE || i[1].argument != TRUE)
         return false;
     r->applied = true;
+    if (command == 5)
+        return has_phases(&i[2], phases) && read_value(&phases[0], &r->current[0]) && read_value(&phases[1], &r->current[1]) &&
+               read_value(&phases[2], &r->current[2]);
     return command != 3 || (read_value(&i[2], &r->value[0]) && read_value(&i[3], &r->value[1]));
 }
 
-static const struct plain_response no_response = {.value = {-1, -1}, .reason = -1};
+static const struct plain_response no_response = {.value = {-1, -1}, .reason = -1, .current = {-1, -1, -1}};
 
 uint64_t plain_read_response(uint64_t command, const uint8_t *in, size_t n, struct plain_response *r)
 {
     struct scan s;
     *r = no_response;
-    if (command < 1 || command > 4)
+    if (!is_served(command))
         return 4;
     size_t length = payload(in, n);
     if (length == 0)
         return 1;
-    if (!scan(in + 4, length, 3, &s))
+    if (!scan(in + 4, length, (struct places){3, 2}, &s))
         return 2;
     const struct item *o = s.outer;
     if (!s.is_map || !fits(&o[1], UINT32_MAX) || !fits(&o[2], 14) || !is_status(o[2].argument))
         return 3;
     bool wanted = has_result(command, o[2].argument);
-    if (o[3].kind != (wanted ? MAP : NONE) || (wanted && !read_result(command, s.inner, r))) {
+    if (o[3].kind != (wanted ? MAP : NONE) || (wanted && !read_result(command, s.inner, s.phases, r))) {
         *r = no_response;
         return 3;
     }
@@ -426,7 +516,9 @@ static bool response_in_range(uint64_t command, const struct plain_response *r)
         return false;
     if (command != 1 && !r->applied)
         return false;
-    return command == 2 || command == 4 || (r->value[0] >= -1 && r->value[1] >= -1);
+    if (command == 5)
+        return r->current[0] >= -1 && r->current[1] >= -1 && r->current[2] >= -1;
+    return !sets_power(command) || (r->value[0] >= -1 && r->value[1] >= -1);
 }
 
 /* Writes a response that is in range at frame, with room for the longest; its length. */
@@ -444,24 +536,27 @@ static inline size_t encode_response(uint8_t *frame, uint64_t command, const str
     unsigned entries = 1, key = 2;
     if (command == 1)
         entries += 1 + (r->reason >= 0), key = 3;
-    if (command == 1 || command == 3)
+    if (sets_power(command))
         entries += (r->value[0] >= 0) + (r->value[1] >= 0);
-    *to++ = (uint8_t)(0xa0 | entries);
+    *to++ = (uint8_t)(0xa0 | (entries + (command == 5)));
     *to++ = 1;
     to = put_bool(to, r->applied);
     if (command == 1) {
         *to++ = 2;
         *to++ = (uint8_t)r->state;
     }
-    if (command == 1 || command == 3)
+    if (sets_power(command))
         for (unsigned i = 0; i < 2; i++)
-            if (r->value[i] >= 0) {
-                *to++ = (uint8_t)(key + i);
-                to = put(to, 0, (uint64_t)r->value[i]);
-            }
+            to = put_value(to, key + i, r->value[i]);
     if (command == 1 && r->reason >= 0) {
         *to++ = 5;
         *to++ = (uint8_t)r->reason;
+    }
+    if (command == 5) {
+        *to++ = 2;
+        *to++ = (uint8_t)(0xa0 | ((r->current[0] >= 0) + (r->current[1] >= 0) + (r->current[2] >= 0)));
+        for (unsigned i = 0; i < PLAIN_PHASES; i++)
+            to = put_value(to, i, r->current[i]);
     }
     return close_frame(frame, to);
 }
@@ -469,7 +564,7 @@ static inline size_t encode_response(uint8_t *frame, uint64_t command, const str
 struct plain_written plain_write_response(uint64_t command, const struct plain_response *r, uint8_t *out, size_t room)
 {
     uint8_t frame[PLAIN_RESPONSE_MAX];
-    if (command < 1 || command > 4)
+    if (!is_served(command))
         return (struct plain_written){4, 0};
     if (!response_in_range(command, r))
         return (struct plain_written){3, 0};
@@ -485,6 +580,8 @@ static bool in_range(const struct plain_settings *s)
 {
     if (s->directions > 2 || s->minimum > PLAIN_LARGEST || s->duration < 7200 || s->duration > 86400)
         return false;
+    if (s->phases < 1 || s->phases > PLAIN_PHASES)
+        return false;
     for (unsigned i = 0; i < 2; i++)
         if (s->failsafe[i] > PLAIN_LARGEST || (s->has_maximum[i] && s->maximum[i] > PLAIN_LARGEST))
             return false;
@@ -496,6 +593,7 @@ uint64_t plain_start(struct plain *d, const struct plain_settings *s)
     memset(d, 0, sizeof *d);
     if (!in_range(s)) {
         d->settings.duration = 7200;
+        d->settings.phases = 1;
         return 16;
     }
     d->settings = *s;
@@ -626,86 +724,93 @@ uint64_t plain_clear(struct plain *d, uint64_t time)
 
 /* ---- what holds at a second ---- */
 
-/* Limits: the smallest unexpired. Setpoints: the best rank's, then the smaller id's. Commands in an unsupported direction are
-   refused, so no zone holds a value there. Gives back the next second at which a value expires. */
-static inline uint64_t zones_hold(const struct plain *d, uint64_t time, int64_t *v)
+/* The limits of power and of current, by their place among the held values. */
+enum { LOWS = PLAIN_HELDS - 2 };
+
+static inline unsigned low_at(unsigned i)
 {
-    uint64_t limit[2] = {FOREVER, FOREVER}, next = FOREVER;
+    return i < 2 ? i : i + 2;
+}
+
+static inline uint64_t least(uint64_t a, uint64_t b)
+{
+    return a < b ? a : b;
+}
+
+/* The next second at which a limit or a current, or a setpoint, expires. */
+struct next {
+    uint64_t lows, leads;
+};
+
+/* Limits and currents: the smallest unexpired. Setpoints: the best rank's, then the smaller id's. Commands in an unsupported
+   direction are refused, so no zone holds a value there. */
+static inline struct next zones_hold(const struct plain *d, uint64_t time, int64_t *v)
+{
+    uint64_t low[LOWS], lead[2] = {FOREVER, FOREVER};
     unsigned best[2] = {~0u, ~0u};
-    v[3] = v[4] = -1;
+    struct next next = {FOREVER, FOREVER};
+    for (unsigned i = 0; i < LOWS; i++)
+        low[i] = FOREVER;
     for (const struct plain_zone *z = d->zones; z < d->zones + PLAIN_ZONES; z++) {
         if (z->id == 0)
             continue;
         unsigned order = (unsigned)z->rank << 8 | z->id;
-        for (unsigned i = 0; i < 2; i++) {
-            const struct plain_held *l = &z->held[i], *s = &z->held[2 + i];
+        for (unsigned i = 0; i < LOWS; i++) {
+            const struct plain_held *l = &z->held[low_at(i)];
             if (time < l->until) {
-                if (l->value < limit[i])
-                    limit[i] = l->value;
-                if (l->until < next)
-                    next = l->until;
+                if (l->value < low[i])
+                    low[i] = l->value;
+                if (l->until < next.lows)
+                    next.lows = l->until;
             }
+        }
+        for (unsigned i = 0; i < 2; i++) {
+            const struct plain_held *s = &z->held[2 + i];
             if (time < s->until) {
                 if (order < best[i]) {
                     best[i] = order;
-                    v[3 + i] = (int64_t)s->value;
+                    lead[i] = s->value;
                 }
-                if (s->until < next)
-                    next = s->until;
+                if (s->until < next.leads)
+                    next.leads = s->until;
             }
         }
     }
-    v[1] = (int64_t)limit[0];
-    v[2] = (int64_t)limit[1];
-    v[0] = d->overridden ? 4 : v[1] >= 0 || v[2] >= 0 ? 2 : 1;
-    return next;
-}
-
-/* No link up: the smallest of the failsafe limit and all unexpired limits. Gives back the next second at which a limit or the
-   failsafe expires. Not inlined, so that the row of a link that is up stays in registers. */
-static __attribute__((noinline)) uint64_t failsafe_holds(const struct plain *d, uint64_t time, int64_t *limit)
-{
-    uint64_t least[2] = {d->settings.failsafe[0], d->settings.failsafe[1]}, next = d->since + d->settings.duration;
-    for (const struct plain_zone *z = d->zones; z < d->zones + PLAIN_ZONES; z++) {
-        if (z->id == 0)
-            continue;
-        for (unsigned i = 0; i < 2; i++) {
-            const struct plain_held *l = &z->held[i];
-            if (time < l->until) {
-                if (l->value < least[i])
-                    least[i] = l->value;
-                if (l->until < next)
-                    next = l->until;
-            }
-        }
-    }
+    for (unsigned i = 0; i < LOWS; i++)
+        v[1 + low_at(i)] = (int64_t)low[i];
     for (unsigned i = 0; i < 2; i++)
-        limit[i] = supports(d, i) ? (int64_t)least[i] : -1;
+        v[3 + i] = (int64_t)lead[i];
     return next;
 }
 
-/* The five values at a second, and the next second at which they may change. */
+/* The eleven values at a second, and the next second at which they may change. */
 static inline uint64_t values(const struct plain *d, uint64_t time, int64_t *v)
 {
-    if (d->up > 0)
-        return zones_hold(d, time, v);
-    v[1] = v[2] = v[3] = v[4] = -1;
-    if (d->joined > 0 && time < d->since + d->settings.duration) {
-        int64_t limit[2];
-        uint64_t next = failsafe_holds(d, time, limit);
+    uint64_t end = d->since + d->settings.duration;
+    if (d->up > 0) {
+        struct next next = zones_hold(d, time, v);
+        v[0] = d->overridden ? 4 : v[1] >= 0 || v[2] >= 0 ? 2 : 1;
+        return least(next.lows, next.leads);
+    }
+    if (d->joined > 0 && time < end) {
+        struct next next = zones_hold(d, time, v);
         v[0] = 3;
-        v[1] = limit[0];
-        v[2] = limit[1];
-        return next;
+        v[3] = v[4] = -1;
+        for (unsigned i = 0; i < 2; i++)
+            if (supports(d, i))
+                v[1 + i] = (int64_t)least((uint64_t)v[1 + i], d->settings.failsafe[i]);
+        return least(next.lows, end);
     }
     v[0] = d->overridden ? 4 : 0;
+    for (unsigned i = 1; i < PLAIN_VALUES; i++)
+        v[i] = -1;
     return FOREVER;
 }
 
 struct plain_answer plain_ask(struct plain *d, uint64_t time)
 {
     if (late(d, time))
-        return (struct plain_answer){5, {-1, -1, -1, -1, -1}};
+        return (struct plain_answer){5, {-1, -1, -1, -1, -1, -1, -1, -1, -1, -1, -1}};
     struct plain_answer a = {0};
     values(d, time, a.value);
     d->clock = time;
@@ -714,21 +819,24 @@ struct plain_answer plain_ask(struct plain *d, uint64_t time)
 
 static bool same(const int64_t *a, const int64_t *b)
 {
-    return ((a[0] ^ b[0]) | (a[1] ^ b[1]) | (a[2] ^ b[2]) | (a[3] ^ b[3]) | (a[4] ^ b[4])) == 0;
+    int64_t differ = 0;
+    for (unsigned i = 0; i < PLAIN_VALUES; i++)
+        differ |= a[i] ^ b[i];
+    return differ == 0;
 }
 
 /* Walks the expiries after time; writes rows where rows is not NULL; their count. */
 static size_t walk(const struct plain *d, uint64_t time, int64_t *rows)
 {
-    int64_t now[5], then[5];
+    int64_t now[PLAIN_VALUES], then[PLAIN_VALUES];
     size_t count = 0;
     uint64_t at = values(d, time, now);
     while (at <= PLAIN_LAST_SECOND) {
         uint64_t next = values(d, at, then);
         if (!same(now, then)) {
             if (rows != NULL) {
-                rows[6 * count] = (int64_t)at;
-                memcpy(&rows[6 * count + 1], then, sizeof then);
+                rows[PLAIN_ROW * count] = (int64_t)at;
+                memcpy(&rows[PLAIN_ROW * count + 1], then, sizeof then);
             }
             memcpy(now, then, sizeof now);
             count++;
@@ -742,7 +850,7 @@ struct plain_written plain_plan(struct plain *d, uint64_t time, int64_t *rows, s
 {
     if (late(d, time))
         return (struct plain_written){5, 0};
-    if (room < 6 * PLAIN_ROWS && 6 * walk(d, time, NULL) > room)
+    if (room < PLAIN_ROW * PLAIN_ROWS && PLAIN_ROW * walk(d, time, NULL) > room)
         return (struct plain_written){15, 0};
     size_t count = walk(d, time, rows);
     d->clock = time;
@@ -753,32 +861,45 @@ struct plain_written plain_plan(struct plain *d, uint64_t time, int64_t *rows, s
 
 static bool names(const struct plain_request *r, unsigned direction)
 {
-    if (r->command == 1 || r->command == 3)
+    if (sets_power(r->command))
         return r->field[direction].kind != PLAIN_ABSENT;
-    return r->has_direction && r->direction == direction;
+    return (r->command == 5 || r->has_direction) && r->direction == direction;
+}
+
+static bool accepts(const struct plain_settings *s, uint64_t command)
+{
+    return command <= 2 ? s->accepts_limits : command <= 4 ? s->accepts_setpoints : s->accepts_currents;
+}
+
+/* Whether a Set command names something, all of it that is there, and no negative value. */
+static bool is_sound(const struct plain_settings *s, const struct plain_request *r)
+{
+    if (sets_power(r->command))
+        return standing(r->field, 2) > 0 && r->field[0].value >= 0 && r->field[1].value >= 0;
+    if (r->command != 5)
+        return true;
+    for (unsigned i = 0; i < PLAIN_PHASES; i++)
+        if (r->phase[i].value < 0 || (r->phase[i].kind != PLAIN_ABSENT && i >= s->phases))
+            return false;
+    return standing(r->phase, PLAIN_PHASES) > 0;
 }
 
 static uint64_t judge(const struct plain *d, const struct plain_zone *z, const struct plain_request *r)
 {
     const struct plain_settings *s = &d->settings;
-    bool limits = r->command <= 2, sets = r->command == 1 || r->command == 3;
     if (z == NULL)
         return 9;
     if (!z->up)
         return 10;
-    if (!(limits ? s->accepts_limits : s->accepts_setpoints))
+    if (!accepts(s, r->command))
         return 11;
     for (unsigned i = 0; i < 2; i++)
         if (names(r, i) && !supports(d, i))
             return 11;
-    if (r->command == 1 && d->overridden)
+    if ((r->command == 1 || r->command == 5) && d->overridden)
         return 12;
-    if (sets) {
-        if (r->field[0].kind == PLAIN_ABSENT && r->field[1].kind == PLAIN_ABSENT)
-            return 13;
-        if (r->field[0].value < 0 || r->field[1].value < 0)
-            return 13;
-    }
+    if (!is_sound(s, r))
+        return 13;
     /* 0 means off, and is never too low. */
     if (r->command == 1 && r->field[0].kind == PLAIN_NUMBER && r->field[0].value != 0
         && (uint64_t)r->field[0].value < s->minimum)
@@ -786,30 +907,41 @@ static uint64_t judge(const struct plain *d, const struct plain_zone *z, const s
     return 0;
 }
 
+/* Stores a field of a Set command, no more than this; whether it was capped. */
+static inline bool store(struct plain_held *h, const struct plain_field *f, uint64_t most, uint64_t until)
+{
+    if (f->kind == PLAIN_ABSENT)
+        return false;
+    if (f->kind == PLAIN_NULL) {
+        *h = (struct plain_held){0, 0};
+        return false;
+    }
+    uint64_t value = (uint64_t)f->value;
+    *h = (struct plain_held){least(value, most), until};
+    return value > most;
+}
+
 /* Applies an accepted command to its zone; whether a limit was capped. */
 static bool apply(const struct plain *d, struct plain_held *held, const struct plain_request *r, uint64_t time)
 {
+    const struct plain_settings *s = &d->settings;
     bool capped = false;
-    if (r->command == 2 || r->command == 4) {
-        for (unsigned i = 0; i < 2; i++)
-            if (!r->has_direction || r->direction == i)
-                held[i] = (struct plain_held){0, 0};
+    if (!sets_power(r->command) && r->command != 5) {
+        struct plain_held *h = &held[r->command - 2];
+        for (unsigned i = 0; i < (r->command == 6 ? 2 * PLAIN_PHASES : 2); i++)
+            if (!r->has_direction || r->direction == i % 2)
+                h[i] = (struct plain_held){0, 0};
         return false;
     }
     uint64_t until = r->duration == 0 ? FOREVER : time + r->duration;
+    if (r->command == 5) {
+        for (unsigned i = 0; i < PLAIN_PHASES; i++)
+            store(&held[4 + 2 * i + r->direction], &r->phase[i], FOREVER, until);
+        return false;
+    }
     for (unsigned i = 0; i < 2; i++) {
-        if (r->field[i].kind == PLAIN_ABSENT)
-            continue;
-        if (r->field[i].kind == PLAIN_NULL) {
-            held[i] = (struct plain_held){0, 0};
-            continue;
-        }
-        uint64_t value = (uint64_t)r->field[i].value;
-        if (r->command == 1 && d->settings.has_maximum[i] && value > d->settings.maximum[i]) {
-            value = d->settings.maximum[i];
-            capped = true;
-        }
-        held[i] = (struct plain_held){value, until};
+        uint64_t most = r->command == 1 && s->has_maximum[i] ? s->maximum[i] : FOREVER;
+        capped |= store(&held[r->command - 1 + i], &r->field[i], most, until);
     }
     return capped;
 }
@@ -829,49 +961,53 @@ static size_t respond(uint64_t command, const struct plain_response *r, uint8_t 
     return put_frame(frame, length, out, room) ? length : 0;
 }
 
-static void take_values(struct plain_response *p, uint64_t command, const int64_t *v)
+static void take_values(struct plain_response *p, const struct plain_request *r, const int64_t *v)
 {
-    unsigned from = command == 1 ? 1 : 3;
+    if (r->command == 5) {
+        for (unsigned i = 0; i < PLAIN_PHASES; i++)
+            p->current[i] = v[5 + 2 * i + r->direction];
+        return;
+    }
     p->state = (uint64_t)v[0];
-    p->value[0] = v[from];
-    p->value[1] = v[from + 1];
+    p->value[0] = v[r->command];
+    p->value[1] = v[r->command + 1];
 }
 
 struct plain_written plain_frame(struct plain *d, uint64_t zone, uint64_t time, const uint8_t *in, size_t n, uint8_t *out,
                                  size_t room)
 {
     struct plain_request r;
-    int64_t v[5];
+    int64_t v[PLAIN_VALUES];
     uint64_t number = read_request(in, n, &r);
     if (number >= 1 && number <= 3)
         return (struct plain_written){number, 0};
     struct plain_zone *z = NULL;
     if (number == 0)
         number = late(d, time) ? 5 : judge(d, z = find(d, zone), &r);
-    struct plain_response p = {r.id, number, false, false, 0, {-1, -1}, -1};
+    struct plain_response p = {r.id, number, false, false, 0, {-1, -1}, -1, {-1, -1, -1}};
     if (number != 0) {
         if (r.command == 1 && number >= 11) {
             values(d, time, v);
             p.has_result = true;
             p.reason = reject_reason(number);
-            take_values(&p, 1, v);
+            take_values(&p, &r, v);
         }
         return (struct plain_written){number, respond(r.command, &p, out, room)};
     }
     /* The response shows the command's own effect, so it is stored first and put back if the response has no room. */
-    struct plain_held *held = &z->held[r.command <= 2 ? 0 : 2], before[2] = {held[0], held[1]};
-    bool capped = apply(d, held, &r, time);
+    struct plain_zone before;
+    if (room < PLAIN_RESPONSE_MAX)
+        before = *z;
     p.has_result = p.applied = true;
-    if (capped)
+    if (apply(d, z->held, &r, time))
         p.reason = 1;
-    if (r.command == 1 || r.command == 3) {
+    if (sets_power(r.command) || r.command == 5) {
         values(d, time, v);
-        take_values(&p, r.command, v);
+        take_values(&p, &r, v);
     }
     size_t length = respond(r.command, &p, out, room);
     if (length == 0) {
-        held[0] = before[0];
-        held[1] = before[1];
+        *z = before;
         return (struct plain_written){15, 0};
     }
     d->clock = time;

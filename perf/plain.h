@@ -5,10 +5,13 @@
 #include <stddef.h>
 #include <stdint.h>
 
-enum { PLAIN_ZONES = 8, PLAIN_ROWS = 32, PLAIN_PAIRS = 64 };
+enum { PLAIN_ZONES = 8, PLAIN_PHASES = 3, PLAIN_ROWS = 80, PLAIN_PAIRS = 64 };
+
+/* Values that a zone may hold, values of an answer (the control state first), numbers of a plan's row (the second first). */
+enum { PLAIN_HELDS = 10, PLAIN_VALUES = 11, PLAIN_ROW = 12 };
 
 /* The longest response and the longest request that a writer makes, prefix included. */
-enum { PLAIN_RESPONSE_MAX = 41, PLAIN_REQUEST_MAX = 48, PLAIN_FRAME_MAX = 2052 };
+enum { PLAIN_RESPONSE_MAX = 49, PLAIN_REQUEST_MAX = 62, PLAIN_FRAME_MAX = 2052 };
 
 #define PLAIN_LAST_SECOND ((UINT64_C(1) << 40) - 1)
 #define PLAIN_LARGEST ((uint64_t)INT64_MAX)
@@ -22,18 +25,20 @@ struct plain_settings {
     uint64_t failsafe[2];
     uint64_t duration;
     bool manager;
+    uint64_t phases; /* 1 to 3 */
+    bool accepts_currents;
 };
 
 struct plain_held {
     uint64_t value, until; /* holds while t < until; never set is {0, 0} */
 };
 
-/* held: limit consumption, limit production, setpoint consumption, setpoint production */
+/* held: two limits, two setpoints, then currents phase by phase; of each two consumption, then production */
 struct plain_zone {
     uint16_t id; /* 0: a free slot */
     uint8_t rank;
     bool up;
-    struct plain_held held[4];
+    struct plain_held held[PLAIN_HELDS];
 };
 
 struct plain {
@@ -49,10 +54,10 @@ struct plain_written {
     uint64_t number, length;
 };
 
-/* Values: control state, two limits, two setpoints; -1 is absent. */
+/* Values: control state, then as a zone holds them; -1 is absent. */
 struct plain_answer {
     uint64_t number;
-    int64_t value[5];
+    int64_t value[PLAIN_VALUES];
 };
 
 enum { PLAIN_ABSENT, PLAIN_NULL, PLAIN_NUMBER };
@@ -62,21 +67,23 @@ struct plain_field {
     int64_t value;
 };
 
-/* Commands 1 and 3 use field, duration and cause; 2 and 4 use direction (0, 1, or absent: has_direction false). */
+/* Commands 1 and 3 use field, duration and cause; 5 uses phase, direction, duration and cause; 2, 4 and 6 use direction (0, 1,
+   or absent: has_direction false). */
 struct plain_request {
     uint64_t id, endpoint, feature, command;
     struct plain_field field[2];
     uint64_t duration, cause;
     bool has_direction;
     uint64_t direction;
+    struct plain_field phase[PLAIN_PHASES];
 };
 
-/* value: limits or setpoints, -1 is absent; reason: -1 is absent. */
+/* value: limits or setpoints, current: by phase, -1 is absent; reason: -1 is absent. */
 struct plain_response {
     uint64_t id, status;
     bool has_result, applied;
     uint64_t state;
-    int64_t value[2], reason;
+    int64_t value[2], reason, current[PLAIN_PHASES];
 };
 
 struct plain_inputs {
