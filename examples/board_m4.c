@@ -69,6 +69,7 @@ static const struct cekarum_settings settings = {
     .maximum = {11040000, CEKARUM_NONE},
     .failsafe = {4200000, 0},
     .failsafe_duration = 7200,
+    .phases = 1,
 };
 
 static uint64_t device[CEKARUM_WORDS];

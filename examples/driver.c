@@ -1,4 +1,5 @@
-/* A small driver: two zones join, each sets a limit by frames that come in scraps, and the plan says what will change. */
+/* A small driver of a three-phase box: two zones join, set limits of power and of current by frames that come in scraps, and the
+   plan says what will change. */
 #include "cekarum.h"
 #include <stdio.h>
 
@@ -10,6 +11,8 @@ static const struct cekarum_settings settings = {
     .maximum = {43000000, CEKARUM_NONE},
     .failsafe = {4200000, 0},
     .failsafe_duration = 7200,
+    .phases = 3,
+    .accepts_current_limits = true,
 };
 
 /* What the network would bring: SetLimit of the consumption, for some seconds. */
@@ -18,6 +21,16 @@ static uint64_t limit_frame(uint64_t id, int64_t limit, uint64_t duration, uint8
     struct cekarum_request request = {.id = id, .endpoint = 1, .feature = 5, .command = 1};
     request.consumption = (struct cekarum_field){CEKARUM_NUMBER, limit};
     request.duration = duration;
+    return cekarum_write_request(request, frame, room).length;
+}
+
+/* SetCurrentLimits of the consumption, in mA by phase, until replaced. */
+static uint64_t current_frame(uint64_t id, int64_t a, int64_t b, int64_t c, uint8_t *frame, uint64_t room)
+{
+    struct cekarum_request request = {.id = id, .endpoint = 1, .feature = 5, .command = 5, .direction = 0};
+    request.phases[0] = (struct cekarum_field){CEKARUM_NUMBER, a};
+    request.phases[1] = (struct cekarum_field){CEKARUM_NUMBER, b};
+    request.phases[2] = (struct cekarum_field){CEKARUM_NUMBER, c};
     return cekarum_write_request(request, frame, room).length;
 }
 
@@ -70,13 +83,22 @@ static void stream(uint64_t *device, struct connection *c, uint64_t time, const 
         arrived(device, c, time, bytes + at, length - at < 13 ? length - at : 13);
 }
 
+/* What each phase may draw. */
+static void print_currents(uint64_t *device, uint64_t time)
+{
+    struct cekarum_answer now = cekarum_ask(device, time);
+    for (int phase = 0; phase < 3; phase++)
+        printf("phase %c: %lld mA\n", 'A' + phase, (long long)now.values[CEKARUM_CURRENT + 2 * phase]);
+}
+
 static void print_plan(uint64_t *device, uint64_t time)
 {
+    enum { ROW = 12 };
     int64_t rows[CEKARUM_PLAN_MAX];
     struct cekarum_written plan = cekarum_plan(device, time, rows, CEKARUM_PLAN_MAX);
     say("plan", plan.number);
-    for (uint64_t i = 0; i < 6 * plan.length; i++)
-        printf("%lld%c", (long long)rows[i], i % 6 == 5 ? '\n' : ' ');
+    for (uint64_t i = 0; i < ROW * plan.length; i++)
+        printf("%lld%c", (long long)rows[i], i % ROW == ROW - 1 ? '\n' : ' ');
 }
 
 int main(void)
@@ -92,6 +114,11 @@ int main(void)
     n = limit_frame(8, 4600000, 20, sent, sizeof sent);
     n += limit_frame(9, 1000, 20, sent + n, sizeof sent - n); /* below the minimum */
     stream(device, &nine, 100, sent, n);
+    n = current_frame(10, 16000, 16000, 16000, sent, sizeof sent);
+    stream(device, &three, 100, sent, n);
+    n = current_frame(11, 20000, 10000, 13000, sent, sizeof sent);
+    stream(device, &nine, 100, sent, n);
+    print_currents(device, 110);
     print_plan(device, 110);
     return 0;
 }
