@@ -14,18 +14,21 @@ use Rattle.cbor.specs.Find.{valueOf}
 use Rattle.messages.specs.declared.Field.{Field}
 use Rattle.messages.specs.declared.Aim.{Aim}
 use Rattle.messages.specs.declared.Limits.{Limits}
+use Rattle.messages.specs.declared.Phases.{Phases}
+use Rattle.messages.specs.declared.CurrentLimits.{CurrentLimits}
 use Rattle.messages.specs.declared.Command.{Command}
 use Rattle.frames.specs.Prefix.{framed, payloadIn}
 use Rattle.map_fields.specs.Fields.{mapIn, upTo, needed, optional, inRange, signed, most32, valueIn, amountIn, aimIn}
-use Rattle.frames.specs.Settings.{settingIn, targetOf, limitsFrom, setpointsFrom}
+use Rattle.map_fields.specs.ByPhase.{onlyPhases, eachPhase, byPhase, phasesFrom, phasesIn}
+use Rattle.frames.specs.Settings.{settingIn, targetOf, limitsFrom, setpointsFrom, currentLimitsIn}
 use Rattle.frames.specs.declared.settings.Setting.{Setting}
 use Rattle.frames.specs.Requests.{Envelope, envelopeIn, servedAt, servedCommand, commandIn, withCommand, fromEnvelope, fromPayload, readRequest}
 use Rattle.frames.specs.declared.requests.Reading.{Reading}
 use Rattle.store.specs.declared.Settings.{Settings}
 use Rattle.command.specs.declared.Action.{Action}
 use Rattle.store.specs.Sizes.{valueEnd}
-use Rattle.holds.specs.Holds.{isLimit, directionOf}
-use Rattle.command.specs.Says.{limitField, targetField, setpointField, aimField, says, natural}
+use Rattle.quantities.specs.Quantities.{directionOf, phaseOf}
+use Rattle.command.specs.Says.{limitField, targetField, setpointField, phaseField, currentField, aimField, kindOf, isOf, fieldAt, says, natural}
 use Rattle.command.specs.Obeys.{fieldAction, topOf, action}
 
 -- SMALL: a number below 2^63, or no number
@@ -122,29 +125,69 @@ small-aim : (a : Aim) (d : ℕ) → SmallField (aimField a d)
 small-aim Aim.Both d = tt
 small-aim (Aim.One e) d = small-cond (eqb e d) Field.Null Field.Absent tt tt
 
-small-command : (c : ℕ) (ps : Pairs) → Every SmallCommand (commandIn c ps)
-unfolding commandIn limitsFrom setpointsFrom says
-small-command c ps = go (eqb c 1) (eqb c 2) (eqb c 3)
+-- each phase as valueIn reads it
+abbrev SmallPhases : Phases → Type 0
+SmallPhases p = SmallField (p .a) × SmallField (p .b) × SmallField (p .c)
+
+small-phases : (null : Bool) (o : Option Item) → Every SmallPhases (phasesIn null o)
+unfolding phasesIn byPhase eachPhase
+small-phases null o = any-bind SmallPhases (needed mapIn o) _ (λ ps. go (onlyPhases ps) ps)
   where
-    go : (x y z : Bool) → Every SmallCommand (
+    read : Pairs → Option Phases
+    read ps = bind (valueIn null (valueOf ps 0)) (λ a. bind (valueIn null (valueOf ps 1)) (λ b. bind (valueIn null (valueOf ps 2)) (λ c. some (phasesFrom a b c))))
+
+    go : (k : Bool) (ps : Pairs) → Every SmallPhases (cond k (read ps) none)
+    go false ps = tt
+    go true ps =
+        every-bind SmallField SmallPhases (valueIn null (valueOf ps 0)) _ (small-value null (valueOf ps 0)) (λ a ha.
+        every-bind SmallField SmallPhases (valueIn null (valueOf ps 1)) _ (small-value null (valueOf ps 1)) (λ b hb.
+        every-bind SmallField SmallPhases (valueIn null (valueOf ps 2)) _ (small-value null (valueOf ps 2)) (λ c hc. (ha, hb, hc))))
+
+small-phase : (m : Phases) (p : ℕ) → SmallPhases m → SmallField (phaseField m p)
+small-phase m p h = small-cond (eqb p 0) (m .a) (cond (eqb p 1) (m .b) (m .c)) (h .0) (small-cond (eqb p 1) (m .b) (m .c) (h .1) (h .2))
+
+small-currents : (ps : Pairs) → Every (λ (m : CurrentLimits). SmallPhases (m .phases)) (currentLimitsIn ps)
+unfolding currentLimitsIn
+small-currents ps =
+    every-bind SmallPhases (λ (m : CurrentLimits). SmallPhases (m .phases)) (phasesIn true (valueOf ps 1)) _ (small-phases true (valueOf ps 1)) (λ f h.
+    any-bind (λ (m : CurrentLimits). SmallPhases (m .phases)) (needed (upTo 1) (valueOf ps 2)) _ (λ x.
+    any-bind (λ (m : CurrentLimits). SmallPhases (m .phases)) (amountIn most32 (valueOf ps 3)) _ (λ d.
+    any-bind (λ (m : CurrentLimits). SmallPhases (m .phases)) (needed (upTo 255) (valueOf ps 4)) _ (λ k. h))))
+
+-- a command says of a quantity what its field is, or nothing
+small-says : (c : Command) → ((q : ℕ) → SmallField (fieldAt c q)) → SmallCommand c
+unfolding says
+small-says c h q = small-cond (isOf (kindOf c) q) (fieldAt c q) Field.Absent (h q) tt
+
+small-command : (c : ℕ) (ps : Pairs) → Every SmallCommand (commandIn c ps)
+unfolding commandIn limitsFrom setpointsFrom
+small-command c ps = go (eqb c 1) (eqb c 2) (eqb c 3) (eqb c 4) (eqb c 5)
+  where
+    aims : (make : Aim → Command) → ((a : Aim) (q : ℕ) → SmallField (fieldAt (make a) q)) → Every SmallCommand (Option·map make (aimIn (valueOf ps 1)))
+    aims make h = any-map SmallCommand (aimIn (valueOf ps 1)) make (λ a. small-says (make a) (h a))
+
+    go : (x y z u v : Bool) → Every SmallCommand (
         cond x (Option·map (λ s. Command.SetLimit (limitsFrom s)) (settingIn true ps))
         (cond y (Option·map Command.ClearLimit (aimIn (valueOf ps 1)))
         (cond z (Option·map (λ s. Command.SetSetpoint (setpointsFrom s)) (settingIn false ps))
-        (Option·map Command.ClearSetpoint (aimIn (valueOf ps 1))))))
-    go true y z =
+        (cond u (Option·map Command.ClearSetpoint (aimIn (valueOf ps 1)))
+        (cond v (Option·map Command.SetCurrentLimits (currentLimitsIn ps))
+        (Option·map Command.ClearCurrentLimits (aimIn (valueOf ps 1))))))))
+    go true y z u v =
         every-map SmallSetting SmallCommand (settingIn true ps) (λ s. Command.SetLimit (limitsFrom s)) (small-setting true ps)
-        (λ m h q. small-cond (isLimit q) (limitField (limitsFrom m) (directionOf q)) Field.Absent (small-cond (eqb (directionOf q) 0) (m .consumption) (m .production) (h .0) (h .1)) tt)
-    go false true z =
-        any-map SmallCommand (aimIn (valueOf ps 1)) Command.ClearLimit
-        (λ a q. small-cond (isLimit q) (aimField a (directionOf q)) Field.Absent (small-aim a (directionOf q)) tt)
-    go false false true =
+        (λ m h. small-says (Command.SetLimit (limitsFrom m)) (λ q. small-cond (eqb (directionOf q) 0) (m .consumption) (m .production) (h .0) (h .1)))
+    go false true z u v = aims Command.ClearLimit (λ a q. small-aim a (directionOf q))
+    go false false true u v =
         every-map SmallSetting SmallCommand (settingIn false ps) (λ s. Command.SetSetpoint (setpointsFrom s)) (small-setting false ps)
-        (λ m h q. small-cond (isLimit q) Field.Absent (setpointField (setpointsFrom m) (directionOf q)) tt
-        (small-cond (eqb (directionOf q) 0) (targetField (targetOf (m .consumption))) (targetField (targetOf (m .production)))
+        (λ m h. small-says (Command.SetSetpoint (setpointsFrom m)) (λ q.
+        small-cond (eqb (directionOf q) 0) (targetField (targetOf (m .consumption))) (targetField (targetOf (m .production)))
         (small-target (m .consumption) (h .0)) (small-target (m .production) (h .1))))
-    go false false false =
-        any-map SmallCommand (aimIn (valueOf ps 1)) Command.ClearSetpoint
-        (λ a q. small-cond (isLimit q) Field.Absent (aimField a (directionOf q)) tt (small-aim a (directionOf q)))
+    go false false false true v = aims Command.ClearSetpoint (λ a q. small-aim a (directionOf q))
+    go false false false false true =
+        every-map (λ (m : CurrentLimits). SmallPhases (m .phases)) SmallCommand (currentLimitsIn ps) Command.SetCurrentLimits (small-currents ps)
+        (λ m h. small-says (Command.SetCurrentLimits m) (λ q.
+        small-cond (eqb (directionOf q) (m .direction)) (phaseField (m .phases) (phaseOf q)) Field.Absent (small-phase (m .phases) (phaseOf q) h) tt))
+    go false false false false false = aims Command.ClearCurrentLimits (λ a q. small-aim a (directionOf q))
 
 pub small-reading : (bytes : List ℕ) → SmallReading (readRequest bytes)
 unfolding readRequest fromPayload fromEnvelope
