@@ -17,9 +17,12 @@ use Rattle.messages.specs.declared.Response.{Response}
 use Rattle.frames.specs.Prefix.{framed, payloadIn}
 use Rattle.map_fields.specs.Fields.{upTo, truth, mapIn, needed, most32, mostValue, successIn}
 use Rattle.frames.specs.Requests.{servedCommand}
-use Rattle.frames.specs.Responses.{isStatus, stands, statusIn, limitResultIn, setpointResultIn, outcomeIn, noResult, resultIn, responseIn, answerOf, answerIn, answerFrom, readResponse}
+use Rattle.frames.specs.Responses.{isStatus, stands, statusIn, limitResultIn, setpointResultIn, currentResultIn, outcomeIn, noResult, resultIn, responseIn, answerOf, answerIn, answerFrom, readResponse}
 use Rattle.map_fields.specs.Sights.{found, Reads, UintReads, MapReads, amountOf, Shown, Inside}
-use Rattle.frames.specs.Sights.{OutcomeReads, ResultReads, BodyReads, resultFrom}
+use Rattle.frames.specs.Sights.{resultPath, InResult, OutcomeReads, ResultReads, BodyReads, resultFrom}
+use Rattle.map_fields.specs.ByPhase.{currentsIn, PhasesRead}
+use Rattle.map_fields.specs.declared.phases.Amounts.{Amounts}
+use Rattle.messages.specs.declared.CurrentResult.{CurrentResult}
 use Rattle.frames.specs.declared.responses.Answer.{Answer}
 use Rattle.frames.specs.declared.responses.Effect.{Effect}
 use Rattle.frames.specs.declared.responses.Targets.{Targets}
@@ -70,53 +73,72 @@ module _ (ws : List ℕ) where
         (then (amountOf k) _ _ c _ (cr _ (ke ∙ shown ws path ps h 1 2 (omega arith) (omega arith)))
         (last (amountOf l) _ p (pr _ (le ∙ shown ws path ps h 1 3 (omega arith) (omega arith))))))
 
+  module _ (j k l m n : Sight) (je : j ≡ sightAt ws 1 1) (ke : k ≡ sightAt ws 1 2) (le : l ≡ sightAt ws 2 0) (me : m ≡ sightAt ws 2 1) (ne : n ≡ sightAt ws 2 2)
+      (a b : Bool) (x : CurrentResult) (ar : Reads j successIn a true) (br : PhasesRead k l m n (currentsIn mostValue) b x) where
+    pub current-reads : (ok : Bool) → ok ≡ (a && b) → InResult ws currentResultIn ok x
+    unfolding InResult currentResultIn PhasesRead Reads mapAt followed
+    current-reads ok e ps h =
+        rw e
+        (then true _ _ a _ (ar _ (je ∙ shown ws resultPath ps h 1 1 (omega arith) (omega arith)))
+        (br _ (ke ∙ shown ws resultPath ps h 1 2 (omega arith) (omega arith)) (le ∙ shown ws resultPath ps h 2 0 (omega arith) (omega arith))
+        (me ∙ shown ws resultPath ps h 2 1 (omega arith) (omega arith)) (ne ∙ shown ws resultPath ps h 2 2 (omega arith) (omega arith))))
+
   module _ (c : ℕ) where
     module _ (v : Effect) (r : Inside ws 1 limitResultIn (v .ok) (v .result)) (e : c ≡ 1) where
       pub effect-is : v .ok ≡ true → OutcomeReads ws c (Result.Is (Outcome.Limit (v .result)))
       unfolding OutcomeReads Inside outcomeIn
-      effect-is y path ps h = rw (eq-eqb c 1 e, r path ps h, y) refl
+      effect-is y ps h = rw (eq-eqb c 1 e, r resultPath ps h, y) refl
 
       pub effect-wrong : v .ok ≡ false → OutcomeReads ws c Result.Wrong
       unfolding OutcomeReads Inside outcomeIn
-      effect-wrong y path ps h = rw (eq-eqb c 1 e, r path ps h, y) refl
+      effect-wrong y ps h = rw (eq-eqb c 1 e, r resultPath ps h, y) refl
 
     module _ (v : Targets) (r : Inside ws 1 setpointResultIn (v .ok) (v .result)) (e : c ≡ 3) where
       pub targets-are : v .ok ≡ true → OutcomeReads ws c (Result.Is (Outcome.Setpoint (v .result)))
       unfolding OutcomeReads Inside outcomeIn
-      targets-are y path ps h = rw (ne-eqb c 1 (λ z. omega arith), eq-eqb c 3 e, r path ps h, y) refl
+      targets-are y ps h = rw (ne-eqb c 1 (λ z. omega arith), eq-eqb c 3 e, r resultPath ps h, y) refl
 
       pub targets-wrong : v .ok ≡ false → OutcomeReads ws c Result.Wrong
       unfolding OutcomeReads Inside outcomeIn
-      targets-wrong y path ps h = rw (ne-eqb c 1 (λ z. omega arith), eq-eqb c 3 e, r path ps h, y) refl
+      targets-wrong y ps h = rw (ne-eqb c 1 (λ z. omega arith), eq-eqb c 3 e, r resultPath ps h, y) refl
 
-    module _ (k : Sight) (ke : k ≡ sightAt ws 1 1) (t : Bool) (r : Reads k successIn t true) (a : c ≡ 1 → ⊥) (b : c ≡ 3 → ⊥) where
+    module _ (v : Amounts) (r : InResult ws currentResultIn (v .ok) (v .result)) (e : c ≡ 5) where
+      pub current-is : v .ok ≡ true → OutcomeReads ws c (Result.Is (Outcome.Current (v .result)))
+      unfolding OutcomeReads InResult outcomeIn
+      current-is y ps h = rw (ne-eqb c 1 (λ z. omega arith), ne-eqb c 3 (λ z. omega arith), eq-eqb c 5 e, r ps h, y) refl
+
+      pub current-wrong : v .ok ≡ false → OutcomeReads ws c Result.Wrong
+      unfolding OutcomeReads InResult outcomeIn
+      current-wrong y ps h = rw (ne-eqb c 1 (λ z. omega arith), ne-eqb c 3 (λ z. omega arith), eq-eqb c 5 e, r ps h, y) refl
+
+    module _ (k : Sight) (ke : k ≡ sightAt ws 1 1) (t : Bool) (r : Reads k successIn t true) (a : c ≡ 1 → ⊥) (b : c ≡ 3 → ⊥) (d : c ≡ 5 → ⊥) where
       pub success-is : t ≡ true → OutcomeReads ws c (Result.Is Outcome.Success)
       unfolding OutcomeReads Reads outcomeIn
-      success-is y path ps h = rw (ne-eqb c 1 a, ne-eqb c 3 b, r _ (ke ∙ shown ws path ps h 1 1 (omega arith) (omega arith)), y) refl
+      success-is y ps h = rw (ne-eqb c 1 a, ne-eqb c 3 b, ne-eqb c 5 d, r _ (ke ∙ shown ws resultPath ps h 1 1 (omega arith) (omega arith)), y) refl
 
       pub success-wrong : t ≡ false → OutcomeReads ws c Result.Wrong
       unfolding OutcomeReads Reads outcomeIn
-      success-wrong y path ps h = rw (ne-eqb c 1 a, ne-eqb c 3 b, r _ (ke ∙ shown ws path ps h 1 1 (omega arith) (omega arith)), y) refl
+      success-wrong y ps h = rw (ne-eqb c 1 a, ne-eqb c 3 b, ne-eqb c 5 d, r _ (ke ∙ shown ws resultPath ps h 1 1 (omega arith) (omega arith)), y) refl
 
   -- WHAT STANDS UNDER KEY 3
   module _ (c status : ℕ) (k : Sight) (ke : k ≡ sightAt ws 0 3) (t : Bool) (te : t ≡ stands c status) where
     module _ (y : t ≡ true) (m : Bool) (mr : MapReads k m) where
       pub result-no-map : m ≡ false → ResultReads ws c status Result.Wrong
       unfolding ResultReads MapReads resultIn bind
-      result-no-map q ps h = rw (via te y, mr _ (ke ∙ top ws 3 ps h 3 (omega arith)), q) refl
+      result-no-map q ps h = rw (via te y, mr _ (ke ∙ top ws resultPath ps h 3 (omega arith)), q) refl
 
       pub result-is : m ≡ true → (r : Result) → OutcomeReads ws c r → ResultReads ws c status r
       unfolding ResultReads OutcomeReads MapReads resultIn bind mapAt followed
-      result-is q r o ps h = o 3 ps h ∙ rw (via te y, mr _ (ke ∙ top ws 3 ps h 3 (omega arith)), q) refl
+      result-is q r o ps h = o ps h ∙ rw (via te y, mr _ (ke ∙ top ws resultPath ps h 3 (omega arith)), q) refl
 
     module _ (y : t ≡ false) (n : Bool) (nr : Reads k noResult n Outcome.Nothing) where
       pub result-none : n ≡ true → ResultReads ws c status (Result.Is Outcome.Nothing)
       unfolding ResultReads Reads resultIn
-      result-none q ps h = rw (via te y, nr _ (ke ∙ top ws 3 ps h 3 (omega arith)), q) refl
+      result-none q ps h = rw (via te y, nr _ (ke ∙ top ws resultPath ps h 3 (omega arith)), q) refl
 
       pub result-elsewhere : n ≡ false → ResultReads ws c status Result.Wrong
       unfolding ResultReads Reads resultIn
-      result-elsewhere q ps h = rw (via te y, nr _ (ke ∙ top ws 3 ps h 3 (omega arith)), q) refl
+      result-elsewhere q ps h = rw (via te y, nr _ (ke ∙ top ws resultPath ps h 3 (omega arith)), q) refl
 
 -- THE BODY
 is-outcome : (o : Option Outcome) (x : Outcome) → Result.Is x ≡ resultFrom o → o ≡ some x
@@ -169,12 +191,12 @@ module _ (ws : List ℕ) (c : ℕ) (k l : Sight) (ke : k ≡ sightAt ws 0 1) (le
   unfolding BodyReads
   body-wrong y ps h =
       let f = found-of (resultIn c (l .arg) (valueOf ps 3)) in
-      sym (ap answerOf (from-result 3 ps h (f .0) (f .1) (f .2) ∙ ap (λ (x : Bool). found x (whole (f .1))) (not-first a (b && s) (f .0) (via te y))))
+      sym (ap answerOf (from-result resultPath ps h (f .0) (f .1) (f .2) ∙ ap (λ (x : Bool). found x (whole (f .1))) (not-first a (b && s) (f .0) (via te y))))
 
   module _ (y : t ≡ true) (r : Result) (h : ResultReads ws c (l .arg) r) where
-    body-by : (ps : Pairs) → Shown ws 3 ps → (g : Bool) (o : Outcome) → resultIn c (l .arg) (valueOf ps 3) ≡ found g o
+    body-by : (ps : Pairs) → Shown ws resultPath ps → (g : Bool) (o : Outcome) → resultIn c (l .arg) (valueOf ps 3) ≡ found g o
         → answerOf (found g (whole o)) ≡ answerOf (responseIn c ps)
-    body-by ps q g o e = sym (ap answerOf (from-result 3 ps q g o e ∙ ap (λ (x : Bool). found x (whole o)) (all-first a (b && s) g (via te y))))
+    body-by ps q g o e = sym (ap answerOf (from-result resultPath ps q g o e ∙ ap (λ (x : Bool). found x (whole o)) (all-first a (b && s) g (via te y))))
 
     pub body-is : (o : Outcome) → r ≡ Result.Is o → BodyReads ws c (Answer.Is (whole o))
     unfolding BodyReads ResultReads
@@ -214,10 +236,10 @@ module _ (c : ℕ) (frame : List ℕ) (b : Bool) (be : b ≡ framed frame) where
     not-item z = rw (via be y, is-none (payloadOf (payloadIn frame)) (via tested z)) refl
 
     -- the payload is one item, of which the sights are seen
-    module _ (ws : List ℕ) (e : ws ≡ wordsOf (sightsOf 3 (payloadOf p))) (r : Answer) (h : BodyReads ws c r) where
+    module _ (ws : List ℕ) (e : ws ≡ wordsOf (sightsOf resultPath (payloadOf p))) (r : Answer) (h : BodyReads ws c r) where
       seen : (i : Item) → payloadOf (payloadIn frame) ≡ some i → r ≡ answerFrom c frame
       unfolding answerFrom answerIn BodyReads Shown sightsOf
-      seen i x = h (pairsIn (some i)) (e ∙ ap (λ (o : Option Item). wordsOf (sightsOf 3 o)) (ap payloadOf pe ∙ x)) ∙ no-map c i ∙ rw (via be y, x) refl
+      seen i x = h (pairsIn (some i)) (e ∙ ap (λ (o : Option Item). wordsOf (sightsOf resultPath o)) (ap payloadOf pe ∙ x)) ∙ no-map c i ∙ rw (via be y, x) refl
 
       pub is-item : t ≡ true → r ≡ answerFrom c frame
       is-item z = let x = is-some (payloadOf (payloadIn frame)) (via tested z) in seen (x .0) (x .1)

@@ -1,9 +1,9 @@
 -- The bytes of requests and responses, from their parts. Assumes nothing.
-use Prim.Native.Nat.{ℕ, _+_, _≤_}
+use Prim.Native.Nat.{ℕ, _+_}
 use mathlib.Core.Path.{_≡_, refl, sym, ap, _∙_}
 use mathlib.Core.Bool.{true}
 use mathlib.Core.List.{List, [], _∷_, _++_, append-assoc}
-use mathlib.Core.Option.{Option, some, none}
+use mathlib.Core.Option.{Option, some}
 use native.Mathlib.Omega.{arith}
 use Rattle.cbor.specs.Head.{headBytes}
 use Rattle.cbor.specs.Item.{Item, encode, encodePairs, countPairs}
@@ -14,18 +14,16 @@ use Rattle.messages.specs.declared.Request.{Request}
 use Rattle.messages.specs.declared.Response.{Response}
 use Rattle.messages.specs.declared.LimitResult.{LimitResult}
 use Rattle.messages.specs.declared.SetpointResult.{SetpointResult}
+use Rattle.messages.specs.declared.CurrentResult.{CurrentResult}
 use Rattle.map_fields.specs.Fields.{Fields, present, valueItem, amountItem, truthItem}
-use Rattle.map_fields.specs.ByPhase.{phasesItem}
+use Rattle.map_fields.specs.ByPhase.{phasesItem, currentsItem}
 use Rattle.frames.specs.Settings.{durationAmount, settingFields, currentLimitFields}
 use Rattle.frames.specs.declared.settings.Setting.{Setting}
 use Rattle.frames.specs.Requests.{commandFields, requestFields, requestItem}
-use Rattle.frames.specs.Responses.{mapItem, limitFields, setpointFields, clearFields, outcomeItem, responseFields, responseItem}
+use Rattle.frames.specs.Responses.{mapItem, limitFields, setpointFields, currentFields, clearFields, outcomeItem, responseFields, responseItem}
 use Rattle.map_fields.specs.Puts.{pairBytes, fieldBytes, pairsOf}
+pub use Rattle.map_fields.proofs.Added.{pairs-small}
 use Rattle.map_fields.proofs.Added.{map-bytes, fields-more, fields-one, count-more, count-none}
-
-pub pairs-small : (o : Option Item) → pairsOf o ≤ 1
-pairs-small (some i) = omega arith
-pairs-small none = omega arith
 
 -- a map under a key: the key and the head, then the pairs
 under-key : (k n : ℕ) (fs : Fields) → n ≡ countPairs (present fs) → pairBytes k 5 n ++ encodePairs (present fs) ≡ fieldBytes k (mapItem fs)
@@ -124,6 +122,12 @@ module _ (l : SetpointResult) where
       → ((pairBytes 3 5 n ++ fieldBytes 1 (some (truthItem true))) ++ fieldBytes 2 (amountItem (l .consumption))) ++ fieldBytes 3 (amountItem (l .production))
       ≡ fieldBytes 3 (mapItem (setpointFields l))
   setpoint-bytes n e = rw (← under-key 3 n (setpointFields l) e, setpoint-pairs) (simp append-assoc)
+
+pub current-bytes : (l : CurrentResult) → (pairBytes 3 5 2 ++ fieldBytes 1 (some (truthItem true))) ++ fieldBytes 2 (currentsItem l) ≡ fieldBytes 3 (mapItem (currentFields l))
+unfolding currentFields currentsItem
+current-bytes l =
+    let n : 2 ≡ countPairs (present (currentFields l)) = rw (count-more, count-more, count-none) (omega arith) in
+    rw (← under-key 3 2 (currentFields l) n, fields-more, fields-one) (simp append-assoc)
 
 pub clear-bytes : pairBytes 3 5 1 ++ fieldBytes 1 (some (truthItem true)) ≡ fieldBytes 3 (mapItem clearFields)
 unfolding clearFields

@@ -10,10 +10,12 @@ use Rattle.messages.specs.Refusals.{firstOf}
 use Rattle.messages.specs.declared.Amount.{Amount}
 use Rattle.messages.specs.declared.LimitResult.{LimitResult}
 use Rattle.messages.specs.declared.SetpointResult.{SetpointResult}
+use Rattle.messages.specs.declared.CurrentResult.{CurrentResult}
 use Rattle.messages.specs.declared.Outcome.{Outcome}
 use Rattle.messages.specs.declared.Response.{Response}
 use Rattle.frames.specs.Prefix.{framed, payloadIn}
 use Rattle.map_fields.specs.Fields.{upTo, truth, mapIn, needed, most32, mostValue, amountIn, successIn, truthItem, amountItem, Fields, present}
+use Rattle.map_fields.specs.ByPhase.{currentsIn, currentsItem}
 use Rattle.frames.specs.Requests.{servedCommand}
 use Rattle.frames.specs.declared.responses.Answer.{Answer}
 
@@ -50,6 +52,10 @@ setpointResultIn ps =
     bind (amountIn mostValue (valueOf ps 3)) (λ p.
     some (record { consumption = c; production = p }))))
 
+-- "Command 5 answers {1: true, 2: the effective map for that direction}"
+unfoldable pub currentResultIn : Pairs → Option CurrentResult
+currentResultIn ps = bind (successIn (valueOf ps 1)) (λ t. currentsIn mostValue (valueOf ps 2))
+
 -- "Clears {1: true}"
 abbrev pub clearResultIn : Pairs → Option Outcome
 clearResultIn ps = Option·map (λ t. Outcome.Success) (successIn (valueOf ps 1))
@@ -58,7 +64,8 @@ clearResultIn ps = Option·map (λ t. Outcome.Success) (successIn (valueOf ps 1)
 unfoldable pub outcomeIn : ℕ → Pairs → Option Outcome
 outcomeIn command ps =
     cond (eqb command 1) (Option·map Outcome.Limit (limitResultIn ps))
-    (cond (eqb command 3) (Option·map Outcome.Setpoint (setpointResultIn ps)) (clearResultIn ps))
+    (cond (eqb command 3) (Option·map Outcome.Setpoint (setpointResultIn ps))
+    (cond (eqb command 5) (Option·map Outcome.Current (currentResultIn ps)) (clearResultIn ps)))
 
 -- "elsewhere key 3 is refused with 3"
 abbrev pub noResult : Option Item → Option Outcome
@@ -107,6 +114,10 @@ limitFields l =
 unfoldable pub setpointFields : SetpointResult → Fields
 setpointFields l = (1, some (truthItem true)) ∷ (2, amountItem (l .consumption)) ∷ (3, amountItem (l .production)) ∷ []
 
+-- "the map written even when empty"
+unfoldable pub currentFields : CurrentResult → Fields
+currentFields l = (1, some (truthItem true)) ∷ (2, currentsItem l) ∷ []
+
 unfoldable pub clearFields : Fields
 clearFields = (1, some (truthItem true)) ∷ []
 
@@ -117,6 +128,7 @@ unfoldable pub outcomeItem : Outcome → Option Item
 outcomeItem Outcome.Nothing = none
 outcomeItem (Outcome.Limit l) = mapItem (limitFields l)
 outcomeItem (Outcome.Setpoint l) = mapItem (setpointFields l)
+outcomeItem (Outcome.Current l) = mapItem (currentFields l)
 outcomeItem Outcome.Success = mapItem clearFields
 
 unfoldable pub responseFields : Response → Fields
@@ -137,17 +149,22 @@ limitInRange l =
 unfoldable pub setpointInRange : SetpointResult → Bool
 setpointInRange l = amountUpTo mostValue (l .consumption) && amountUpTo mostValue (l .production)
 
+unfoldable pub currentInRange : CurrentResult → Bool
+currentInRange l = amountUpTo mostValue (l .a) && (amountUpTo mostValue (l .b) && amountUpTo mostValue (l .c))
+
 -- a result of that command, its values in range
 unfoldable pub goesWith : ℕ → Outcome → Bool
 goesWith command Outcome.Nothing = false
 goesWith command (Outcome.Limit l) = eqb command 1 && limitInRange l
 goesWith command (Outcome.Setpoint l) = eqb command 3 && setpointInRange l
-goesWith command Outcome.Success = eqb command 2 || eqb command 4
+goesWith command (Outcome.Current l) = eqb command 5 && currentInRange l
+goesWith command Outcome.Success = eqb command 2 || eqb command 4 || eqb command 6
 
 abbrev pub isNothing : Outcome → Bool
 isNothing Outcome.Nothing = true
 isNothing (Outcome.Limit l) = false
 isNothing (Outcome.Setpoint l) = false
+isNothing (Outcome.Current l) = false
 isNothing Outcome.Success = false
 
 -- the result stands exactly where it should, and is the command's

@@ -22,13 +22,18 @@ use Rattle.frames.specs.declared.requests.Parameters.{Parameters}
 use Rattle.frames.specs.declared.responses.Answer.{Answer}
 use Rattle.frames.specs.declared.responses.Result.{Result}
 
+<<<<<<< HEAD
 -- the parameters of a request stand at the first level below the payload, under key 5, and its phases at the second, under key 1
+=======
+-- the parameters of a request and the result of a response stand at the first level below the payload, under these keys;
+-- below the result, the map of phases under its key 2
+>>>>>>> 8be62fc (Responses of SetCurrentLimits: read and written, the map of phases even when empty)
 abbrev pub parametersPath : ℕ
 parametersPath = 5 + 1 * STEP
 
 -- the result of a response stands at the first level, under this key
 abbrev pub resultPath : ℕ
-resultPath = 3
+resultPath = 35
 
 -- REQUESTS
 abbrev pub envelopeOf : List ℕ → Pairs → Envelope
@@ -66,8 +71,12 @@ abbrev pub resultFrom : Option Outcome → Result
 resultFrom (some o) = Result.Is o
 resultFrom none = Result.Wrong
 
+-- of every result that is seen, f makes that answer
+unfoldable pub InResult : {X : Type 0} → List ℕ → (Pairs → Option X) → Bool → X → Type 0
+InResult ws f ok x = (ps : Pairs) → Shown ws resultPath ps → f (mapAt 1 resultPath ps) ≡ found ok x
+
 unfoldable pub OutcomeReads : List ℕ → ℕ → Result → Type 0
-OutcomeReads ws c r = (path : ℕ) (ps : Pairs) → Shown ws path ps → r ≡ resultFrom (outcomeIn c (mapAt 1 path ps))
+OutcomeReads ws c r = (ps : Pairs) → Shown ws resultPath ps → r ≡ resultFrom (outcomeIn c (mapAt 1 resultPath ps))
 
 unfoldable pub ResultReads : List ℕ → ℕ → ℕ → Result → Type 0
 ResultReads ws c status r = (ps : Pairs) → Shown ws resultPath ps → r ≡ resultFrom (resultIn c status (valueOf ps 3))

@@ -7,7 +7,7 @@ abbrev pub longestRequest : ℕ
 longestRequest = 62
 
 abbrev pub longestResponse : ℕ
-longestResponse = 41
+longestResponse = 49
 
 -- ROOM FOR THE WRITERS, each field taken at its widest
 -- the seven pairs of SetCurrentLimits, those of the phases among them

@@ -4,6 +4,7 @@ use crate::requests::is_command;
 use cbor::Sight;
 use cbor::Sights;
 use cbor::sight_of;
+use map_fields::Amounts;
 use map_fields::all3;
 use map_fields::all5;
 use map_fields::amount_of;
@@ -13,6 +14,7 @@ use map_fields::is_map;
 use map_fields::is_success;
 use map_fields::is_truth;
 use map_fields::is_uint;
+use map_fields::read_currents;
 use messages::LimitResult;
 use messages::Outcome;
 use messages::Response;
@@ -22,8 +24,8 @@ use prefix::is_framed;
 ghost use mathlib.Core.Path.{_≡_};
 ghost use Rattle.messages.specs.declared.Outcome.{Outcome};
 ghost use Rattle.map_fields.specs.Sights.{Reads, Inside};
-ghost use Rattle.frames.specs.Responses.{isStatus, stands, limitResultIn, setpointResultIn, noResult, answerFrom, readResponse};
-ghost use Rattle.frames.specs.Sights.{OutcomeReads, ResultReads, BodyReads};
+ghost use Rattle.frames.specs.Responses.{isStatus, stands, limitResultIn, setpointResultIn, currentResultIn, noResult, answerFrom, readResponse};
+ghost use Rattle.frames.specs.Sights.{InResult, OutcomeReads, ResultReads, BodyReads};
 
 // A response, or a refusal number.
 pub enum Answer {
@@ -49,12 +51,14 @@ pub enum Result {
     Wrong,
 }
 
-// The levels that are looked into: the payload's map, and the result under its key 3.
+// The levels that are looked into: the payload's map, the result under its key 3, and the map of phases under the result's key 2.
 const ANSWER: usize = 0;
 
 const RESULT: usize = 1;
 
-const PATH: u64 = 3;
+const PHASES: usize = 2;
+
+const PATH: u64 = 35;
 
 // Limits and setpoints are 0 to 2^63 - 1.
 pub const MOST_VALUE: u64 = 9223372036854775807;
@@ -118,6 +122,24 @@ fn read_targets(sights: &Sights) -> Targets
     Targets { ok, result }
 }
 
+// The result of SetCurrentLimits.
+fn read_current(sights: &Sights) -> Amounts
+    ensures { λ r. ⌜ InResult (now (sights .entry)) currentResultIn (r .ok) (r .result) ⌝ }
+{
+    let currents = read_currents(
+        sight_of(sights, RESULT, 2),
+        sight_of(sights, PHASES, 0),
+        sight_of(sights, PHASES, 1),
+        sight_of(sights, PHASES, 2),
+        MOST_VALUE,
+    );
+    let result = currents.result;
+    Amounts {
+        ok: both(is_success(sight_of(sights, RESULT, 1)), currents.ok),
+        result,
+    }
+}
+
 // The result of a served command.
 fn read_outcome(sights: &Sights, command: u64) -> Result
     ensures { λ r. ⌜ OutcomeReads (now (sights .entry)) command r ⌝ }
@@ -135,6 +157,14 @@ fn read_outcome(sights: &Sights, command: u64) -> Result
         if t.ok {
             let result = t.result;
             return Result::Is(Outcome::Setpoint(result));
+        }
+        return Result::Wrong;
+    }
+    if command == 5 {
+        let c = read_current(sights);
+        if c.ok {
+            let result = c.result;
+            return Result::Is(Outcome::Current(result));
         }
         return Result::Wrong;
     }

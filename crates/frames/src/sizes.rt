@@ -3,7 +3,7 @@
 pub const REQUEST: usize = 62;
 
 // The longest frame of a response that is written.
-pub const RESPONSE: usize = 41;
+pub const RESPONSE: usize = 49;
 
 // More bytes than any payload that is written has, each of its fields taken at its widest.
 pub const ROOM: usize = 240;

@@ -14,10 +14,12 @@ use map_fields::both;
 use map_fields::count_amount;
 use map_fields::either;
 use map_fields::put_amount;
+use map_fields::put_currents;
 use map_fields::put_map;
 use map_fields::put_truth;
 use map_fields::put_uint;
 use messages::Amount;
+use messages::CurrentResult;
 use messages::LimitResult;
 use messages::Outcome;
 use messages::Response;
@@ -27,7 +29,7 @@ ghost use Prim.Native.Nat.{_+_, _≤_};
 ghost use lib.ListN.{length};
 ghost use Rattle.cbor.specs.Item.{encode, encodePairs, countPairs};
 ghost use Rattle.map_fields.specs.Fields.{present};
-ghost use Rattle.frames.specs.Responses.{mapItem, limitFields, setpointFields, clearFields, outcomeItem, responseItem, amountUpTo, limitInRange, setpointInRange, goesWith, isNothing, fits, responseFits, responseNumber};
+ghost use Rattle.frames.specs.Responses.{mapItem, limitFields, setpointFields, currentFields, clearFields, outcomeItem, responseItem, amountUpTo, limitInRange, setpointInRange, currentInRange, goesWith, isNothing, fits, responseFits, responseNumber};
 ghost use Rattle.map_fields.specs.Puts.{Puts, fieldBytes, pairsOf};
 ghost use Rattle.frames.specs.Sizes.{outcomeRoom, payloadRoom};
 ghost use Rattle.frames.specs.Writing.{itemFrame, writtenOf, leftBy};
@@ -61,6 +63,15 @@ fn put_setpoint(out: &mut [u8], at: usize, l: SetpointResult) -> usize
     put_amount(out, c, 3, production)
 }
 
+// The result of SetCurrentLimits, under key 3: its map of phases stands there even when empty.
+fn put_current(out: &mut [u8], at: usize, l: CurrentResult) -> usize
+    ensures { λ r. ⌜ Puts (now (out .entry)) at (fieldBytes 3 (mapItem (currentFields l))) outcomeRoom (now (out .exit)) r ⌝ }
+{
+    let a = put_map(out, at, 3, 2);
+    let b = put_truth(out, a, 1, true);
+    put_currents(out, b, 2, l)
+}
+
 // The result of a clear, under key 3.
 fn put_success(out: &mut [u8], at: usize) -> usize
     ensures { λ r. ⌜ Puts (now (out .entry)) at (fieldBytes 3 (mapItem clearFields)) outcomeRoom (now (out .exit)) r ⌝ }
@@ -76,6 +87,7 @@ fn put_outcome(out: &mut [u8], at: usize, o: Outcome) -> usize
         Outcome::Nothing => at,
         Outcome::Limit(l) => put_limit(out, at, l),
         Outcome::Setpoint(l) => put_setpoint(out, at, l),
+        Outcome::Current(l) => put_current(out, at, l),
         Outcome::Success => put_success(out, at),
     }
 }
@@ -87,6 +99,7 @@ fn count_outcome(o: Outcome) -> u64
         Outcome::Nothing => 0,
         Outcome::Limit(_) => 1,
         Outcome::Setpoint(_) => 1,
+        Outcome::Current(_) => 1,
         Outcome::Success => 1,
     }
 }
@@ -136,6 +149,19 @@ fn setpoint_in_range(l: SetpointResult) -> bool
     )
 }
 
+fn current_in_range(l: CurrentResult) -> bool
+    ensures { λ r. ⌜ r ≡ currentInRange l ⌝ }
+{
+    let a = l.a;
+    let b = l.b;
+    let c = l.c;
+    all3(
+        amount_up_to(MOST_VALUE, a),
+        amount_up_to(MOST_VALUE, b),
+        amount_up_to(MOST_VALUE, c),
+    )
+}
+
 // Whether it is a result of that command, its values in range.
 fn goes_with(command: u64, o: Outcome) -> bool
     ensures { λ r. ⌜ r ≡ goesWith command o ⌝ }
@@ -144,7 +170,8 @@ fn goes_with(command: u64, o: Outcome) -> bool
         Outcome::Nothing => false,
         Outcome::Limit(l) => both(command == 1, limit_in_range(l)),
         Outcome::Setpoint(l) => both(command == 3, setpoint_in_range(l)),
-        Outcome::Success => either(command == 2, command == 4),
+        Outcome::Current(l) => both(command == 5, current_in_range(l)),
+        Outcome::Success => either(either(command == 2, command == 4), command == 6),
     }
 }
 
@@ -155,6 +182,7 @@ fn is_nothing(o: Outcome) -> bool
         Outcome::Nothing => true,
         Outcome::Limit(_) => false,
         Outcome::Setpoint(_) => false,
+        Outcome::Current(_) => false,
         Outcome::Success => false,
     }
 }

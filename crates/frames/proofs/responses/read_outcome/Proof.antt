@@ -1,5 +1,5 @@
 -- By the number of the command.
-use Rattle.frames.proofs.Answered.{effect-is, effect-wrong, targets-are, targets-wrong, success-is, success-wrong}
+use Rattle.frames.proofs.Answered.{effect-is, effect-wrong, targets-are, targets-wrong, current-is, current-wrong, success-is, success-wrong}
 use borrow.Author.Needs.{needs}
 use Rattle.frames.proofs.responses.read_outcome.Statement.{statement}
 use Rattle.frames.proofs.responses.read_outcome.Tie as tie
@@ -28,18 +28,30 @@ read-outcome-spec =
     let at-if3 = c .before .before .if3 in
     let at-args = c .before .before .before .before .args in
     targets-wrong (at-args .sights .now) (at-args .command) _ (c .before .read-targets .ensures) (at-if3 .taken) (c .if4 .left))
+    (λ c κs. search needs)
+    (λ c.
+    let at-read-current = c .before .before .read-current in
+    let at-if5 = c .before .before .before .if5 in
+    let at-args = c .before .before .before .before .before .before .args in
+    current-is (at-args .sights .now) (at-args .command) _ (at-read-current .ensures) (at-if5 .taken) (c .before .if6 .taken))
+    (λ c.
+    let at-if5 = c .before .before .if5 in
+    let at-args = c .before .before .before .before .before .args in
+    current-wrong (at-args .sights .now) (at-args .command) _ (c .before .read-current .ensures) (at-if5 .taken) (c .if6 .left))
     (λ c κs. search needs) (λ c κs. search needs)
     (λ c.
     let at-sight-of = c .before .before .sight-of in
-    let at-if3 = c .before .before .before .if3 in
-    let at-if1 = c .before .before .before .before .if1 in
-    let at-args = c .before .before .before .before .before .args in
+    let at-if5 = c .before .before .before .if5 in
+    let at-if3 = c .before .before .before .before .if3 in
+    let at-if1 = c .before .before .before .before .before .if1 in
+    let at-args = c .before .before .before .before .before .before .args in
     success-is (at-args .sights .now) (at-args .command) _ (at-sight-of .ensures) _ (c .before .is-success .ensures) (at-if1 .left) (at-if3 .left)
-    (c .if5 .taken))
+    (at-if5 .left) (c .if7 .taken))
     (λ c.
     let at-sight-of = c .before .before .sight-of in
-    let at-if3 = c .before .before .before .if3 in
-    let at-if1 = c .before .before .before .before .if1 in
-    let at-args = c .before .before .before .before .before .args in
+    let at-if5 = c .before .before .before .if5 in
+    let at-if3 = c .before .before .before .before .if3 in
+    let at-if1 = c .before .before .before .before .before .if1 in
+    let at-args = c .before .before .before .before .before .before .args in
     success-wrong (at-args .sights .now) (at-args .command) _ (at-sight-of .ensures) _ (c .before .is-success .ensures) (at-if1 .left) (at-if3 .left)
-    (c .if5 .left)))
+    (at-if5 .left) (c .if7 .left)))

@@ -12,7 +12,7 @@ put-outcome-spec =
     tie.close
     (tie.spec
     (λ c. search needs) (λ c. search needs) (λ c κs. search needs) (λ c. search needs) (λ c κs. search needs)
-    (λ c. search needs) (λ c κs. search needs)
+    (λ c. search needs) (λ c κs. search needs) (λ c. search needs) (λ c κs. search needs)
     (λ c.
     let at-args = c .before .before .before .args in
     rw (c .enum-told .given .1) (puts-none (at-args .out .now) (at-args .at) _))
@@ -26,6 +26,11 @@ put-outcome-spec =
     let at-put-setpoint = c .before .before .put-setpoint in
     let at-o2 = c .before .before .before .before .before .o2 in
     rw (at-o2 .given .1) (at-put-setpoint .ensures))
+    (λ c. search needs)
+    (λ c.
+    let at-put-current = c .before .before .put-current in
+    let at-o3 = c .before .before .before .before .before .o3 in
+    rw (at-o3 .given .1) (at-put-current .ensures))
     (λ c. search needs)
     (λ c.
     let at-put-success = c .before .before .put-success in
