@@ -48,13 +48,13 @@ uint64_t cekarum_raw_report(const uint64_t *inputs, const uint16_t *attributes, 
                             uint64_t room, uint64_t *count);
 
 /* Words of a device. The driver lends all of them to each call and never looks inside. */
-#define CEKARUM_WORDS 93
+#define CEKARUM_WORDS 191
 
 /* Enough room for every answer. */
 #define CEKARUM_FRAME_MAX 2052   /* bytes of the longest frame, prefix and payload */
-#define CEKARUM_RESPONSE_MAX 41  /* bytes of the longest response frame */
-#define CEKARUM_REQUEST_MAX 48   /* bytes of the longest request frame that is written */
-#define CEKARUM_PLAN_MAX 192     /* numbers of the longest plan: 32 rows of 6 */
+#define CEKARUM_RESPONSE_MAX 49  /* bytes of the longest response frame */
+#define CEKARUM_REQUEST_MAX 62   /* bytes of the longest request frame that is written */
+#define CEKARUM_PLAN_MAX 960     /* numbers of the longest plan: 80 rows of 12 */
 #define CEKARUM_REPORT_MAX 96    /* numbers of the longest report: 48 pairs */
 
 /* The last second the clock can show. */
@@ -73,9 +73,9 @@ enum {
     CEKARUM_FULL = 8,            /* eight zones joined */
     CEKARUM_NOT_JOINED = 9,      /* zone not joined */
     CEKARUM_LINK_DOWN = 10,      /* command from a zone whose link is down */
-    CEKARUM_NOT_SUPPORTED = 11,  /* limits or setpoints not accepted, or a named direction not supported */
-    CEKARUM_OVERRIDDEN = 12,     /* SetLimit while an override is set */
-    CEKARUM_BAD_VALUE = 13,      /* a Set command with a negative value or naming neither direction */
+    CEKARUM_NOT_SUPPORTED = 11,  /* limits, setpoints or current limits not accepted, or a named direction not supported */
+    CEKARUM_OVERRIDDEN = 12,     /* SetLimit or SetCurrentLimits while an override is set */
+    CEKARUM_BAD_VALUE = 13,      /* a Set command with a negative value or naming nothing, or a phase from the phase count up */
     CEKARUM_BELOW_MINIMUM = 14,  /* a consumption limit below the minimum, 0 aside: that means off */
     CEKARUM_NO_ROOM = 15,        /* nothing else is refused, and the output is longer than the lent buffer */
     CEKARUM_BAD_SETTINGS = 16,   /* bad settings, or conformance inputs out of range */
@@ -107,16 +107,19 @@ struct cekarum_settings {
     uint64_t failsafe[2]; /* the largest that a limit is while zones are joined and no link is up */
     uint64_t failsafe_duration; /* 7,200 to 86,400 s */
     bool energy_manager;
+    uint64_t phases; /* 1 to 3 */
+    bool accepts_current_limits;
 };
 
 /* Makes a fresh device, with its clock at 0, whatever the words held before.
- * Refuses: 16 for a setting out of range, or a maximum[0] below the minimum. The device is then fresh too: it accepts neither limits
- * nor setpoints, consumption only, failsafe duration 7,200, all else 0, none or no. */
+ * Refuses: 16 for a setting out of range, or a maximum[0] below the minimum. The device is then fresh too: it accepts nothing,
+ * consumption only, one phase, failsafe duration 7,200, all else 0, none or no. */
 static inline uint64_t cekarum_start(uint64_t *device, struct cekarum_settings settings)
 {
-    const uint64_t words[10] = {settings.directions,  settings.accepts_limits, settings.accepts_setpoints, settings.minimum,
+    const uint64_t words[12] = {settings.directions,  settings.accepts_limits, settings.accepts_setpoints, settings.minimum,
                                 settings.maximum[0],  settings.maximum[1],     settings.failsafe[0],       settings.failsafe[1],
-                                settings.failsafe_duration, settings.energy_manager};
+                                settings.failsafe_duration, settings.energy_manager, settings.phases,
+                                settings.accepts_current_limits};
     return cekarum_raw_start(device, words);
 }
 
@@ -168,13 +171,14 @@ enum {
     CEKARUM_LIMIT_CONSUMPTION = 1,
     CEKARUM_LIMIT_PRODUCTION = 2,
     CEKARUM_SETPOINT_CONSUMPTION = 3,
-    CEKARUM_SETPOINT_PRODUCTION = 4
+    CEKARUM_SETPOINT_PRODUCTION = 4,
+    CEKARUM_CURRENT = 5 /* the first of six current limits: CEKARUM_CURRENT + 2 * phase (A 0, B 1, C 2) + direction */
 };
 
-/* Limits and setpoints in mW, -1 is absent. Beside a refusal all five are -1. */
+/* Limits and setpoints in mW, current limits in mA, -1 is absent. Beside a refusal all eleven are -1. */
 struct cekarum_answer {
     uint64_t number;
-    int64_t values[5];
+    int64_t values[11];
 };
 
 /* What holds at this second. Refuses: 5. */
@@ -185,8 +189,8 @@ static inline struct cekarum_answer cekarum_ask(uint64_t *device, uint64_t time)
     return answer;
 }
 
-/* Every later second at which the control state, a limit or a setpoint changes if only the clock moves, in order: six numbers
- * a row: second, state, limits (consumption, production), setpoints (consumption, production); -1 is absent.
+/* Every later second at which the control state or one of the ten values changes if only the clock moves, in order: twelve
+ * numbers a row: the second, then the values of cekarum_answer in their order; -1 is absent.
  * room is counted in numbers; CEKARUM_PLAN_MAX is always enough. length is in rows. Refuses: 5, 15. */
 static inline struct cekarum_written cekarum_plan(uint64_t *device, uint64_t time, int64_t *rows, uint64_t room)
 {
@@ -248,23 +252,25 @@ static inline struct cekarum_received cekarum_receive(struct cekarum_receiver *r
 enum { CEKARUM_ABSENT = 0, CEKARUM_NULL = 1, CEKARUM_NUMBER = 2 };
 
 struct cekarum_field {
-    uint64_t kind; /* absent, null (SetLimit alone) or a number */
-    int64_t value; /* mW; 0 when read and passed over when written, unless the kind is a number */
+    uint64_t kind; /* absent, null (not in SetSetpoint) or a number */
+    int64_t value; /* mW or mA; 0 when read and passed over when written, unless the kind is a number */
 };
 
-/* Commands 1 SetLimit and 3 SetSetpoint use the two fields, duration (0: until replaced) and cause; 2 ClearLimit and
- * 4 ClearSetpoint use the direction. The other members are 0 when read and passed over when written. */
+/* Commands 1 SetLimit and 3 SetSetpoint use the two fields, 5 SetCurrentLimits the phases and the direction, all three duration
+ * (0: until replaced) and cause; 2 ClearLimit, 4 ClearSetpoint and 6 ClearCurrentLimits use the direction if directed. The
+ * other members are 0 when read and passed over when written. */
 struct cekarum_request {
     uint64_t id;       /* 32 bits */
     uint64_t endpoint; /* 1 is served; 8 bits */
     uint64_t feature;  /* 5 is served; 16 bits */
-    uint64_t command;  /* 1 to 4 are served; 16 bits */
+    uint64_t command;  /* 1 to 6 are served; 16 bits */
     struct cekarum_field consumption;
     struct cekarum_field production;
     uint64_t duration; /* seconds, 32 bits */
     uint64_t cause;    /* 0 to 255 */
     bool directed;      /* whether a clear names a direction; if not, it clears both */
     uint64_t direction; /* 0 or 1 */
+    struct cekarum_field phases[3]; /* mA by phase: A, B, C */
 };
 
 struct cekarum_request_read {
@@ -276,8 +282,8 @@ struct cekarum_request_read {
 static inline struct cekarum_request_read cekarum_read_request(const uint8_t *in, uint64_t in_length)
 {
     struct cekarum_request_read read;
-    uint64_t words[10];
-    int64_t values[2];
+    uint64_t words[13];
+    int64_t values[5];
     read.number = cekarum_raw_read_request(in, in_length, words, values);
     read.request.id = words[0];
     read.request.endpoint = words[1];
@@ -291,15 +297,19 @@ static inline struct cekarum_request_read cekarum_read_request(const uint8_t *in
     read.request.cause = words[7];
     read.request.directed = words[8] != 0;
     read.request.direction = words[9];
+    for (int phase = 0; phase < 3; phase++) {
+        read.request.phases[phase].kind = words[10 + phase];
+        read.request.phases[phase].value = values[2 + phase];
+    }
     return read;
 }
 
 /* Writes a request frame; a duration of 0 is left out. Refuses: 3 for a value out of range (a kind above 2, or null in
  * SetSetpoint, included), 4 for an endpoint, feature or command that is not served, 15. Negative values and a Set command that
- * names neither direction are written: a device refuses them with 13. CEKARUM_REQUEST_MAX bytes of room are always enough. */
+ * names nothing are written: a device refuses them with 13. CEKARUM_REQUEST_MAX bytes of room are always enough. */
 static inline struct cekarum_written cekarum_write_request(struct cekarum_request request, uint8_t *out, uint64_t out_length)
 {
-    const uint64_t words[10] = {request.id,
+    const uint64_t words[13] = {request.id,
                                 request.endpoint,
                                 request.feature,
                                 request.command,
@@ -308,15 +318,20 @@ static inline struct cekarum_written cekarum_write_request(struct cekarum_reques
                                 request.duration,
                                 request.cause,
                                 request.directed,
-                                request.direction};
-    const int64_t values[2] = {request.consumption.value, request.production.value};
+                                request.direction,
+                                request.phases[0].kind,
+                                request.phases[1].kind,
+                                request.phases[2].kind};
+    const int64_t values[5] = {request.consumption.value, request.production.value, request.phases[0].value,
+                               request.phases[1].value, request.phases[2].value};
     struct cekarum_written written;
     written.number = cekarum_raw_write_request(words, values, out, out_length, &written.length);
     return written;
 }
 
 /* The result stands at status 0, and for SetLimit also at 11 to 14. SetLimit: applied, state, the two effective limits and the
- * reject reason; SetSetpoint: applied (true) and the two effective setpoints; the clears: applied (true). Absent is -1. */
+ * reject reason; SetSetpoint: applied (true) and the two effective setpoints; SetCurrentLimits: applied (true) and the effective
+ * currents of its direction; the clears: applied (true). Absent is -1. */
 struct cekarum_response {
     uint64_t id;
     uint64_t status; /* 0, 4, 5, 9 to 14 */
@@ -326,6 +341,7 @@ struct cekarum_response {
     int64_t consumption; /* mW */
     int64_t production;
     int64_t reason; /* 0 below minimum, 1 above contractual, 2 invalid, 3 override, 4 not supported */
+    int64_t currents[3]; /* mA by phase: A, B, C */
 };
 
 struct cekarum_response_read {
@@ -338,7 +354,7 @@ static inline struct cekarum_response_read cekarum_read_response(uint64_t comman
 {
     struct cekarum_response_read read;
     uint64_t words[5];
-    int64_t values[3];
+    int64_t values[6];
     read.number = cekarum_raw_read_response(command, in, in_length, words, values);
     read.response.id = words[0];
     read.response.status = words[1];
@@ -348,6 +364,8 @@ static inline struct cekarum_response_read cekarum_read_response(uint64_t comman
     read.response.consumption = values[0];
     read.response.production = values[1];
     read.response.reason = values[2];
+    for (int phase = 0; phase < 3; phase++)
+        read.response.currents[phase] = values[3 + phase];
     return read;
 }
 
@@ -358,7 +376,8 @@ static inline struct cekarum_written cekarum_write_response(uint64_t command, st
                                                             uint64_t out_length)
 {
     const uint64_t words[5] = {response.id, response.status, response.result, response.applied, response.state};
-    const int64_t values[3] = {response.consumption, response.production, response.reason};
+    const int64_t values[6] = {response.consumption, response.production,  response.reason,
+                               response.currents[0], response.currents[1], response.currents[2]};
     struct cekarum_written written;
     written.number = cekarum_raw_write_response(command, words, values, out, out_length, &written.length);
     return written;
