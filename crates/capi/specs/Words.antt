@@ -1,20 +1,8 @@
--- Records as words, one number each, in the order of the header's structs; a yes is any word but 0, and is given as 1.
+-- Settings and inputs as words, one number each, in the order of the header's structs; a yes is any word but 0.
 use Prim.Native.Nat.{ℕ}
-use mathlib.Core.Bool.{Bool, not, cond}
 use mathlib.Core.List.{List, [], _∷_}
-use lib.Dec.{eqb}
-use lib.ListN.{getD}
 use Rattle.kernel.specs.Door.{Settings, Inputs}
-
--- the number at a place, and whether it is a yes
-abbrev pub at : List ℕ → ℕ → ℕ
-at ws k = getD ws k 0
-
-abbrev pub yes : List ℕ → ℕ → Bool
-yes ws k = not (eqb (at ws k) 0)
-
-abbrev pub word : Bool → ℕ
-word b = cond b 1 0
+use Rattle.flat.specs.Words.{at, yes}
 
 -- pairs go by direction: consumption, then production
 unfoldable pub settingsOf : List ℕ → Settings
@@ -28,6 +16,8 @@ settingsOf ws =
       failsafe = at ws 6 ∷ at ws 7 ∷ [];
       duration = at ws 8;
       manager = yes ws 9;
+      phases = at ws 10;
+      currents = yes ws 11;
     }
 
 unfoldable pub inputsOf : List ℕ → Inputs

@@ -1,34 +1,15 @@
-// What crosses to C beside numbers: records as lent words, one number each, in the order of the header's structs.
-// A yes is any word but 0; it is given as 1.
+// Settings and inputs as lent words, one number each, in the order of the header's structs.
+use flat::is_yes;
 use kernel::Inputs;
 use kernel::Settings;
 ghost use mathlib.Core.Path.{_≡_};
-ghost use mathlib.Core.Bool.{not, cond};
-ghost use lib.Dec.{eqb};
 ghost use Rattle.capi.specs.Words.{settingsOf, inputsOf};
 
-// Directions, limits, setpoints, minimum, maxima, failsafe limits, failsafe duration, energy manager.
-pub const SETTINGS: usize = 10;
+// Directions, limits, setpoints, minimum, maxima, failsafe limits, failsafe duration, energy manager, phases, currents.
+pub const SETTINGS: usize = 12;
 
 // Endpoint type, feature map, phases, directions, limits, current limits, setpoints, process.
 pub const INPUTS: usize = 8;
-
-// Whether a word is a yes.
-pub fn is_yes(w: u64) -> bool
-    ensures { λ r. ⌜ r ≡ not (eqb w 0) ⌝ }
-{
-    w != 0
-}
-
-// A yes or a no as a word.
-pub fn word_of(b: bool) -> u64
-    ensures { λ r. ⌜ r ≡ cond b 1 0 ⌝ }
-{
-    if b {
-        return 1;
-    }
-    0
-}
 
 // Settings from their words.
 pub fn settings_of(w: [u64; SETTINGS]) -> Settings
@@ -43,6 +24,8 @@ pub fn settings_of(w: [u64; SETTINGS]) -> Settings
         failsafe: [w[6], w[7]],
         duration: w[8],
         manager: is_yes(w[9]),
+        phases: w[10],
+        currents: is_yes(w[11]),
     }
 }
 

@@ -22,18 +22,13 @@ use Rattle.frames.specs.declared.requests.Parameters.{Parameters}
 use Rattle.frames.specs.declared.responses.Answer.{Answer}
 use Rattle.frames.specs.declared.responses.Result.{Result}
 
-<<<<<<< HEAD
 -- the parameters of a request stand at the first level below the payload, under key 5, and its phases at the second, under key 1
-=======
--- the parameters of a request and the result of a response stand at the first level below the payload, under these keys;
--- below the result, the map of phases under its key 2
->>>>>>> 8be62fc (Responses of SetCurrentLimits: read and written, the map of phases even when empty)
 abbrev pub parametersPath : ℕ
 parametersPath = 5 + 1 * STEP
 
--- the result of a response stands at the first level, under this key
+-- the result of a response stands at the first level, under key 3, and its map of phases at the second, under key 2
 abbrev pub resultPath : ℕ
-resultPath = 35
+resultPath = 3 + 2 * STEP
 
 -- REQUESTS
 abbrev pub envelopeOf : List ℕ → Pairs → Envelope

@@ -11,6 +11,8 @@ settings-of-spec =
     (tie.spec
     (λ c. search needs) (λ c. search needs) (λ c κs. search needs) (λ c. search needs) (λ c κs. search needs) (λ c. search needs) (λ c. search needs)
     (λ c. search needs) (λ c. search needs) (λ c. search needs) (λ c. search needs) (λ c. search needs) (λ c κs. search needs)
+    (λ c. search needs) (λ c. search needs) (λ c κs. search needs)
     (λ c.
-    let at-is-yes = c .before .before .is-yes in
-    rw (at-is-yes .ensures, c .before .is-yes2 .ensures, c .is-yes3 .ensures)))
+    let at-is-yes2 = c .before .before .is-yes2 in
+    let at-is-yes = c .before .before .before .is-yes in
+    rw (at-is-yes .ensures, at-is-yes2 .ensures, c .before .is-yes3 .ensures, c .is-yes4 .ensures)))

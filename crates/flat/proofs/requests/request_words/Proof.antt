@@ -1,0 +1,13 @@
+-- Each word is a field; directed is a yes as a word.
+use Rattle.flat.specs.Requests.{requestWords}
+use borrow.Author.Needs.{needs}
+use Rattle.flat.proofs.requests.request_words.Statement.{statement}
+use Rattle.flat.proofs.requests.request_words.Tie as tie
+
+pub request-words-spec : {M : Type 1} → statement M
+unfolding requestWords
+request-words-spec =
+    tie.close
+    (tie.spec
+    (λ c κs. search needs)
+    (λ c. rw (c .word-of .ensures)))

@@ -1,0 +1,13 @@
+-- Each field is read by its kind.
+use Rattle.flat.specs.Requests.{setpointsOf}
+use borrow.Author.Needs.{needs}
+use Rattle.flat.proofs.requests.setpoints_of.Statement.{statement}
+use Rattle.flat.proofs.requests.setpoints_of.Tie as tie
+
+pub setpoints-of-spec : {M : Type 1} → statement M
+unfolding setpointsOf
+setpoints-of-spec =
+    tie.close
+    (tie.spec
+    (λ c κs. search needs) (λ c κs. search needs)
+    (λ c. rw (c .before .target-of .ensures, c .target-of2 .ensures)))

@@ -1,0 +1,4 @@
+pub mod Amounts
+pub mod Words
+pub mod Requests
+pub mod Responses

@@ -1,0 +1,202 @@
+-- Requests as C has them, flat, and as the kernel has them: each from the other.
+use Prim.Native.Nat.{ℕ}
+use mathlib.Core.Bool.{Bool, true, false, cond, _&&_, _||_}
+use mathlib.Core.List.{List, [], _∷_}
+use lib.Dec.{ltb, eqb}
+use lib.IntN.{ℤ, pos}
+use lib.ListN.{getD}
+use Rattle.messages.specs.declared.Field.{Field}
+use Rattle.messages.specs.declared.Target.{Target}
+use Rattle.messages.specs.declared.Aim.{Aim}
+use Rattle.messages.specs.declared.Limits.{Limits}
+use Rattle.messages.specs.declared.Setpoints.{Setpoints}
+use Rattle.messages.specs.declared.Phases.{Phases}
+use Rattle.messages.specs.declared.CurrentLimits.{CurrentLimits}
+use Rattle.messages.specs.declared.Command.{Command}
+use Rattle.messages.specs.declared.Request.{Request}
+use Rattle.flat.specs.Words.{at, yes, word}
+use Rattle.flat.specs.declared.requests.FlatField.{FlatField}
+use Rattle.flat.specs.declared.requests.FlatRequest.{FlatRequest}
+
+-- FROM C. A field's kind: 0 absent, 1 null, 2 a number
+unfoldable pub fieldOf : FlatField → Field
+fieldOf f = cond (eqb (f .kind) 1) Field.Null (cond (eqb (f .kind) 2) (Field.Value (f .value)) Field.Absent)
+
+unfoldable pub targetOf : FlatField → Target
+targetOf f = cond (eqb (f .kind) 2) (Target.Value (f .value)) Target.Absent
+
+unfoldable pub aimOf : Bool → ℕ → Aim
+aimOf has d = cond has (Aim.One d) Aim.Both
+
+unfoldable pub limitsOf : FlatRequest → Limits
+limitsOf q = record { consumption = fieldOf (q .consumption); production = fieldOf (q .production); duration = q .duration; cause = q .cause }
+
+unfoldable pub setpointsOf : FlatRequest → Setpoints
+setpointsOf q = record { consumption = targetOf (q .consumption); production = targetOf (q .production); duration = q .duration; cause = q .cause }
+
+unfoldable pub phasesOf : FlatRequest → Phases
+phasesOf q = record { a = fieldOf (q .a); b = fieldOf (q .b); c = fieldOf (q .c) }
+
+unfoldable pub currentsOf : FlatRequest → CurrentLimits
+currentsOf q = record { phases = phasesOf q; direction = q .direction; duration = q .duration; cause = q .cause }
+
+-- a kind that SetLimit has, and a phase of SetCurrentLimits; SetSetpoint has no null
+unfoldable pub limitKind : ℕ → Bool
+limitKind k = ltb k 3
+
+unfoldable pub setpointKind : ℕ → Bool
+setpointKind k = eqb k 0 || eqb k 2
+
+-- no wire holds this command: it stands for a kind that its command does not have, and is refused with 3
+abbrev pub noCommand : Command
+noCommand = Command.Unserved 65536
+
+unfoldable pub currentCommand : FlatRequest → Command
+currentCommand q =
+    cond (limitKind (q .a .kind) && (limitKind (q .b .kind) && limitKind (q .c .kind))) (Command.SetCurrentLimits (currentsOf q)) noCommand
+
+unfoldable pub commandOf : FlatRequest → Command
+commandOf q =
+    cond (eqb (q .command) 1) (cond (limitKind (q .consumption .kind) && limitKind (q .production .kind)) (Command.SetLimit (limitsOf q)) noCommand)
+    (cond (eqb (q .command) 2) (Command.ClearLimit (aimOf (q .directed) (q .direction)))
+    (cond (eqb (q .command) 3) (cond (setpointKind (q .consumption .kind) && setpointKind (q .production .kind)) (Command.SetSetpoint (setpointsOf q)) noCommand)
+    (cond (eqb (q .command) 4) (Command.ClearSetpoint (aimOf (q .directed) (q .direction)))
+    (cond (eqb (q .command) 5) (currentCommand q)
+    (cond (eqb (q .command) 6) (Command.ClearCurrentLimits (aimOf (q .directed) (q .direction))) (Command.Unserved (q .command)))))))
+
+unfoldable pub requestOf : FlatRequest → Request
+requestOf q = record { id = q .id; endpoint = q .endpoint; feature = q .feature; command = commandOf q }
+
+-- TO C
+abbrev pub noField : FlatField
+noField = record { kind = 0; value = pos 0 }
+
+unfoldable pub flatField : Field → FlatField
+flatField Field.Absent = noField
+flatField Field.Null = record { kind = 1; value = pos 0 }
+flatField (Field.Value v) = record { kind = 2; value = v }
+
+unfoldable pub flatTarget : Target → FlatField
+flatTarget Target.Absent = noField
+flatTarget (Target.Value v) = record { kind = 2; value = v }
+
+abbrev pub hasAim : Aim → Bool
+hasAim Aim.Both = false
+hasAim (Aim.One d) = true
+
+abbrev pub aimed : Aim → ℕ
+aimed Aim.Both = 0
+aimed (Aim.One d) = d
+
+-- a Set command, by its number, fields, duration and cause
+unfoldable pub flatSet : Request → ℕ → FlatField → FlatField → ℕ → ℕ → FlatRequest
+flatSet r n f g d k =
+    record {
+      id = r .id;
+      endpoint = r .endpoint;
+      feature = r .feature;
+      command = n;
+      consumption = f;
+      production = g;
+      duration = d;
+      cause = k;
+      directed = false;
+      direction = 0;
+      a = noField;
+      b = noField;
+      c = noField;
+    }
+
+-- SetCurrentLimits, with a field for each phase
+unfoldable pub flatCurrents : Request → CurrentLimits → Phases → FlatRequest
+flatCurrents r m f =
+    record {
+      id = r .id;
+      endpoint = r .endpoint;
+      feature = r .feature;
+      command = 5;
+      consumption = noField;
+      production = noField;
+      duration = m .duration;
+      cause = m .cause;
+      directed = false;
+      direction = m .direction;
+      a = flatField (f .a);
+      b = flatField (f .b);
+      c = flatField (f .c);
+    }
+
+-- a clear, by its number and what it names
+unfoldable pub flatClear : Request → ℕ → Aim → FlatRequest
+flatClear r n x =
+    record {
+      id = r .id;
+      endpoint = r .endpoint;
+      feature = r .feature;
+      command = n;
+      consumption = noField;
+      production = noField;
+      duration = 0;
+      cause = 0;
+      directed = hasAim x;
+      direction = aimed x;
+      a = noField;
+      b = noField;
+      c = noField;
+    }
+
+unfoldable pub flatRequest : Request → Command → FlatRequest
+flatRequest r (Command.SetLimit m) = flatSet r 1 (flatField (m .consumption)) (flatField (m .production)) (m .duration) (m .cause)
+flatRequest r (Command.ClearLimit a) = flatClear r 2 a
+flatRequest r (Command.SetSetpoint m) = flatSet r 3 (flatTarget (m .consumption)) (flatTarget (m .production)) (m .duration) (m .cause)
+flatRequest r (Command.ClearSetpoint a) = flatClear r 4 a
+flatRequest r (Command.SetCurrentLimits m) = flatCurrents r m (m .phases)
+flatRequest r (Command.ClearCurrentLimits a) = flatClear r 6 a
+flatRequest r (Command.Unserved n) = flatClear r n Aim.Both
+
+-- beside a refusal all is 0 or no
+abbrev pub noRequest : FlatRequest
+noRequest =
+    record {
+      id = 0;
+      endpoint = 0;
+      feature = 0;
+      command = 0;
+      consumption = noField;
+      production = noField;
+      duration = 0;
+      cause = 0;
+      directed = false;
+      direction = 0;
+      a = noField;
+      b = noField;
+      c = noField;
+    }
+
+-- AS WORDS: id, endpoint, feature, command, the fields' kinds, duration, cause, directed, direction, the phases' kinds; the fields' and
+-- the phases' values beside them
+unfoldable pub requestIn : List ℕ → List ℤ → FlatRequest
+requestIn ws vs =
+    record {
+      id = at ws 0;
+      endpoint = at ws 1;
+      feature = at ws 2;
+      command = at ws 3;
+      consumption = record { kind = at ws 4; value = getD vs 0 (pos 0) };
+      production = record { kind = at ws 5; value = getD vs 1 (pos 0) };
+      duration = at ws 6;
+      cause = at ws 7;
+      directed = yes ws 8;
+      direction = at ws 9;
+      a = record { kind = at ws 10; value = getD vs 2 (pos 0) };
+      b = record { kind = at ws 11; value = getD vs 3 (pos 0) };
+      c = record { kind = at ws 12; value = getD vs 4 (pos 0) };
+    }
+
+unfoldable pub requestWords : FlatRequest → List ℕ
+requestWords q =
+    q .id ∷ q .endpoint ∷ q .feature ∷ q .command ∷ q .consumption .kind ∷ q .production .kind ∷ q .duration ∷ q .cause
+    ∷ word (q .directed) ∷ q .direction ∷ q .a .kind ∷ q .b .kind ∷ q .c .kind ∷ []
+
+unfoldable pub requestValues : FlatRequest → List ℤ
+requestValues q = q .consumption .value ∷ q .production .value ∷ q .a .value ∷ q .b .value ∷ q .c .value ∷ []
