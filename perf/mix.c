@@ -522,7 +522,7 @@ void mix_request_fields(struct plain_request *r, const struct plain_settings *s)
             if (r->phase[i].kind == PLAIN_NUMBER)
                 r->phase[i].value = mix_chance(900) ? current(s) : (int64_t)edge();
         }
-        r->direction = spoil(mix_below(2));
+        r->direction = spoil(mix_chance(20) ? 2 : mix_below(2));
         r->duration = spoil(mix_chance(300) ? 0 : duration());
         r->cause = spoil(mix_below(256));
     } else if (r->command == 2 || r->command == 4 || r->command == 6) {
