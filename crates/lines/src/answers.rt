@@ -1,27 +1,25 @@
 // The answer to a line. Each command reads its words, makes one call of the kernel and writes what that answers.
 use crate::LONGEST;
-use crate::commands::Command;
-use crate::commands::command_of;
-use crate::commands::read_numbers;
-use crate::commands::words_of;
-use crate::fields::FIELDS;
-use crate::scraps::is_scrap;
-use crate::scraps::scrap;
+use conf_lines::conf;
 use kernel::FRAME;
 use kernel::PLAN;
-use kernel::REPORT;
 use kernel::Settings;
 use kernel::State;
+use line_words::Command;
+use line_words::FIELDS;
+use line_words::command_of;
+use line_words::read_numbers;
+use line_words::smaller;
+use line_words::words_of;
 use receiver::RECORD;
-use words::Read;
+use scrap_lines::is_scrap;
+use scrap_lines::scrap;
 use words::put_bad;
 use words::put_bytes;
 use words::put_end;
 use words::put_list;
 use words::put_number;
-use words::put_pairs;
 use words::read_hex;
-use words::read_list;
 use words::span;
 use words::split;
 ghost use mathlib.Core.Path.{_≡_};
@@ -36,18 +34,6 @@ const WORDS: usize = 1 + FIELDS;
 
 // The numbers of a plan's row.
 const ROW: u64 = kernel::ROW as u64;
-
-// More than a line has room for.
-const ATTRIBUTES: usize = 8192;
-
-fn smaller(n: u64, most: usize) -> usize
-    ensures { λ r. ⌜ r ≤ most ⌝ }
-{
-    if n < most as u64 {
-        return n as usize;
-    }
-    most
-}
 
 // Numbers of a count of rows.
 fn numbers_of(rows: u64) -> u64 {
@@ -156,59 +142,6 @@ fn response(command: u64, bytes: &[u8], out: &mut [u8], at: usize) -> usize {
         }
         kernel::Answer::Refused(n) => put_bytes(out, at, n, &again, 0),
     }
-}
-
-fn inputs_of(f: [u64; FIELDS]) -> kernel::Inputs {
-    kernel::Inputs {
-        endpoint: f[0],
-        features: f[1],
-        phases: f[2],
-        directions: f[3],
-        limits: f[4] == 1,
-        currents: f[5] == 1,
-        setpoints: f[6] == 1,
-        process: f[7] == 1,
-    }
-}
-
-fn report(
-    inputs: kernel::Inputs,
-    attributes: &[u16],
-    room: usize,
-    pairs: &mut [u64],
-    out: &mut [u8],
-    at: usize,
-) -> usize
-    requires { ⌜ room ≤ length (now pairs) ⌝ }
-{
-    let r = kernel::report(inputs, attributes, &mut pairs[..room]);
-    let p = text::put_decimal(out, at, r.number);
-    let q = put_pairs(out, p, pairs, r.count);
-    put_end(out, q)
-}
-
-fn conf_of(f: [u64; FIELDS], attributes: &[u16], n: usize, out: &mut [u8], at: usize) -> usize {
-    let mut pairs = [0u64; REPORT];
-    if n <= attributes.len() {
-        return report(
-            inputs_of(f),
-            &attributes[..n],
-            smaller(f[8], REPORT),
-            &mut pairs,
-            out,
-            at,
-        );
-    }
-    put_bad(out, at)
-}
-
-fn conf(f: [u64; FIELDS], word: &[u8], out: &mut [u8], at: usize) -> usize {
-    let mut attributes = [0u16; ATTRIBUTES];
-    let listed = read_list(word, &mut attributes);
-    if listed.good {
-        return conf_of(f, &attributes, listed.count, out, at);
-    }
-    put_bad(out, at)
 }
 
 // The commands that have bytes.

@@ -11,13 +11,10 @@
 // Words are parted by one space, numbers are decimal, bytes are lowercase hex, `-` is none. Any other line is answered
 // `bad line` and changes nothing; an empty line has no answer.
 mod answers; // answers.rt: the commands whose answer is more than a number
-mod commands; // commands.rt: a command's name, how many words it has, and what its numbers are
-mod fields; // fields.rt: the numbers of a line
-mod scraps; // scraps.rt: frames that come in scraps
 
 pub use answers::answer;
 pub use answers::before_start;
-pub use scraps::ROOM;
+pub use scrap_lines::ROOM;
 
 // The longest line; a longer one is a bad line.
 pub const LONGEST: usize = 16384;

@@ -3,8 +3,8 @@ use lib.ListN.{length}
 use mathlib.Core.Path.{_≡_}
 use Prim.Native.Nat.{_-_}
 use borrow.Author.Needs.{needs}
-use Rattle.lines.proofs.scraps.renew.Statement.{statement}
-use Rattle.lines.proofs.scraps.renew.Tie as tie
+use Rattle.scrap_lines.proofs.scraps.renew.Statement.{statement}
+use Rattle.scrap_lines.proofs.scraps.renew.Tie as tie
 
 abbrev Inv-loop : tie.InvT-loop
 Inv-loop words room₀ i₀ room i = length room ≡ length room₀

@@ -5,6 +5,8 @@ use words::is_none;
 use words::no_number;
 use words::number_in;
 use words::span;
+ghost use mathlib.Core.Path.{_≡_};
+ghost use Prim.Native.Nat.{min};
 
 // No command has more numbers.
 pub const FIELDS: usize = 10;
@@ -85,4 +87,14 @@ pub fn read(line: &[u8], ends: &[usize], kinds: &[u8], fields: &mut [u64]) -> bo
         k += 1;
     }
     true
+}
+
+// How much of a room is lent: no more than there is.
+pub fn smaller(n: u64, most: usize) -> usize
+    ensures { λ r. ⌜ r ≡ min n most ⌝ }
+{
+    if n < most as u64 {
+        return n as usize;
+    }
+    most
 }

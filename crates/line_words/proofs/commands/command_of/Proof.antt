@@ -3,8 +3,8 @@ use mathlib.Core.Path.{sym}
 use lib.Seq.{length-take-le}
 use native.Mathlib.Omega.{arith}
 use borrow.Author.Needs.{needs}
-use Rattle.lines.proofs.commands.command_of.Statement.{statement}
-use Rattle.lines.proofs.commands.command_of.Tie as tie
+use Rattle.line_words.proofs.commands.command_of.Statement.{statement}
+use Rattle.line_words.proofs.commands.command_of.Tie as tie
 
 pub command-of-spec : {M : Type 1} → statement M
 command-of-spec =

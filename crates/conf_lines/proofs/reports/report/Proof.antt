@@ -3,8 +3,8 @@ use mathlib.Core.Path.{sym}
 use lib.Seq.{length-take-le}
 use native.Mathlib.Omega.{arith}
 use borrow.Author.Needs.{needs}
-use Rattle.lines.proofs.answers.report.Statement.{statement}
-use Rattle.lines.proofs.answers.report.Tie as tie
+use Rattle.conf_lines.proofs.reports.report.Statement.{statement}
+use Rattle.conf_lines.proofs.reports.report.Tie as tie
 
 pub report-spec : {M : Type 1} → statement M
 report-spec =

@@ -3,8 +3,8 @@ use Prim.Native.Nat.{_-_}
 use mathlib.Core.Path.{_≡_}
 use lib.ListN.{length}
 use borrow.Author.Needs.{needs}
-use Rattle.lines.proofs.fields.read.Statement.{statement}
-use Rattle.lines.proofs.fields.read.Tie as tie
+use Rattle.line_words.proofs.fields.read.Statement.{statement}
+use Rattle.line_words.proofs.fields.read.Tie as tie
 
 abbrev Inv-loop : tie.InvT-loop
 Inv-loop line ends kinds fields₀ k₀ fields k = length fields ≡ length fields₀

@@ -3,8 +3,8 @@ use mathlib.Core.Path.{sym}
 use lib.Seq.{length-take-le}
 use native.Mathlib.Omega.{arith}
 use borrow.Author.Needs.{needs}
-use Rattle.lines.proofs.answers.conf_of.Statement.{statement}
-use Rattle.lines.proofs.answers.conf_of.Tie as tie
+use Rattle.conf_lines.proofs.reports.conf_of.Statement.{statement}
+use Rattle.conf_lines.proofs.reports.conf_of.Tie as tie
 
 pub conf-of-spec : {M : Type 1} → statement M
 conf-of-spec =
