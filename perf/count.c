@@ -378,7 +378,7 @@ static const struct {
     {"clearlimit", "frame accepted: ClearLimit, 2 zones", 0, clear_limit, frames},
     {"current2", "frame accepted: SetCurrentLimits, 2 zones", 0, set_currents, frames},
     {"current8", "frame accepted: SetCurrentLimits, 8 zones", 0, set_currents_eight, frames},
-    {"clearcurrent", "frame accepted: ClearCurrentLimits, 2", 0, clear_currents, frames},
+    {"clearcurrent", "frame accepted: ClearCurrentLimits, 2 zones", 0, clear_currents, frames},
     {"early1", "frame refused early: prefix (1)", 1, wrong_prefix, frames},
     {"early2", "frame refused early: first byte (2)", 2, wrong_first_byte, frames},
     {"late2", "frame refused at its last byte (2)", 2, wrong_last_byte, frames},
