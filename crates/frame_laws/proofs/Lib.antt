@@ -3,6 +3,7 @@ pub mod Maps
 pub mod FieldsBack
 pub mod FieldsAgain
 pub mod Trips
+pub mod PhaseTrips
 pub mod RequestBack
 pub mod RequestAgain
 pub mod ResponseBack

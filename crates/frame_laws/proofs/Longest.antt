@@ -19,6 +19,7 @@ use Rattle.messages.specs.declared.Amount.{Amount}
 use Rattle.messages.specs.declared.Aim.{Aim}
 use Rattle.messages.specs.declared.LimitResult.{LimitResult}
 use Rattle.messages.specs.declared.SetpointResult.{SetpointResult}
+use Rattle.messages.specs.declared.CurrentLimits.{CurrentLimits}
 use Rattle.messages.specs.declared.Command.{Command}
 use Rattle.messages.specs.declared.Outcome.{Outcome}
 use Rattle.messages.specs.declared.Request.{Request}
@@ -26,18 +27,19 @@ use Rattle.messages.specs.declared.Response.{Response}
 use Rattle.messages.specs.Numbers.{wireNumber}
 use Rattle.messages.specs.Refusals.{firstOf}
 use Rattle.map_fields.specs.Fields.{Fields, present, most32, mostValue, valueItem, aimItem, amountItem, truthItem}
+use Rattle.map_fields.specs.ByPhase.{phaseFields, phaseMap, phasesItem}
 use Rattle.map_fields.specs.Puts.{fieldBytes}
 use Rattle.map_fields.proofs.Added.{map-bytes, fields-none, fields-more}
 use Rattle.map_fields.proofs.Joined.{no-both, and-left, and-right, or-left, or-right}
 use Rattle.frames.specs.Prefix.{frameOf}
 use Rattle.frames.specs.Writing.{itemFrame}
 use Rattle.frames.specs.Sizes.{longestRequest, longestResponse}
-use Rattle.frames.specs.Settings.{durationAmount, settingOfLimits, settingOfSetpoints, settingFields}
+use Rattle.frames.specs.Settings.{durationAmount, settingOfLimits, settingOfSetpoints, settingFields, currentLimitFields}
 use Rattle.frames.specs.Requests.{commandFields, requestFields, requestItem, requestNumber, requestWide, requestUnserved, commandWide, aimWide, isServed, servedAt, servedCommand}
 use Rattle.frames.specs.Responses.{limitFields, setpointFields, clearFields, mapItem, outcomeItem, responseFields, responseItem, responseNumber, responseFits, fits, stands, goesWith, limitInRange, setpointInRange, amountUpTo, isStatus, isNothing, statusAlone, statusFits, statusNumber}
 use Rattle.frame_laws.specs.Longest.{RequestLongest, RequestReached, ResponseLongest, ResponseReached, StatusLongest}
 use Rattle.frame_laws.proofs.Maps.{count-fields}
-use Rattle.frame_laws.proofs.RequestBack.{request-ranges, request-served, is-served, wire-served, command-few, wide-parts}
+use Rattle.frame_laws.proofs.RequestBack.{request-ranges, request-served, is-served, wire-served, command-few, wide-parts, wide-currents}
 use Rattle.frame_laws.proofs.ResponseBack.{limit-range, limit-few, setpoint-few, clear-few, status-small, response-ranges, no-test, one-test}
 
 -- HEADS
@@ -123,25 +125,40 @@ module _ (k : ℕ) (low : k < 24) where
   unfolding fieldBytes
   below-long fs n few h = rw length-append (omega (arith, head-length 0 k, len-1 k low, map-long fs n few h))
 
+  -- the key, the head of the map and three numbers
+  phases-long : (a b c : Option Item) → length (fieldBytes 0 a) ≤ 10 → length (fieldBytes 1 b) ≤ 10 → length (fieldBytes 2 c) ≤ 10 → length (fieldBytes k (phaseMap a b c)) ≤ 32
+  phases-long a b c x y z = below-long (phaseFields a b c) 30 (omega arith) (pairs-more 0 a _ 10 20 x (pairs-more 1 b _ 10 10 y (pairs-more 2 c [] 10 0 z pairs-none)))
+
 -- REQUESTS
 setting-long : (c p : Field) (d k : ℕ) → d ≤ most32 → k ≤ 255
-    → length (encodePairs (present (settingFields (record { consumption = c; production = p; duration = durationAmount d; cause = k })))) ≤ 29
+    → length (encodePairs (present (settingFields (record { consumption = c; production = p; duration = durationAmount d; cause = k })))) ≤ 43
 unfolding settingFields
 setting-long c p d k hd hk =
-    pairs-more 1 _ _ 10 19 (value-long 1 (omega arith) c)
+    pairs-more 1 _ _ 24 19 (omega (arith, value-long 1 (omega arith) c))
     (pairs-more 2 _ _ 10 9 (value-long 2 (omega arith) p)
     (pairs-more 3 _ _ 6 3 (duration-long 3 (omega arith) d hd)
     (pairs-more 4 _ _ 3 0 (uint-long 4 (omega arith) k 2 (len-2 k (omega arith))) pairs-none)))
 
-one-aim : (a : Aim) → aimWide a ≡ false → length (encodePairs (present ((1, aimItem a) ∷ []))) ≤ 29
+current-long : (l : CurrentLimits) → (l .direction ≤ 1) × (l .duration ≤ most32) × (l .cause ≤ 255) → length (encodePairs (present (currentLimitFields l))) ≤ 43
+unfolding currentLimitFields phasesItem
+current-long l w =
+    let p = l .phases in
+    pairs-more 1 _ _ 32 11 (phases-long 1 (omega arith) _ _ _ (value-long 0 (omega arith) (p .a)) (value-long 1 (omega arith) (p .b)) (value-long 2 (omega arith) (p .c)))
+    (pairs-more 2 _ _ 2 9 (uint-long 2 (omega arith) (l .direction) 1 (len-1 (l .direction) (omega (arith, w .0))))
+    (pairs-more 3 _ _ 6 3 (duration-long 3 (omega arith) (l .duration) (w .1))
+    (pairs-more 4 _ _ 3 0 (uint-long 4 (omega arith) (l .cause) 2 (len-2 (l .cause) (omega (arith, w .2)))) pairs-none)))
+
+one-aim : (a : Aim) → aimWide a ≡ false → length (encodePairs (present ((1, aimItem a) ∷ []))) ≤ 43
 one-aim a w = omega (arith, pairs-more 1 (aimItem a) [] 2 0 (aim-long 1 (omega arith) a w) pairs-none)
 
-command-long : (c : Command) → commandWide c ≡ false → length (encodePairs (present (commandFields c))) ≤ 29
+command-long : (c : Command) → commandWide c ≡ false → length (encodePairs (present (commandFields c))) ≤ 43
 unfolding commandFields commandWide settingOfLimits settingOfSetpoints
 command-long (Command.SetLimit l) w = let x = wide-parts (l .duration) (l .cause) w in setting-long _ _ _ _ (x .0) (x .1)
 command-long (Command.ClearLimit a) w = one-aim a w
 command-long (Command.SetSetpoint l) w = let x = wide-parts (l .duration) (l .cause) w in setting-long _ _ _ _ (x .0) (x .1)
 command-long (Command.ClearSetpoint a) w = one-aim a w
+command-long (Command.SetCurrentLimits l) w = current-long l (wide-currents (l .direction) (l .duration) (l .cause) w)
+command-long (Command.ClearCurrentLimits a) w = one-aim a w
 command-long (Command.Unserved n) w = omega (arith, pairs-none)
 
 pub request-longest : RequestLongest
@@ -151,12 +168,12 @@ request-longest r e =
     let s = and-left (servedAt (r .endpoint) (r .feature)) (isServed (r .command)) (request-served r e) in
     let at : (r .endpoint ≡ 1) × (r .feature ≡ 5) = (eqb-true (r .endpoint) 1 (and-left _ _ s), eqb-true (r .feature) 5 (and-right (eqb (r .endpoint) 1) _ s)) in
     let c = wire-served (r .command) (is-served r e) in
-    let m = map-long (requestFields r) 43 (omega arith)
-    (pairs-more 1 _ _ 6 37 (uint-long 1 (omega arith) (r .id) 5 (len-5 (r .id) (omega (arith, g .0))))
-    (pairs-more 2 _ _ 2 35 (uint-long 2 (omega arith) (r .endpoint) 1 (len-1 (r .endpoint) (omega (arith, at .0))))
-    (pairs-more 3 _ _ 2 33 (uint-long 3 (omega arith) (r .feature) 1 (len-1 (r .feature) (omega (arith, at .1))))
-    (pairs-more 4 _ _ 2 31 (uint-long 4 (omega arith) (wireNumber (r .command)) 1 (len-1 (wireNumber (r .command)) (omega (arith, c .0))))
-    (pairs-more 5 _ _ 31 0 (below-long 5 (omega arith) (commandFields (r .command)) 29 (omega (arith, command-few (r .command))) (command-long (r .command) (g .3))) pairs-none))))) in
+    let m = map-long (requestFields r) 57 (omega arith)
+    (pairs-more 1 _ _ 6 51 (uint-long 1 (omega arith) (r .id) 5 (len-5 (r .id) (omega (arith, g .0))))
+    (pairs-more 2 _ _ 2 49 (uint-long 2 (omega arith) (r .endpoint) 1 (len-1 (r .endpoint) (omega (arith, at .0))))
+    (pairs-more 3 _ _ 2 47 (uint-long 3 (omega arith) (r .feature) 1 (len-1 (r .feature) (omega (arith, at .1))))
+    (pairs-more 4 _ _ 2 45 (uint-long 4 (omega arith) (wireNumber (r .command)) 1 (len-1 (wireNumber (r .command)) (omega (arith, c .0))))
+    (pairs-more 5 _ _ 45 0 (below-long 5 (omega arith) (commandFields (r .command)) 43 (omega (arith, command-few (r .command))) (command-long (r .command) (g .3))) pairs-none))))) in
     omega (arith, frame-length (Item.map (present (requestFields r))), m)
 
 -- RESPONSES
@@ -233,13 +250,18 @@ status-longest i s e =
 
 -- THE LONGEST ARE AS LONG
 pub request-reached : RequestReached
-unfolding itemFrame frameOf requestItem requestFields commandFields settingOfLimits settingFields present valueItem amountItem encode encodePairs countPairs headBytes infoOf widthOf bytesOf requestNumber requestWide requestUnserved commandWide servedAt firstOf
+unfolding itemFrame frameOf requestItem requestFields commandFields currentLimitFields phasesItem present valueItem amountItem encode encodePairs countPairs headBytes infoOf widthOf bytesOf requestNumber requestWide requestUnserved commandWide servedAt firstOf
 request-reached = (
   record {
     id = 4294967295;
     endpoint = 1;
     feature = 5;
-    command = Command.SetLimit (record { consumption = Field.Value (pos 9223372036854775807); production = Field.Value (pos 9223372036854775807); duration = 4294967295; cause = 255 });
+    command = Command.SetCurrentLimits (record {
+      phases = record { a = Field.Value (pos 9223372036854775807); b = Field.Value (pos 9223372036854775807); c = Field.Value (pos 9223372036854775807) };
+      direction = 1;
+      duration = 4294967295;
+      cause = 255;
+    });
   },
   refl,
   refl,

@@ -90,6 +90,10 @@ abbrev pub ShortFields : Fields → ℕ → Type 0
 ShortFields [] n = Unit {0}
 ShortFields (f ∷ fs) n = (length (fieldBytes (f .0) (f .1)) ≤ n) × ShortFields fs n
 
+pub wider : (fs : Fields) (m n : ℕ) → m ≤ n → ShortFields fs m → ShortFields fs n
+wider [] m n h s = tt
+wider (f ∷ fs) m n h s = (omega (arith, s .0), wider fs m n h (s .1))
+
 pub short-map : (fs : Fields) (n : ℕ) → ShortFields fs n → length (encodePairs (present fs)) ≤ length fs * n
 short-map [] n h = rw fields-none (omega arith)
 short-map (f ∷ fs) n h =

@@ -1,5 +1,5 @@
 -- A request that was read can be written, and is the same bytes. Assumes nothing.
-use Prim.Native.Nat.{ℕ, _≤_}
+use Prim.Native.Nat.{ℕ, _+_, _≤_}
 use mathlib.Core.Path.{_≡_, refl, sym, ap, subst, _∙_}
 use mathlib.Core.Bool.{Bool, true, false, cond, _&&_, _||_}
 use mathlib.Core.List.{List, [], _∷_}
@@ -14,24 +14,37 @@ use Rattle.messages.specs.Refusals.{firstOf}
 use Rattle.messages.specs.declared.Field.{Field}
 use Rattle.messages.specs.declared.Aim.{Aim}
 use Rattle.messages.specs.declared.Amount.{Amount}
+use Rattle.messages.specs.declared.Phases.{Phases}
+use Rattle.messages.specs.declared.CurrentLimits.{CurrentLimits}
 use Rattle.messages.specs.declared.Command.{Command}
 use Rattle.messages.specs.declared.Request.{Request}
 use Rattle.frames.specs.Prefix.{framed, payloadIn}
 use Rattle.map_fields.specs.Fields.{present, upTo, mapIn, needed, most32, valueIn, aimIn, amountIn, aimItem, amountItem}
-use Rattle.frames.specs.Settings.{settingIn, durationOf, durationAmount, targetOf, fieldOf, limitsFrom, setpointsFrom, settingOfLimits, settingOfSetpoints, settingFields}
+use Rattle.map_fields.specs.ByPhase.{phasesIn}
+use Rattle.frames.specs.Settings.{settingIn, durationOf, durationAmount, targetOf, fieldOf, limitsFrom, setpointsFrom, settingOfLimits, settingOfSetpoints, settingFields, currentLimitsIn, currentLimitFields}
 use Rattle.frames.specs.declared.settings.Setting.{Setting}
 use Rattle.frames.specs.Responses.{amountUpTo}
-use Rattle.frames.specs.Requests.{Envelope, envelopeIn, commandIn, servedAt, servedCommand, withCommand, fromEnvelope, fromPayload, readRequest, commandFields, requestFields, requestItem, commandWide, isServed, requestWide, requestUnserved, requestNumber}
+use Rattle.frames.specs.Requests.{Envelope, envelopeIn, commandIn, servedAt, servedCommand, withCommand, fromEnvelope, fromPayload, readRequest, commandFields, requestFields, requestItem, commandWide, aimWide, isServed, requestWide, requestUnserved, requestNumber}
 use Rattle.frames.specs.Writing.{itemFrame}
 use Rattle.frame_laws.specs.RoundTrips.{Field64, Target64, Command64, KeysTo, parameterKeys, PlainRequest, RequestWritable, RequestWritesAgain}
 use Rattle.frames.specs.declared.requests.Reading.{Reading}
 use Rattle.map_fields.proofs.Joined.{no-both, and-left, and-right}
 use Rattle.frame_laws.proofs.Maps.{OkFields, same-map, no-known}
-use Rattle.frame_laws.proofs.FieldsBack.{Allowed}
+use Rattle.frame_laws.proofs.FieldsBack.{Allowed, ok-aim}
 use Rattle.frame_laws.proofs.FieldsAgain.{same-inside, bind-parts, map-part, uint-again, map-again, aim-again, amount-again, value-again}
-use Rattle.frame_laws.proofs.RequestBack.{setting-ascend, setting-ok, command-ok, request-ascend, request-ok}
-use Rattle.map_fields.proofs.Joined.{four}
+use Rattle.frame_laws.proofs.RequestBack.{setting-ascend, setting-ok, current-ascend, request-ascend, request-ok}
 use Rattle.frame_laws.proofs.Trips.{item-in, frame-again, value-ok, map-ok}
+use Rattle.frame_laws.proofs.PhaseTrips.{held-ok, numbers-again}
+
+-- the last of the commands 1 to 6
+past : (n c : ℕ) → n ≤ c → (c ≡ n → ⊥) → n + 1 ≤ c
+past n c h e = omega (arith, e)
+
+pub six : (c : ℕ) → (c ≡ 1 → ⊥) → (c ≡ 2 → ⊥) → (c ≡ 3 → ⊥) → (c ≡ 4 → ⊥) → (c ≡ 5 → ⊥) → 1 ≤ c → c ≤ 6 → c ≡ 6
+six c a b d e f x y = least c y (past 5 c (past 4 c (past 3 c (past 2 c (past 1 c x a) b) d) e) f)
+  where
+    least : (c : ℕ) → c ≤ 6 → 6 ≤ c → c ≡ 6
+    least c y z = omega arith
 
 -- THE PARAMETERS
 -- what was read of a command's parameters, and that they are its fields where no key is unknown and no zero duration is written
@@ -149,37 +162,89 @@ module _ (ps : Pairs) where
             ∙ s .same lo d ok keys;
       })
 
+  -- a clear's parameters, whichever it clears
+  again-clear : (make : Aim → Command) (c : ℕ) → ((a : Aim) → wireNumber (make a) ≡ c) → ((a : Aim) → isServed (make a) ≡ true) → ((a : Aim) → commandWide (make a) ≡ aimWide a)
+      → ((a : Aim) → Command64 (make a)) → ((a : Aim) → commandFields (make a) ≡ (1, aimItem a) ∷ []) → parameterKeys c ≡ 1 → (x : Command) → Option·map make (aimIn (valueOf ps 1)) ≡ some x → Again c ps x
+  again-clear make c number served wide bits fields one x e =
+      let p = map-part make (aimIn (valueOf ps 1)) x e in
+      let a = aim-again (valueOf ps 1) (p .0) (p .1) in
+      subst (λ (y : Command). Again c ps y) (p .2)
+      (record {
+        number = number (p .0);
+        served = served (p .0);
+        range = wide (p .0) ∙ a .1;
+        bits = bits (p .0);
+        same = λ lo d ok keys z.
+            ap present (fields (p .0)) ∙ clear-same ps (p .0) (a .0) lo d ok (subst (λ (n : ℕ). KeysTo n ps) one keys) (omega arith, ok-aim (p .0) d (a .1), tt);
+      })
+
   again-clear-limit : (x : Command) → Option·map Command.ClearLimit (aimIn (valueOf ps 1)) ≡ some x → Again 2 ps x
   unfolding commandFields commandWide
-  again-clear-limit x e =
-      let p = map-part Command.ClearLimit (aimIn (valueOf ps 1)) x e in
-      let a = aim-again (valueOf ps 1) (p .0) (p .1) in
-      subst (λ (y : Command). Again 2 ps y) (p .2)
-      (record { number = refl; served = refl; range = a .1; bits = tt; same = λ lo d ok keys z. clear-same ps (p .0) (a .0) lo d ok keys (command-ok (Command.ClearLimit (p .0)) d (a .1) tt) })
+  again-clear-limit = again-clear Command.ClearLimit 2 (λ a. refl) (λ a. refl) (λ a. refl) (λ a. tt) (λ a. refl) refl
 
   again-clear-setpoint : (x : Command) → Option·map Command.ClearSetpoint (aimIn (valueOf ps 1)) ≡ some x → Again 4 ps x
   unfolding commandFields commandWide
-  again-clear-setpoint x e =
-      let p = map-part Command.ClearSetpoint (aimIn (valueOf ps 1)) x e in
-      let a = aim-again (valueOf ps 1) (p .0) (p .1) in
-      subst (λ (y : Command). Again 4 ps y) (p .2)
-      (record { number = refl; served = refl; range = a .1; bits = tt; same = λ lo d ok keys z. clear-same ps (p .0) (a .0) lo d ok keys (command-ok (Command.ClearSetpoint (p .0)) d (a .1) tt) })
+  again-clear-setpoint = again-clear Command.ClearSetpoint 4 (λ a. refl) (λ a. refl) (λ a. refl) (λ a. tt) (λ a. refl) refl
+
+  again-clear-current : (x : Command) → Option·map Command.ClearCurrentLimits (aimIn (valueOf ps 1)) ≡ some x → Again 6 ps x
+  unfolding commandFields commandWide
+  again-clear-current = again-clear Command.ClearCurrentLimits 6 (λ a. refl) (λ a. refl) (λ a. refl) (λ a. tt) (λ a. refl) refl
+
+  current-made : (f : Phases) (x : ℕ) (n : Amount) (k : ℕ) → phasesIn true (valueOf ps 1) ≡ some f → needed (upTo 1) (valueOf ps 2) ≡ some x → amountIn most32 (valueOf ps 3) ≡ some n
+      → needed (upTo 255) (valueOf ps 4) ≡ some k → Again 5 ps (Command.SetCurrentLimits (record { phases = f; direction = x; duration = durationOf n; cause = k }))
+  unfolding commandFields commandWide currentLimitFields
+  current-made f x n k ef ex en ek =
+      let a = numbers-again true (valueOf ps 1) f ef in
+      let b = uint-again 1 (valueOf ps 2) x ex in
+      let c = amount-again most32 (valueOf ps 3) n en in
+      let e = uint-again 255 (valueOf ps 4) k ek in
+      let l : CurrentLimits = record { phases = f; direction = x; duration = durationOf n; cause = k } in
+      record {
+        number = refl;
+        served = refl;
+        range = rw (le-ltb 1 x (b .1)) (not-wide n k (c .1) (e .1));
+        bits = a .bits;
+        same = λ lo d ok keys z.
+            let p = a .same d (held-ok ps lo d 1 _ ok refl) in
+            let t = c .0 ∙ ap amountItem (sym (duration-again n (λ q. z (c .0 ∙ q)))) in
+            same-map ps (currentLimitFields l) lo d ok (current-ascend l)
+            (omega arith, held-ok ps lo d 1 _ ok p, (omega arith, held-ok ps lo d 2 _ ok (b .0), (omega arith, held-ok ps lo d 3 _ ok t, (omega arith, held-ok ps lo d 4 _ ok (e .0), tt))))
+            (p, (b .0, (t, (e .0, tt)))) (λ j h. keys j (no-known (currentLimitFields l) j (refl, (refl, (refl, (refl, tt)))) h));
+      }
+
+  again-current : (x : Command) → Option·map Command.SetCurrentLimits (currentLimitsIn ps) ≡ some x → Again 5 ps x
+  unfolding currentLimitsIn
+  again-current x e =
+      let p = map-part Command.SetCurrentLimits (currentLimitsIn ps) x e in
+      let a = bind-parts (phasesIn true (valueOf ps 1)) _ (p .0) (p .1) in
+      let b = bind-parts (needed (upTo 1) (valueOf ps 2)) _ (p .0) (a .2) in
+      let c = bind-parts (amountIn most32 (valueOf ps 3)) _ (p .0) (b .2) in
+      let d = bind-parts (needed (upTo 255) (valueOf ps 4)) _ (p .0) (c .2) in
+      subst (λ (y : Command). Again 5 ps y) (ap Command.SetCurrentLimits (same-inside (d .2)) ∙ p .2) (current-made (a .0) (b .0) (c .0) (d .0) (a .1) (b .1) (c .1) (d .1))
 
   pub command-again : (c : ℕ) (x : Command) → servedCommand c ≡ true → commandIn c ps ≡ some x → Again c ps x
   unfolding servedCommand commandIn
-  command-again c x s e = go (eqb c 1) (eqb c 2) (eqb c 3) refl refl refl e
+  command-again c x s e = go (eqb c 1) (eqb c 2) (eqb c 3) (eqb c 4) (eqb c 5) refl refl refl refl refl e
     where
-      go : (p q r : Bool) → eqb c 1 ≡ p → eqb c 2 ≡ q → eqb c 3 ≡ r
+      at : (n : ℕ) → c ≡ n → Again n ps x → Again c ps x
+      at n e h = subst (λ (m : ℕ). Again m ps x) (sym e) h
+
+      go : (p q r t u : Bool) → eqb c 1 ≡ p → eqb c 2 ≡ q → eqb c 3 ≡ r → eqb c 4 ≡ t → eqb c 5 ≡ u
           → cond p (Option·map (λ s. Command.SetLimit (limitsFrom s)) (settingIn true ps))
-          (cond q (Option·map Command.ClearLimit (aimIn (valueOf ps 1))) (cond r (Option·map (λ s. Command.SetSetpoint (setpointsFrom s)) (settingIn false ps))
-          (Option·map Command.ClearSetpoint (aimIn (valueOf ps 1))))) ≡ some x
+          (cond q (Option·map Command.ClearLimit (aimIn (valueOf ps 1)))
+          (cond r (Option·map (λ s. Command.SetSetpoint (setpointsFrom s)) (settingIn false ps))
+          (cond t (Option·map Command.ClearSetpoint (aimIn (valueOf ps 1)))
+          (cond u (Option·map Command.SetCurrentLimits (currentLimitsIn ps)) (Option·map Command.ClearCurrentLimits (aimIn (valueOf ps 1))))))) ≡ some x
           → Again c ps x
-      go true q r a b d h = subst (λ (n : ℕ). Again n ps x) (sym (eqb-true c 1 a)) (again-limit x h)
-      go false true r a b d h = subst (λ (n : ℕ). Again n ps x) (sym (eqb-true c 2 b)) (again-clear-limit x h)
-      go false false true a b d h = subst (λ (n : ℕ). Again n ps x) (sym (eqb-true c 3 d)) (again-setpoint x h)
-      go false false false a b d h =
-          let f : c ≡ 4 = four c (eqb-false c 1 a) (eqb-false c 2 b) (eqb-false c 3 d) (leb-true 1 c (and-left _ _ s)) (leb-true c 4 (and-right (leb 1 c) _ s)) in
-          subst (λ (n : ℕ). Again n ps x) (sym f) (again-clear-setpoint x h)
+      go true q r t u a b d f g h = at 1 (eqb-true c 1 a) (again-limit x h)
+      go false true r t u a b d f g h = at 2 (eqb-true c 2 b) (again-clear-limit x h)
+      go false false true t u a b d f g h = at 3 (eqb-true c 3 d) (again-setpoint x h)
+      go false false false true u a b d f g h = at 4 (eqb-true c 4 f) (again-clear-setpoint x h)
+      go false false false false true a b d f g h = at 5 (eqb-true c 5 g) (again-current x h)
+      go false false false false false a b d f g h =
+          let l = leb-true 1 c (and-left _ _ s) in
+          let m = leb-true c 6 (and-right (leb 1 c) _ s) in
+          at 6 (six c (eqb-false c 1 a) (eqb-false c 2 b) (eqb-false c 3 d) (eqb-false c 4 f) (eqb-false c 5 g) l m) (again-clear-current x h)
 
 -- THE ENVELOPE
 pub record AgainEnvelope (ps : Pairs) (e : Envelope) : Type 0 where

@@ -1,5 +1,5 @@
 -- A request that is written reads back equal. Assumes nothing.
-use Prim.Native.Nat.{ℕ, _^_, _≤_, _<_}
+use Prim.Native.Nat.{ℕ, suc, _^_, _≤_, _<_}
 use mathlib.Core.Path.{_≡_, refl, sym, ap, _∙_}
 use mathlib.Core.Bool.{Bool, true, false, cond, _&&_, _||_}
 use mathlib.Core.List.{[], _∷_}
@@ -17,22 +17,24 @@ use Rattle.messages.specs.declared.Target.{Target}
 use Rattle.messages.specs.declared.Amount.{Amount}
 use Rattle.messages.specs.declared.Limits.{Limits}
 use Rattle.messages.specs.declared.Setpoints.{Setpoints}
+use Rattle.messages.specs.declared.CurrentLimits.{CurrentLimits}
 use Rattle.messages.specs.declared.Command.{Command}
 use Rattle.messages.specs.declared.Request.{Request}
-use Rattle.map_fields.specs.Fields.{present, mapIn, needed, most32, aimItem}
-use Rattle.frames.specs.Settings.{settingIn, durationOf, durationAmount, targetOf, fieldOf, limitsFrom, setpointsFrom, settingOfLimits, settingOfSetpoints, settingFields}
+use Rattle.map_fields.specs.Fields.{Fields, present, mapIn, needed, most32, aimItem}
+use Rattle.frames.specs.Settings.{settingIn, durationOf, durationAmount, targetOf, fieldOf, limitsFrom, setpointsFrom, settingOfLimits, settingOfSetpoints, settingFields, currentLimitsIn, currentLimitFields}
 use Rattle.frames.specs.declared.settings.Setting.{Setting}
 use Rattle.frames.specs.Responses.{amountUpTo}
 use Rattle.frames.specs.Requests.{envelopeIn, commandIn, servedAt, servedCommand, fromEnvelope, readRequest, commandFields, requestFields, requestItem, commandWide, isServed, requestWide, requestUnserved, requestNumber}
 use Rattle.map_fields.specs.Puts.{fieldBytes}
 use Rattle.frames.specs.Writing.{itemFrame}
-use Rattle.frame_laws.specs.RoundTrips.{Field64, Target64, Command64, RequestReadsBack, OneRequest}
+use Rattle.frame_laws.specs.RoundTrips.{Field64, Target64, Phases64, Command64, RequestReadsBack, OneRequest}
 use Rattle.frames.specs.declared.requests.Reading.{Reading}
 use Rattle.map_fields.proofs.Joined.{no-both, and-left, and-right, or-left, or-right, not-is-false}
-use Rattle.frame_laws.proofs.Maps.{Ascending, values, OkFields, ShortFields, ok-map, map-short}
+use Rattle.frame_laws.proofs.Maps.{Ascending, values, OkFields, ShortFields, wider, ok-map, map-short}
 use Rattle.frame_laws.proofs.FieldsBack.{Allowed, uint-back, aim-back, amount-back, value-back, ok-uint, ok-aim, ok-amount, ok-value, short-uint, short-aim, short-amount, short-value}
 use Rattle.frames.proofs.Requested.{read-map-of}
 use Rattle.frame_laws.proofs.Trips.{frame-payload, frame-framed}
+use Rattle.frame_laws.proofs.PhaseTrips.{short-numbers, ok-numbers, numbers-back}
 
 -- THE PARAMETERS OF A SET COMMAND
 module _ (s : Setting) where
@@ -103,6 +105,59 @@ allowed-all Field.Absent = tt
 allowed-all Field.Null = refl
 allowed-all (Field.Value z) = tt
 
+-- THE PARAMETERS OF SETCURRENTLIMITS
+pub wide-parts : (d k : ℕ) → (ltb most32 d || ltb 255 k) ≡ false → (d ≤ most32) × (k ≤ 255)
+wide-parts d k h = (ltb-false most32 d (or-left _ _ h), ltb-false 255 k (or-right (ltb most32 d) _ h))
+
+pub wide-currents : (x d k : ℕ) → (ltb 1 x || (ltb most32 d || ltb 255 k)) ≡ false → (x ≤ 1) × (d ≤ most32) × (k ≤ 255)
+wide-currents x d k h = let w = wide-parts d k (or-right (ltb 1 x) _ h) in (ltb-false 1 x (or-left _ _ h), w .0, w .1)
+
+module _ (l : CurrentLimits) where
+  pub current-ascend : Ascending (currentLimitFields l) 0
+  unfolding currentLimitFields
+  current-ascend = (omega arith, (omega arith, (omega arith, (omega arith, tt))))
+
+  current-short : ShortFields (currentLimitFields l) 72
+  unfolding currentLimitFields
+  current-short = (
+    short-numbers (l .phases) 1,
+    (omega (arith, short-uint 2 (l .direction)), (omega (arith, short-amount 3 (durationAmount (l .duration))), (omega (arith, short-uint 4 (l .cause)), tt))),
+  )
+
+  module _ (h : Phases64 (l .phases)) (w : (l .direction ≤ 1) × (l .duration ≤ most32) × (l .cause ≤ 255)) where
+    current-ok : (d : ℕ) → OkFields (currentLimitFields l) (suc d)
+    unfolding currentLimitFields
+    current-ok d = (
+      omega arith,
+      ok-numbers (l .phases) h d,
+      (
+        omega arith,
+        ok-uint (l .direction) (suc d) (omega (arith, w .0)),
+        (
+          omega arith,
+          ok-amount most32 (durationAmount (l .duration)) (suc d) (omega arith) (duration-range (l .duration) (w .1)),
+          (omega arith, ok-uint (l .cause) (suc d) (omega (arith, w .2)), tt),
+        ),
+      ),
+    )
+
+    current-back : currentLimitsIn (present (currentLimitFields l)) ≡ some l
+    unfolding currentLimitsIn bind currentLimitFields
+    current-back =
+        let p = l .phases in
+        let v : (k : ℕ) → _ = λ (k : ℕ). values (currentLimitFields l) 0 k current-ascend in
+        rw (
+          v 1,
+          v 2,
+          v 3,
+          v 4,
+          numbers-back p h true (allowed-all (p .a), allowed-all (p .b), allowed-all (p .c)),
+          uint-back 1 (l .direction) (w .0),
+          amount-back most32 (durationAmount (l .duration)) (duration-range (l .duration) (w .1)),
+          uint-back 255 (l .cause) (w .2),
+          same-duration (l .duration),
+        )
+
 -- THE PARAMETERS OF EACH COMMAND
 pub command-ascend : (c : Command) → Ascending (commandFields c) 0
 unfolding commandFields
@@ -110,37 +165,46 @@ command-ascend (Command.SetLimit l) = setting-ascend (settingOfLimits l)
 command-ascend (Command.ClearLimit a) = (omega arith, tt)
 command-ascend (Command.SetSetpoint l) = setting-ascend (settingOfSetpoints l)
 command-ascend (Command.ClearSetpoint a) = (omega arith, tt)
+command-ascend (Command.SetCurrentLimits l) = current-ascend l
+command-ascend (Command.ClearCurrentLimits a) = (omega arith, tt)
 command-ascend (Command.Unserved n) = tt
 
-pub wide-parts : (d k : ℕ) → (ltb most32 d || ltb 255 k) ≡ false → (d ≤ most32) × (k ≤ 255)
-wide-parts d k h = (ltb-false most32 d (or-left _ _ h), ltb-false 255 k (or-right (ltb most32 d) _ h))
-
-pub command-ok : (c : Command) (d : ℕ) → commandWide c ≡ false → Command64 c → OkFields (commandFields c) d
+pub command-ok : (c : Command) (d : ℕ) → commandWide c ≡ false → Command64 c → OkFields (commandFields c) (suc d)
 unfolding commandFields commandWide settingOfLimits settingOfSetpoints
 command-ok (Command.SetLimit l) d w h =
     let x = wide-parts (l .duration) (l .cause) w in
-    setting-ok (settingOfLimits l) d (h .0) (h .1) (duration-range (l .duration) (x .0)) (x .1)
-command-ok (Command.ClearLimit a) d w h = (omega arith, ok-aim a d w, tt)
+    setting-ok (settingOfLimits l) (suc d) (h .0) (h .1) (duration-range (l .duration) (x .0)) (x .1)
+command-ok (Command.ClearLimit a) d w h = (omega arith, ok-aim a (suc d) w, tt)
 command-ok (Command.SetSetpoint l) d w h =
     let x = wide-parts (l .duration) (l .cause) w in
-    setting-ok (settingOfSetpoints l) d (field-64 (l .consumption) (h .0)) (field-64 (l .production) (h .1)) (duration-range (l .duration) (x .0)) (x .1)
-command-ok (Command.ClearSetpoint a) d w h = (omega arith, ok-aim a d w, tt)
+    setting-ok (settingOfSetpoints l) (suc d) (field-64 (l .consumption) (h .0)) (field-64 (l .production) (h .1)) (duration-range (l .duration) (x .0)) (x .1)
+command-ok (Command.ClearSetpoint a) d w h = (omega arith, ok-aim a (suc d) w, tt)
+command-ok (Command.SetCurrentLimits l) d w h = current-ok l h (wide-currents (l .direction) (l .duration) (l .cause) w) d
+command-ok (Command.ClearCurrentLimits a) d w h = (omega arith, ok-aim a (suc d) w, tt)
 command-ok (Command.Unserved n) d w h = tt
 
-command-short : (c : Command) → ShortFields (commandFields c) 18
+-- a map with its key has at most 72 bytes, as every number has
+few-short : (fs : Fields) → ShortFields fs 18 → ShortFields fs 72
+few-short fs h = wider fs 18 72 (omega arith) h
+
+command-short : (c : Command) → ShortFields (commandFields c) 72
 unfolding commandFields
-command-short (Command.SetLimit l) = setting-short (settingOfLimits l)
-command-short (Command.ClearLimit a) = (short-aim 1 a, tt)
-command-short (Command.SetSetpoint l) = setting-short (settingOfSetpoints l)
-command-short (Command.ClearSetpoint a) = (short-aim 1 a, tt)
+command-short (Command.SetLimit l) = few-short (settingFields (settingOfLimits l)) (setting-short (settingOfLimits l))
+command-short (Command.ClearLimit a) = few-short ((1, aimItem a) ∷ []) (short-aim 1 a, tt)
+command-short (Command.SetSetpoint l) = few-short (settingFields (settingOfSetpoints l)) (setting-short (settingOfSetpoints l))
+command-short (Command.ClearSetpoint a) = few-short ((1, aimItem a) ∷ []) (short-aim 1 a, tt)
+command-short (Command.SetCurrentLimits l) = current-short l
+command-short (Command.ClearCurrentLimits a) = few-short ((1, aimItem a) ∷ []) (short-aim 1 a, tt)
 command-short (Command.Unserved n) = tt
 
 pub command-few : (c : Command) → length (commandFields c) ≤ 4
-unfolding commandFields settingFields
+unfolding commandFields settingFields currentLimitFields
 command-few (Command.SetLimit l) = omega arith
 command-few (Command.ClearLimit a) = omega arith
 command-few (Command.SetSetpoint l) = omega arith
 command-few (Command.ClearSetpoint a) = omega arith
+command-few (Command.SetCurrentLimits l) = omega arith
+command-few (Command.ClearCurrentLimits a) = omega arith
 command-few (Command.Unserved n) = omega arith
 
 command-back : (c : Command) → isServed c ≡ true → commandWide c ≡ false → Command64 c → commandIn (wireNumber c) (present (commandFields c)) ≡ some c
@@ -157,14 +221,18 @@ command-back (Command.SetSetpoint l) s w h =
       same-setpoints l,
     )
 command-back (Command.ClearSetpoint a) s w h = rw (values ((1, aimItem a) ∷ []) 0 1 (omega arith, tt), aim-back a w)
+command-back (Command.SetCurrentLimits l) s w h = rw (current-back l h (wide-currents (l .direction) (l .duration) (l .cause) w))
+command-back (Command.ClearCurrentLimits a) s w h = rw (values ((1, aimItem a) ∷ []) 0 1 (omega arith, tt), aim-back a w)
 command-back (Command.Unserved n) s w h = absurd (no-both (sym s))
 
-pub wire-served : (c : Command) → isServed c ≡ true → (wireNumber c ≤ 4) × (servedCommand (wireNumber c) ≡ true)
+pub wire-served : (c : Command) → isServed c ≡ true → (wireNumber c ≤ 6) × (servedCommand (wireNumber c) ≡ true)
 unfolding servedCommand
 wire-served (Command.SetLimit l) s = (omega arith, refl)
 wire-served (Command.ClearLimit a) s = (omega arith, refl)
 wire-served (Command.SetSetpoint l) s = (omega arith, refl)
 wire-served (Command.ClearSetpoint a) s = (omega arith, refl)
+wire-served (Command.SetCurrentLimits l) s = (omega arith, refl)
+wire-served (Command.ClearCurrentLimits a) s = (omega arith, refl)
 wire-served (Command.Unserved n) s = absurd (no-both (sym s))
 
 -- THE REQUEST
@@ -193,7 +261,7 @@ module _ (r : Request) where
         (
           omega arith,
           ok-uint (wireNumber (r .command)) 7 (omega arith),
-          (omega arith, ok-map (commandFields (r .command)) 6 (omega (arith, command-few (r .command))) (command-ascend (r .command)) (command-ok (r .command) 6 w h), tt),
+          (omega arith, ok-map (commandFields (r .command)) 6 (omega (arith, command-few (r .command))) (command-ascend (r .command)) (command-ok (r .command) 5 w h), tt),
         ),
       ),
     ),
@@ -203,20 +271,20 @@ module _ (r : Request) where
   unfolding requestFields
   request-few = omega arith
 
-  inner-short : length (fieldBytes 5 (some (Item.map (present (commandFields (r .command)))))) ≤ 90
+  inner-short : length (fieldBytes 5 (some (Item.map (present (commandFields (r .command)))))) ≤ 306
   unfolding fieldBytes
   inner-short =
       let c = commandFields (r .command) in
-      rw length-append (omega (arith, head-length 0 5, head-short 5, map-short c 18 (command-short (r .command)) .1, command-few (r .command)))
+      rw length-append (omega (arith, head-length 0 5, head-short 5, map-short c 72 (command-short (r .command)) .1, command-few (r .command)))
 
-  request-short : (1 ≤ length (encode (requestItem r))) × (length (encode (requestItem r)) ≤ 459)
+  request-short : (1 ≤ length (encode (requestItem r))) × (length (encode (requestItem r)) ≤ 1539)
   unfolding requestItem requestFields
   request-short =
-      let h : ShortFields (requestFields r) 90 = (
+      let h : ShortFields (requestFields r) 306 = (
         omega (arith, short-uint 1 (r .id)),
         (omega (arith, short-uint 2 (r .endpoint)), (omega (arith, short-uint 3 (r .feature)), (omega (arith, short-uint 4 (wireNumber (r .command))), (inner-short, tt)))),
       ) in
-      map-short (requestFields r) 90 h
+      map-short (requestFields r) 306 h
 
   module _ (e : requestNumber r ≡ 0) where
     parts : (requestWide r ≡ false) × (requestUnserved r ≡ false)

@@ -14,6 +14,7 @@ use Rattle.cbor.specs.Item.{Item, Pairs, payloadOf}
 use Rattle.cbor.specs.Find.{valueOf}
 use Rattle.messages.specs.declared.Field.{Field}
 use Rattle.messages.specs.declared.Target.{Target}
+use Rattle.messages.specs.declared.Phases.{Phases}
 use Rattle.messages.specs.declared.Command.{Command}
 use Rattle.messages.specs.declared.Request.{Request}
 use Rattle.messages.specs.declared.Response.{Response}
@@ -52,11 +53,16 @@ abbrev pub Target64 : Target → Type 0
 Target64 Target.Absent = Unit {0}
 Target64 (Target.Value z) = Signed64 z
 
+abbrev pub Phases64 : Phases → Type 0
+Phases64 p = Field64 (p .a) × Field64 (p .b) × Field64 (p .c)
+
 abbrev pub Command64 : Command → Type 0
 Command64 (Command.SetLimit l) = Field64 (l .consumption) × Field64 (l .production)
 Command64 (Command.ClearLimit a) = Unit {0}
 Command64 (Command.SetSetpoint l) = Target64 (l .consumption) × Target64 (l .production)
 Command64 (Command.ClearSetpoint a) = Unit {0}
+Command64 (Command.SetCurrentLimits l) = Phases64 (l .phases)
+Command64 (Command.ClearCurrentLimits a) = Unit {0}
 Command64 (Command.Unserved n) = Unit {0}
 
 abbrev pub RequestReadsBack : Type 0
@@ -91,9 +97,9 @@ ResponseWritable = (c : ℕ) (frame : List ℕ) (r : Response) → readResponse 
 abbrev pub KeysTo : ℕ → Pairs → Type 0
 KeysTo n ps = (k : ℕ) → (leb 1 k && leb k n) ≡ false → valueOf ps k ≡ none
 
--- how many keys a command's parameters and its result have
+-- how many keys a command's parameters and its result have; a map of phases among them has nothing unknown once it is read
 abbrev pub parameterKeys : ℕ → ℕ
-parameterKeys c = cond (eqb c 1 || eqb c 3) 4 1
+parameterKeys c = cond (eqb c 1 || eqb c 3 || eqb c 5) 4 1
 
 abbrev pub resultKeys : ℕ → ℕ
 resultKeys c = cond (eqb c 1) 5 (cond (eqb c 3) 3 1)
