@@ -10,14 +10,17 @@ use borrow.Author.Tests.{lt-ltb, le-ltb, le-leb, lt-leb, ltb-true, ltb-false, eq
 use lib.Dec.{ltb, leb, eqb}
 use lib.ListN.{length, getD, set, take, replicate, length-set}
 use lib.Seq.{take-suc, take-all, getD-set-same, getD-set-other}
-use Rattle.store.specs.Sizes.{helds, most}
+use Rattle.quantities.specs.Quantities.{lows, leads, isSetpoint, lowAt, leadAt}
+use Rattle.store.specs.Sizes.{most}
 use Rattle.store.specs.Zones.{upTo, seatOf, idOf, rankOf, freeZone, isJoined, heldOf}
-use Rattle.holds.specs.Holds.{lows, leads, Claim, isLimit, noClaim, claimOf, goesBefore, better, winner}
+use Rattle.holds.specs.Holds.{Claim, noClaim, claimOf, goesBefore, better, winner}
 use Rattle.holds.specs.Dues.{zoneDues, heldDues, nearer}
-use Rattle.holds.specs.Pass.{lesser, takes, numberOf, placeOf, lowAt, leadAt, turns, lowStep, leadStep, lowsWith, leadsWith, Bounded, Leads, Meets, NoneMet, Adds}
+use Rattle.holds.specs.Pass.{lesser, takes, numberOf, placeOf, turns, lowStep, leadStep, lowsWith, leadsWith, Bounded, Stands, LowsMet, LeadsMet, Adds}
 use Rattle.store.specs.declared.Held.{Held}
 use Rattle.store.specs.declared.Zone.{Zone}
-use Rattle.holds.specs.declared.tops.Met.{Met}
+use Rattle.holds.specs.declared.tops.Lows.{Lows}
+use Rattle.holds.specs.declared.tops.Leads.{Leads}
+use Rattle.holds.proofs.Places.{low-no-setpoint, lead-setpoint}
 
 -- by rank and then by id is the order of seats
 seat-order : (k i l j : ℕ) → i < 256 → j < 256 → (ltb k l || (eqb k l && ltb i j)) ≡ ltb (seatOf i k) (seatOf j l)
@@ -57,7 +60,7 @@ module _ (t q : ℕ) (a : Claim) (x : Zone) (joined : isJoined x ≡ true) where
   claim = record { there = true; value = heldOf x q .value; rank = rankOf x; id = idOf x }
 
   -- the smaller of two limits
-  pub limit-more : isLimit q ≡ true → (n : ℕ) → n ≡ numberOf a → heldOf x q .value ≤ most
+  pub limit-more : isSetpoint q ≡ false → (n : ℕ) → n ≡ numberOf a → heldOf x q .value ≤ most
       → cond (ltb t (heldOf x q .until)) (lesser (heldOf x q .value) n) n ≡ numberOf (better q a (claimOf t q x))
   unfolding better claimOf goesBefore lesser numberOf
   limit-more l n e h = rw (joined, l) (go (ltb t (heldOf x q .until)))
@@ -78,19 +81,19 @@ module _ (t q : ℕ) (a : Claim) (x : Zone) (joined : isJoined x ≡ true) where
       go false = e
 
   -- the setpoint of the smaller seat
-  pub lead-more : isLimit q ≡ false → (k n : ℕ) → Leads a k n → x .seat ≤ most
-      → Leads (better q a (claimOf t q x)) (cond (takes t (heldOf x q .until) (x .seat) k) (x .seat) k) (cond (takes t (heldOf x q .until) (x .seat) k) (heldOf x q .value) n)
+  pub lead-more : isSetpoint q ≡ true → (k n : ℕ) → Stands a k n → x .seat ≤ most
+      → Stands (better q a (claimOf t q x)) (cond (takes t (heldOf x q .until) (x .seat) k) (x .seat) k) (cond (takes t (heldOf x q .until) (x .seat) k) (heldOf x q .value) n)
   unfolding better claimOf goesBefore takes numberOf placeOf
   lead-more l k n s h = rw (joined, l) (go (ltb t (heldOf x q .until)))
     where
       v : ℕ
       v = heldOf x q .value
 
-      theirs : Leads claim (x .seat) v
+      theirs : Stands claim (x .seat) v
       theirs = record { place = sym (seat-of x); number = refl; small = small-id x }
 
       more : (w : Bool) → a .there ≡ w → k ≡ cond w (seatOf (a .id) (a .rank)) most → (y : Bool) → ltb (seatOf (a .id) (a .rank)) (x .seat) ≡ y
-          → Leads (cond (not (w && y)) claim a) (cond (leb (x .seat) k) (x .seat) k) (cond (leb (x .seat) k) v n)
+          → Stands (cond (not (w && y)) claim a) (cond (leb (x .seat) k) (x .seat) k) (cond (leb (x .seat) k) v n)
       more true p f true r = let m : k < x .seat = omega (arith, ltb-true (seatOf (a .id) (a .rank)) (x .seat) r) in rw (lt-leb (x .seat) k m) s
       more true p f false r = let m : x .seat ≤ k = omega (arith, ltb-false (seatOf (a .id) (a .rank)) (x .seat) r) in rw (le-leb (x .seat) k m) theirs
       more false p f y r = let m : x .seat ≤ k = omega arith in rw (le-leb (x .seat) k m) theirs
@@ -98,7 +101,7 @@ module _ (t q : ℕ) (a : Claim) (x : Zone) (joined : isJoined x ≡ true) where
       order : (ltb (a .rank) (rankOf x) || (eqb (a .rank) (rankOf x) && ltb (a .id) (idOf x))) ≡ ltb (seatOf (a .id) (a .rank)) (x .seat)
       order = seat-order (a .rank) (a .id) (rankOf x) (idOf x) (s .small) (small-id x) ∙ ap (λ (m : ℕ). ltb (seatOf (a .id) (a .rank)) m) (seat-of x)
 
-      go : (b : Bool) → Leads (cond (cond b claim noClaim .there && not (a .there && (ltb (a .rank) (cond b claim noClaim .rank) || (eqb (a .rank) (cond b claim noClaim .rank) && ltb (a .id) (cond b claim noClaim .id))))) (cond b claim noClaim) a)
+      go : (b : Bool) → Stands (cond (cond b claim noClaim .there && not (a .there && (ltb (a .rank) (cond b claim noClaim .rank) || (eqb (a .rank) (cond b claim noClaim .rank) && ltb (a .id) (cond b claim noClaim .id))))) (cond b claim noClaim) a)
           (cond (b && leb (x .seat) k) (x .seat) k) (cond (b && leb (x .seat) k) v n)
       go true = rw order (more (a .there) refl (s .place) (ltb (seatOf (a .id) (a .rank)) (x .seat)) refl)
       go false = s
@@ -126,144 +129,142 @@ module _ (b : Bool) (l : List ℕ) (j v : ℕ) where
       go true = getD-set-other l j k v 0 a
       go false = refl
 
-module _ (t : ℕ) (x : Zone) (g : Met) where
-  pub free-adds : (n : ℕ) → isJoined x ≡ false → Adds n t x g g
-  free-adds n e f m =
+-- turns of which each changes place k of an array at most: what stands below n is met, the rest is as it was
+module _ {G : Type 0} (step : ℕ → G → G) (array : G → List ℕ) (taken : ℕ → G → Bool) (v : ℕ → G → ℕ)
+    (is : (k : ℕ) (g : G) → array (step k g) ≡ cond (taken k g) (set (array g) k (v k g)) (array g)) (g : G) where
+  turns-size : (n : ℕ) → length (array (turns step n g)) ≡ length (array g)
+  unfolding turns
+  turns-size zero = refl
+  turns-size (suc n) =
+      let m : G = turns step n g in
+      ap length (is n m) ∙ kept-size (taken n m) (array m) n (v n m) ∙ turns-size n
+
+  turns-above : (n k : ℕ) → n ≤ k → getD (array (turns step n g)) k 0 ≡ getD (array g) k 0
+  unfolding turns
+  turns-above zero k h = refl
+  turns-above (suc n) k h =
+      let m : G = turns step n g in
+      ap (λ (l : List ℕ). getD l k 0) (is n m) ∙ kept-other (taken n m) (array m) n (v n m) k (λ e. omega arith) ∙ turns-above n k (omega arith)
+
+  turns-below : (n k : ℕ) → k < n → n ≤ length (array g)
+      → getD (array (turns step n g)) k 0 ≡ cond (taken k (turns step k g)) (v k (turns step k g)) (getD (array g) k 0)
+  unfolding turns
+  turns-below zero k h s = absurd (omega arith)
+  turns-below (suc n) k h s =
+      let m : G = turns step n g in
+      ap (λ (l : List ℕ). getD l k 0) (is n m)
+      ∙ elim (ℕ-discrete k n) [
+        | yes e ↦ rw e (kept-here (taken n m) (array m) n (v n m) (omega (arith, turns-size n)) ∙ rw (turns-above n n (omega arith)))
+        | no e ↦ kept-other (taken n m) (array m) n (v n m) k e ∙ turns-below n k (omega arith) (omega arith)
+      ]
+
+-- turns of which each meets one end
+turns-next : {G : Type 0} (t : ℕ) (step : ℕ → G → G) (next : G → ℕ) (e : ℕ → ℕ) → ((k : ℕ) (g : G) → next (step k g) ≡ nearer t (next g) (e k))
+    → (n : ℕ) (g : G) → next (turns step n g) ≡ foldl (nearer t) (next g) (upTo e n)
+unfolding turns upTo
+turns-next t step next e is zero g = refl
+turns-next t step next e is (suc n) g =
+    is n (turns step n g)
+    ∙ ap (λ (m : ℕ). nearer t m (e n)) (turns-next t step next e is n g)
+    ∙ sym (foldl-append (nearer t) (next g) (upTo e n) (e n ∷ []))
+
+-- A FREE SLOT claims nothing, and nothing of it ends
+free-ends : {G : Type 0} (next : G → ℕ) (t : ℕ) (x : Zone) (at : ℕ → ℕ) (n : ℕ) (g : G) → isJoined x ≡ false → next g ≡ foldl (nearer t) (next g) (zoneDues at n x)
+unfolding zoneDues
+free-ends next t x at n g e = rw e
+
+module _ (t : ℕ) (x : Zone) (e : isJoined x ≡ false) where
+  pub free-lows : (g : Lows) → Adds LowsMet t x g g × (g .next ≡ foldl (nearer t) (g .next) (zoneDues lowAt lows x))
+  free-lows g = (
+    λ f m. record { size = m .size; low = λ k h. rw (free-keeps t (lowAt k) (f (lowAt k)) x e) (m .low k h) },
+    free-ends (λ (g : Lows). g .next) t x lowAt lows g e,
+  )
+
+  pub free-leads : (g : Leads) → Adds LeadsMet t x g g × (g .next ≡ foldl (nearer t) (g .next) (zoneDues leadAt leads x))
+  free-leads g = (
+    λ f m. record { seatSize = m .seatSize; leadSize = m .leadSize; lead = λ k h. rw (free-keeps t (leadAt k) (f (leadAt k)) x e) (m .lead k h) },
+    free-ends (λ (g : Leads). g .next) t x leadAt leads g e,
+  )
+
+-- A JOINED ZONE: all its limits are met, all its setpoints
+module _ (t : ℕ) (x : Zone) (e : isJoined x ≡ true) where
+  abbrev lowTurn : ℕ → Lows → Lows
+  lowTurn k = lowStep t (heldOf x (lowAt k)) k
+
+  low-is : (k : ℕ) (g : Lows) → lowTurn k g .low ≡ cond (ltb t (heldOf x (lowAt k) .until)) (set (g .low) k (lesser (heldOf x (lowAt k) .value) (getD (g .low) k 0))) (g .low)
+  unfolding lowStep
+  low-is k g = refl
+
+  low-next : (k : ℕ) (g : Lows) → lowTurn k g .next ≡ nearer t (g .next) (heldOf x (lowAt k) .until)
+  unfolding lowStep
+  low-next k g = refl
+
+  pub lows-add : (g : Lows) → Bounded x lows → Adds LowsMet t x g (lowsWith t x lows g)
+  lows-add g a f m =
+      let array : Lows → List ℕ = λ (g : Lows). g .low in
+      let taken : ℕ → Lows → Bool = λ (k : ℕ) (g : Lows). ltb t (heldOf x (lowAt k) .until) in
+      let v : ℕ → Lows → ℕ = λ (k : ℕ) (g : Lows). lesser (heldOf x (lowAt k) .value) (getD (g .low) k 0) in
       record {
-        lowSize = m .lowSize;
-        seatSize = m .seatSize;
-        leadSize = m .leadSize;
-        low = λ k h. rw (free-keeps t (lowAt k) (f (lowAt k)) x e) (m .low k h);
-        lead = λ k h l. rw (free-keeps t (leadAt k) (f (leadAt k)) x e) (m .lead k h l);
+        size = turns-size lowTurn array taken v low-is g lows ∙ m .size;
+        low = λ k h.
+            turns-below lowTurn array taken v low-is g lows k h (omega (arith, m .size))
+            ∙ rw (turns-above lowTurn array taken v low-is g k k (omega arith))
+            (limit-more t (lowAt k) (f (lowAt k)) x e (low-no-setpoint k) (getD (g .low) k 0) (m .low k h) (a k h));
       }
 
-  pub free-ends : (n : ℕ) → isJoined x ≡ false → g .next ≡ foldl (nearer t) (g .next) (zoneDues n x)
+  pub lows-end : (g : Lows) → lowsWith t x lows g .next ≡ foldl (nearer t) (g .next) (zoneDues lowAt lows x)
   unfolding zoneDues
-  free-ends n e = rw e
+  lows-end g = rw e (turns-next t lowTurn (λ (g : Lows). g .next) (λ k. heldOf x (lowAt k) .until) low-next lows g)
 
-  -- the limits of a joined zone: those below n are met, the others are as they were
-  low-size : (n : ℕ) → length (lowsWith t x n g .low) ≡ length (g .low)
-  unfolding turns lowStep
-  low-size zero = refl
-  low-size (suc n) = kept-size (ltb t (heldOf x (lowAt n) .until)) (lowsWith t x n g .low) n (lesser (heldOf x (lowAt n) .value) (getD (lowsWith t x n g .low) n 0)) ∙ low-size n
+  abbrev leadTurn : ℕ → Leads → Leads
+  leadTurn k = leadStep t (heldOf x (leadAt k)) (x .seat) k
 
-  low-above : (n k : ℕ) → n ≤ k → getD (lowsWith t x n g .low) k 0 ≡ getD (g .low) k 0
-  unfolding turns lowStep
-  low-above zero k h = refl
-  low-above (suc n) k h =
-      kept-other (ltb t (heldOf x (lowAt n) .until)) (lowsWith t x n g .low) n (lesser (heldOf x (lowAt n) .value) (getD (lowsWith t x n g .low) n 0)) k (λ e. omega arith)
-      ∙ low-above n k (omega arith)
+  abbrev leadTaken : ℕ → Leads → Bool
+  leadTaken k g = takes t (heldOf x (leadAt k) .until) (x .seat) (getD (g .seat) k 0)
 
-  abbrev limitWith : ℕ → ℕ → ℕ
-  limitWith q n = cond (ltb t (heldOf x q .until)) (lesser (heldOf x q .value) n) n
+  seat-is : (k : ℕ) (g : Leads) → leadTurn k g .seat ≡ cond (leadTaken k g) (set (g .seat) k (x .seat)) (g .seat)
+  unfolding leadStep
+  seat-is k g = refl
 
-  low-below : (n k : ℕ) → k < n → n ≤ length (g .low) → getD (lowsWith t x n g .low) k 0 ≡ limitWith (lowAt k) (getD (g .low) k 0)
-  unfolding turns lowStep
-  low-below zero k h s = absurd (omega arith)
-  low-below (suc n) k h s =
-      elim (ℕ-discrete k n) [
-        | yes e ↦ rw e (kept-here (ltb t (heldOf x (lowAt n) .until)) (lowsWith t x n g .low) n (lesser (heldOf x (lowAt n) .value) (getD (lowsWith t x n g .low) n 0)) (omega (arith, low-size n)) ∙ rw (low-above n n (omega arith)))
-        | no e ↦ kept-other (ltb t (heldOf x (lowAt n) .until)) (lowsWith t x n g .low) n (lesser (heldOf x (lowAt n) .value) (getD (lowsWith t x n g .low) n 0)) k e ∙ low-below n k (omega arith) (omega arith)
-      ]
+  lead-is : (k : ℕ) (g : Leads) → leadTurn k g .lead ≡ cond (leadTaken k g) (set (g .lead) k (heldOf x (leadAt k) .value)) (g .lead)
+  unfolding leadStep
+  lead-is k g = refl
 
-  -- its setpoints likewise: seat and value are taken together
-  abbrev taken : ℕ → ℕ → Bool
-  taken q k = takes t (heldOf x q .until) (x .seat) k
+  lead-next : (k : ℕ) (g : Leads) → leadTurn k g .next ≡ nearer t (g .next) (heldOf x (leadAt k) .until)
+  unfolding leadStep
+  lead-next k g = refl
 
-  seat-size : (n : ℕ) → length (leadsWith t x n g .seat) ≡ length (g .seat)
-  unfolding turns leadStep
-  seat-size zero = refl
-  seat-size (suc n) = kept-size (taken (leadAt n) (getD (leadsWith t x n g .seat) n 0)) (leadsWith t x n g .seat) n (x .seat) ∙ seat-size n
+  pub leads-add : (g : Leads) → x .seat ≤ most → Adds LeadsMet t x g (leadsWith t x leads g)
+  leads-add g s f m =
+      let seats : Leads → List ℕ = λ (g : Leads). g .seat in
+      let values : Leads → List ℕ = λ (g : Leads). g .lead in
+      let seat : ℕ → Leads → ℕ = λ (k : ℕ) (g : Leads). x .seat in
+      let value : ℕ → Leads → ℕ = λ (k : ℕ) (g : Leads). heldOf x (leadAt k) .value in
+      record {
+        seatSize = turns-size leadTurn seats leadTaken seat seat-is g leads ∙ m .seatSize;
+        leadSize = turns-size leadTurn values leadTaken value lead-is g leads ∙ m .leadSize;
+        lead = λ k h.
+            rw (
+              turns-below leadTurn seats leadTaken seat seat-is g leads k h (omega (arith, m .seatSize)),
+              turns-below leadTurn values leadTaken value lead-is g leads k h (omega (arith, m .leadSize)),
+              turns-above leadTurn seats leadTaken seat seat-is g k k (omega arith),
+            )
+            (lead-more t (leadAt k) (f (leadAt k)) x e (lead-setpoint k h) (getD (g .seat) k 0) (getD (g .lead) k 0) (m .lead k h) s);
+      }
 
-  lead-size : (n : ℕ) → length (leadsWith t x n g .lead) ≡ length (g .lead)
-  unfolding turns leadStep
-  lead-size zero = refl
-  lead-size (suc n) = kept-size (taken (leadAt n) (getD (leadsWith t x n g .seat) n 0)) (leadsWith t x n g .lead) n (heldOf x (leadAt n) .value) ∙ lead-size n
-
-  seat-above : (n k : ℕ) → n ≤ k → getD (leadsWith t x n g .seat) k 0 ≡ getD (g .seat) k 0
-  unfolding turns leadStep
-  seat-above zero k h = refl
-  seat-above (suc n) k h = kept-other (taken (leadAt n) (getD (leadsWith t x n g .seat) n 0)) (leadsWith t x n g .seat) n (x .seat) k (λ e. omega arith) ∙ seat-above n k (omega arith)
-
-  lead-above : (n k : ℕ) → n ≤ k → getD (leadsWith t x n g .lead) k 0 ≡ getD (g .lead) k 0
-  unfolding turns leadStep
-  lead-above zero k h = refl
-  lead-above (suc n) k h = kept-other (taken (leadAt n) (getD (leadsWith t x n g .seat) n 0)) (leadsWith t x n g .lead) n (heldOf x (leadAt n) .value) k (λ e. omega arith) ∙ lead-above n k (omega arith)
-
-  seat-below : (n k : ℕ) → k < n → n ≤ length (g .seat) → getD (leadsWith t x n g .seat) k 0 ≡ cond (taken (leadAt k) (getD (g .seat) k 0)) (x .seat) (getD (g .seat) k 0)
-  unfolding turns leadStep
-  seat-below zero k h s = absurd (omega arith)
-  seat-below (suc n) k h s =
-      elim (ℕ-discrete k n) [
-        | yes e ↦ rw e (kept-here (taken (leadAt n) (getD (leadsWith t x n g .seat) n 0)) (leadsWith t x n g .seat) n (x .seat) (omega (arith, seat-size n)) ∙ rw (seat-above n n (omega arith)))
-        | no e ↦ kept-other (taken (leadAt n) (getD (leadsWith t x n g .seat) n 0)) (leadsWith t x n g .seat) n (x .seat) k e ∙ seat-below n k (omega arith) (omega arith)
-      ]
-
-  lead-below : (n k : ℕ) → k < n → n ≤ length (g .lead) → getD (leadsWith t x n g .lead) k 0 ≡ cond (taken (leadAt k) (getD (g .seat) k 0)) (heldOf x (leadAt k) .value) (getD (g .lead) k 0)
-  unfolding turns leadStep
-  lead-below zero k h s = absurd (omega arith)
-  lead-below (suc n) k h s =
-      elim (ℕ-discrete k n) [
-        | yes e ↦ rw e (kept-here (taken (leadAt n) (getD (leadsWith t x n g .seat) n 0)) (leadsWith t x n g .lead) n (heldOf x (leadAt n) .value) (omega (arith, lead-size n)) ∙ rw (seat-above n n (omega arith), lead-above n n (omega arith)))
-        | no e ↦ kept-other (taken (leadAt n) (getD (leadsWith t x n g .seat) n 0)) (leadsWith t x n g .lead) n (heldOf x (leadAt n) .value) k e ∙ lead-below n k (omega arith) (omega arith)
-      ]
-
-module _ (t : ℕ) (x : Zone) (g : Met) (e : isJoined x ≡ true) where
-  -- the numbers with a joined zone's
-  pub lows-add : (n : ℕ) → Bounded x lows → (f : ℕ → Claim) → Meets n g f → (k : ℕ) → k < lows
-      → getD (lowsWith t x lows g .low) k 0 ≡ numberOf (better (lowAt k) (f (lowAt k)) (claimOf t (lowAt k) x))
-  lows-add n a f m k h =
-      low-below t x g lows k h (omega (arith, m .lowSize))
-      ∙ limit-more t (lowAt k) (f (lowAt k)) x e (lt-ltb k lows h) (getD (g .low) k 0) (m .low k h) (a k h)
-
-  pub leads-add : x .seat ≤ most → (f : ℕ → Claim) → Meets helds g f → (k : ℕ) → k < leads
-      → Leads (better (leadAt k) (f (leadAt k)) (claimOf t (leadAt k) x)) (getD (leadsWith t x leads g .seat) k 0) (getD (leadsWith t x leads g .lead) k 0)
-  leads-add s f m k h =
-      rw (seat-below t x g leads k h (omega (arith, m .seatSize)), lead-below t x g leads k h (omega (arith, m .leadSize)))
-      (lead-more t (leadAt k) (f (leadAt k)) x e (le-ltb (leadAt k) lows (omega arith)) (getD (g .seat) k 0) (getD (g .lead) k 0) (m .lead k h (omega arith)) s)
-
--- limits first, then setpoints: neither touches what the other has met
-pub zone-adds : (t : ℕ) (x : Zone) (g : Met) → isJoined x ≡ true → Bounded x lows → x .seat ≤ most → Adds helds t x g (leadsWith t x leads (lowsWith t x lows g))
-unfolding turns lowStep leadStep
-zone-adds t x g e a s f m =
-    let low : Met = lowsWith t x lows g in
-    let same : Meets helds (record { low = g .low; seat = g .seat; lead = g .lead; next = low .next }) f = record { lowSize = m .lowSize; seatSize = m .seatSize; leadSize = m .leadSize; low = m .low; lead = m .lead } in
-    record {
-      lowSize = low-size t x g lows ∙ m .lowSize;
-      seatSize = seat-size t x low leads ∙ m .seatSize;
-      leadSize = lead-size t x low leads ∙ m .leadSize;
-      low = lows-add t x g e helds a f m;
-      lead = λ k h l. leads-add t x (record { low = g .low; seat = g .seat; lead = g .lead; next = low .next }) e s f same k h;
-    }
-
--- the limits alone
-pub limits-add : (t : ℕ) (x : Zone) (g : Met) → isJoined x ≡ true → Bounded x lows → Adds lows t x g (lowsWith t x lows g)
-unfolding turns lowStep
-limits-add t x g e a f m =
-    record {
-      lowSize = low-size t x g lows ∙ m .lowSize;
-      seatSize = m .seatSize;
-      leadSize = m .leadSize;
-      low = lows-add t x g e lows a f m;
-      lead = λ k h l. absurd (omega arith);
-    }
-
-pub zone-ends : (t : ℕ) (x : Zone) (g : Met) → isJoined x ≡ true → leadsWith t x leads (lowsWith t x lows g) .next ≡ foldl (nearer t) (g .next) (zoneDues helds x)
-unfolding zoneDues upTo turns lowStep leadStep
-zone-ends t x g e = rw e
-
-pub limits-end : (t : ℕ) (x : Zone) (g : Met) → isJoined x ≡ true → lowsWith t x lows g .next ≡ foldl (nearer t) (g .next) (zoneDues lows x)
-unfolding zoneDues upTo turns lowStep
-limits-end t x g e = rw e
+  pub leads-end : (g : Leads) → leadsWith t x leads g .next ≡ foldl (nearer t) (g .next) (zoneDues leadAt leads x)
+  unfolding zoneDues
+  leads-end g = rw e (turns-next t leadTurn (λ (g : Leads). g .next) (λ k. heldOf x (leadAt k) .until) lead-next leads g)
 
 -- the loops over the limits and the setpoints of one zone
-pub lows-turn : (t : ℕ) (x : Zone) (k : ℕ) (g₀ g r : Met) (h : Held) → g ≡ lowsWith t x k g₀ → h ≡ heldOf x (lowAt k) → r ≡ lowStep t h k g → r ≡ lowsWith t x (k + 1) g₀
+pub lows-turn : (t : ℕ) (x : Zone) (k : ℕ) (g₀ g r : Lows) (h : Held) → g ≡ lowsWith t x k g₀ → h ≡ heldOf x (lowAt k) → r ≡ lowStep t h k g → r ≡ lowsWith t x (k + 1) g₀
 unfolding turns
 lows-turn t x k g₀ g r h e p q = q ∙ rw (p, e, add-one k)
 
-pub leads-turn : (t : ℕ) (x : Zone) (k : ℕ) (g₀ g r : Met) (h : Held) → g ≡ leadsWith t x k g₀ → h ≡ heldOf x (leadAt k) → r ≡ leadStep t h (x .seat) k g → r ≡ leadsWith t x (k + 1) g₀
+pub leads-turn : (t : ℕ) (x : Zone) (k : ℕ) (g₀ g r : Leads) (h : Held) (s : ℕ) → g ≡ leadsWith t x k g₀ → h ≡ heldOf x (leadAt k) → s ≡ x .seat
+    → r ≡ leadStep t h s k g → r ≡ leadsWith t x (k + 1) g₀
 unfolding turns
-leads-turn t x k g₀ g r h e p q = q ∙ rw (p, e, add-one k)
+leads-turn t x k g₀ g r h s e p i q = q ∙ rw (p, i, e, add-one k)
 
 -- what holds of all below k and of k holds of all below k + 1
 pub below-turn : (P : ℕ → Type 0) (k : ℕ) → ((j : ℕ) → j < k → P j) → P k → (j : ℕ) → j < k + 1 → P j
@@ -279,49 +280,59 @@ all-most zero k h = absurd (omega arith)
 all-most (suc n) zero h = refl
 all-most (suc n) (suc k) h = all-most n k (omega arith)
 
-pub none-low : (k : ℕ) → k < lows → getD (replicate lows most) k 0 ≡ numberOf noClaim
+pub none-lows : (n : ℕ) → LowsMet (record { low = replicate lows most; next = n }) (λ q. noClaim)
 unfolding numberOf
-none-low k h = all-most lows k h
+none-lows n = record { size = refl; low = λ k h. all-most lows k h }
 
-pub none-lead : (k : ℕ) → k < leads → Leads noClaim (getD (replicate leads most) k 0) (getD (replicate leads most) k 0)
+pub none-leads : (n : ℕ) → LeadsMet (record { seat = replicate leads most; lead = replicate leads most; next = n }) (λ q. noClaim)
 unfolding numberOf placeOf
-none-lead k h = record { place = all-most leads k h; number = all-most leads k h; small = omega arith }
-
--- ALL ZONES
-meets-along : (n : ℕ) (g : Met) (f h : ℕ → Claim) → ((q : ℕ) → h q ≡ f q) → Meets n g f → Meets n g h
-meets-along n g f h e m =
+none-leads n =
     record {
-      lowSize = m .lowSize;
-      seatSize = m .seatSize;
-      leadSize = m .leadSize;
-      low = λ k l. rw (e (lowAt k)) (m .low k l);
-      lead = λ k l b. rw (e (leadAt k)) (m .lead k l b);
+      seatSize = refl;
+      leadSize = refl;
+      lead = λ k h. record { place = all-most leads k h; number = all-most leads k h; small = omega arith };
     }
 
--- the claims that win among the first i zones, and the next end of their first n quantities, or `start`
-abbrev pub Passed : ℕ → ℕ → ℕ → List Zone → ℕ → Met → Type 0
-Passed n start t zs i g = Meets n g (λ q. winner t q (take i zs)) × (g .next ≡ foldl (nearer t) start (heldDues n (take i zs)))
+-- ALL ZONES, by the kind of quantity: what its numbers stand for, and when the k-th of it ends
+abbrev pub Along : {G : Type 0} → (G → (ℕ → Claim) → Type 0) → Type 0
+Along {G} P = (g : G) (f h : ℕ → Claim) → ((q : ℕ) → h q ≡ f q) → P g f → P g h
 
-pub pass-none : (n start t : ℕ) (zs : List Zone) (g : Met) → NoneMet g → g .next ≡ start → Passed n start t zs 0 g
-unfolding winner heldDues
-pass-none n start t zs g m e = (m n, e)
+abbrev pub lowNext : Lows → ℕ
+lowNext g = g .next
 
-module _ (n : ℕ) where
-  dues-more : (zs : List Zone) (x : Zone) → heldDues n (zs ++ (x ∷ [])) ≡ heldDues n zs ++ zoneDues n x
+abbrev pub leadNext : Leads → ℕ
+leadNext g = g .next
+
+pub lows-along : Along LowsMet
+lows-along g f h e m = record { size = m .size; low = λ k l. rw (e (lowAt k)) (m .low k l) }
+
+pub leads-along : Along LeadsMet
+leads-along g f h e m = record { seatSize = m .seatSize; leadSize = m .leadSize; lead = λ k l. rw (e (leadAt k)) (m .lead k l) }
+
+module _ (at : ℕ → ℕ) (n : ℕ) where
+  dues-more : (zs : List Zone) (x : Zone) → heldDues at n (zs ++ (x ∷ [])) ≡ heldDues at n zs ++ zoneDues at n x
   unfolding heldDues
-  dues-more [] x = append-nil (zoneDues n x)
-  dues-more (z ∷ zs) x = ap (λ (l : List ℕ). zoneDues n z ++ l) (dues-more zs x) ∙ sym (append-assoc (zoneDues n z) (heldDues n zs) (zoneDues n x))
+  dues-more [] x = append-nil (zoneDues at n x)
+  dues-more (z ∷ zs) x = ap (λ (l : List ℕ). zoneDues at n z ++ l) (dues-more zs x) ∙ sym (append-assoc (zoneDues at n z) (heldDues at n zs) (zoneDues at n x))
 
-module _ (n start t : ℕ) (zs : List Zone) (i : ℕ) where
-  pub pass-turn : (x : Zone) (g r : Met) → i < length zs → x ≡ getD zs i freeZone → Passed n start t zs i g → Adds n t x g r
-      → r .next ≡ foldl (nearer t) (g .next) (zoneDues n x) → Passed n start t zs (i + 1) r
+module _ {G : Type 0} (P : G → (ℕ → Claim) → Type 0) (next : G → ℕ) (at : ℕ → ℕ) (n start t : ℕ) (zs : List Zone) where
+  -- the claims that win among the first i zones, and the next end of theirs, or `start`
+  abbrev pub Passed : ℕ → G → Type 0
+  Passed i g = P g (λ q. winner t q (take i zs)) × (next g ≡ foldl (nearer t) start (heldDues at n (take i zs)))
+
+  pub pass-none : (g : G) → P g (λ q. noClaim) → next g ≡ start → Passed 0 g
+  unfolding winner heldDues
+  pass-none g m e = (m, e)
+
+  pub pass-turn : (i : ℕ) → Along P → (x : Zone) (g r : G) → i < length zs → x ≡ getD zs i freeZone → Passed i g → Adds P t x g r
+      → next r ≡ foldl (nearer t) (next g) (zoneDues at n x) → Passed (i + 1) r
   unfolding winner
-  pass-turn x g r h e p a d =
+  pass-turn i along x g r h e p a d =
       let more : take (i + 1) zs ≡ take i zs ++ (x ∷ []) = rw (add-one i, e) (take-suc zs i freeZone h) in (
-        meets-along n r (λ q. better q (winner t q (take i zs)) (claimOf t q x)) (λ q. winner t q (take (i + 1) zs)) (λ q. rw more (foldl-append _ _ (take i zs) (x ∷ [])))
+        along r (λ q. better q (winner t q (take i zs)) (claimOf t q x)) (λ q. winner t q (take (i + 1) zs)) (λ q. rw more (foldl-append _ _ (take i zs) (x ∷ [])))
             (a (λ q. winner t q (take i zs)) (p .0)),
-        d ∙ rw (p .1, more, dues-more n (take i zs) x) (sym (foldl-append (nearer t) start (heldDues n (take i zs)) (zoneDues n x))),
+        d ∙ rw (p .1, more, dues-more at n (take i zs) x) (sym (foldl-append (nearer t) start (heldDues at n (take i zs)) (zoneDues at n x))),
       )
 
-  pub pass-end : (g : Met) → length zs ≤ i → Passed n start t zs i g → Meets n g (λ q. winner t q zs) × (g .next ≡ foldl (nearer t) start (heldDues n zs))
-  pass-end g h p = rw (take-all i zs h) at p
+  pub pass-end : (i : ℕ) (g : G) → length zs ≤ i → Passed i g → P g (λ q. winner t q zs) × (next g ≡ foldl (nearer t) start (heldDues at n zs))
+  pass-end i g h p = rw (take-all i zs h) at p

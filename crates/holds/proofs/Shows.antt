@@ -1,8 +1,8 @@
 -- The table of links, row by row: what is shown of the numbers that stand for the winning claims, or of the failsafe limits.
-use Prim.Native.Nat.{ℕ, suc, _+_, _-_, _<_, _≤_}
+use Prim.Native.Nat.{ℕ, zero, suc, _+_, _-_, _<_, _≤_}
 use mathlib.Core.Bool.{Bool, true, false, cond, not, _&&_, _||_}
 use mathlib.Core.Path.{_≡_, refl, sym, ap, _∙_}
-use mathlib.Core.List.{List, [], _∷_, foldl}
+use mathlib.Core.List.{List, [], _∷_, foldl, foldl-append}
 use native.Mathlib.Omega.{arith}
 use native.Mathlib.Decide.{decLt, ℕ-discrete}
 use native.Mathlib.Numerals.{add-one}
@@ -10,26 +10,27 @@ use borrow.Author.Tests.{le-leb, lt-ltb, le-ltb, ltb-true, ltb-false}
 use Rattle.store.proofs.Runs.{upTo-list, upTo-cong}
 use lib.Dec.{ltb, eqb}
 use lib.IntN.{ℤ, pos, negsuc}
-use lib.ListN.{length, getD, set}
+use lib.ListN.{length, getD, set, length-set}
 use lib.Seq.{getD-set-same, getD-set-other}
 use lib.Signed.{leZ, nonNeg}
-use Rattle.messages.specs.Numbers.{AUTONOMOUS, CONTROLLED, LIMITED, OVERRIDE}
+use Rattle.messages.specs.Numbers.{AUTONOMOUS, CONTROLLED, LIMITED, FAILSAFE, OVERRIDE}
 use Rattle.messages.specs.declared.Amount.{Amount}
 use Rattle.messages.specs.declared.Amount.the-variants.{Absent, Is}
-use Rattle.store.specs.Sizes.{helds, most, end, valueEnd}
+use Rattle.quantities.specs.Quantities.{helds, isLimit, isSetpoint, lowAt, leadAt, directionOf, supports}
+use Rattle.store.specs.Sizes.{most, end, valueEnd}
 use Rattle.store.specs.Zones.{upTo, anyJoined, anyUp}
 use Rattle.holds.specs.Links.{linkRow}
-use Rattle.holds.specs.Holds.{lows, Claim, isLimit, directionOf, supports, winner, amountOf, Situation, inFailsafe, smallestWith, failsafeValue, valueAt, present, stateAt, shown, valuesAt}
-use Rattle.holds.specs.Dues.{heldDues, dues, nearer, nearest}
-use Rattle.holds.specs.Pass.{lesser, numberOf, Meets, shownIf, stateUp, stateDown, numberIn, shownIn, valuesUp, valuesNone, shownSafe, valuesDown}
-use Rattle.holds.specs.declared.tops.Met.{Met}
+use Rattle.holds.specs.Holds.{Claim, winner, amountOf, Situation, inFailsafe, smallestWith, failsafeValue, valueAt, present, stateAt, shown, valuesAt}
+use Rattle.holds.specs.Dues.{lowDues, leadDues, dues, nearer, nearest}
+use Rattle.holds.specs.Pass.{lesser, numberOf, LowsMet, LeadsMet, topOf, shownBelow, numberIn, shownIn, Filled, stateUp, stateDown, valuesUp, valuesNone, safeNumber, shownSafe, valuesDown}
+use Rattle.store.specs.declared.Settings.{Settings}
+use Rattle.holds.specs.declared.tops.Lows.{Lows}
+use Rattle.holds.specs.declared.tops.Leads.{Leads}
 use Rattle.store.proofs.Tests.{never}
 use Rattle.holds.proofs.Ends.{lesser-swap}
+use Rattle.holds.proofs.Places.{setpoint-place, setpoint-no-limit, no-setpoint, limit-at, current-at}
 
 -- an array filled behind its first place, which is stored last
-abbrev pub Filled : (ℕ → ℤ) → List ℤ → ℕ → Type 0
-Filled f v n = (k : ℕ) → k < n → getD v (k + 1) (pos 0) ≡ f k
-
 pub fill-more : (f : ℕ → ℤ) (v : List ℤ) (q : ℕ) (a : ℤ) → q + 1 < length v → Filled f v q → a ≡ f q → Filled f (set v (q + 1) a) (q + 1)
 fill-more f v q a h inv e k l =
     elim (ℕ-discrete k q) [
@@ -43,9 +44,33 @@ filled n f (b ∷ v) a e each =
     ap (λ (l : List ℤ). a ∷ l) (sym (upTo-list f n v (pos 0) (omega arith) (λ k h. sym (each k h) ∙ rw (add-one k))))
 
 -- the values of the first row, once all are shown and the control state is stored
-pub up-filled : (has o : ℕ) (g : Met) (v : List ℤ) (st a b : ℤ) → length v ≡ 1 + helds → Filled (shownIn has g) v helds → st ≡ stateUp o a b → a ≡ getD v 1 (pos 0) → b ≡ getD v 2 (pos 0) → set v 0 st ≡ valuesUp has o g
+pub up-filled : (has o : ℕ) (low lead : List ℕ) (v : List ℤ) (st a b : ℤ) → length v ≡ 1 + helds → Filled (shownIn has low lead) v helds → st ≡ stateUp o a b
+    → a ≡ getD v 1 (pos 0) → b ≡ getD v 2 (pos 0) → set v 0 st ≡ valuesUp has o low lead
 unfolding valuesUp
-up-filled has o g v st a b e fl p q r = filled helds (shownIn has g) v st e fl ∙ rw (p, q, r, fl 0 (omega arith), fl 1 (omega arith))
+up-filled has o low lead v st a b e fl p q r = filled helds (shownIn has low lead) v st e fl ∙ rw (p, q, r, fl 0 (omega arith), fl 1 (omega arith))
+
+-- a bound for each direction: where it is not supported nothing lies below
+pub top-small : (has d : ℕ) → topOf has d ≤ valueEnd
+unfolding topOf
+top-small has d = go (supports has d)
+  where
+    go : (b : Bool) → cond b valueEnd 0 ≤ valueEnd
+    go true = omega arith
+    go false = omega arith
+
+-- one bound for each direction, by its number
+pub top-at : (has m : ℕ) → m < 2 → getD (topOf has 0 ∷ topOf has 1 ∷ []) m 0 ≡ topOf has m
+top-at has zero h = refl
+top-at has (suc zero) h = refl
+top-at has (suc (suc m)) h = absurd (omega arith)
+
+below-shown : (has d v : ℕ) → shownBelow (topOf has d) v ≡ cond (supports has d) (shown (Is v)) (negsuc 0)
+unfolding shownBelow topOf shown
+below-shown has d v = go (supports has d)
+  where
+    go : (b : Bool) → cond (ltb v (cond b valueEnd 0)) (pos v) (negsuc 0) ≡ cond b (cond (ltb v valueEnd) (pos v) (negsuc 0)) (negsuc 0)
+    go true = refl
+    go false = rw (le-ltb v 0 (omega arith))
 
 -- the largest word shows as absent
 number-shown : (a : Claim) → shown (Is (numberOf a)) ≡ shown (amountOf a)
@@ -87,15 +112,63 @@ present-shown (Is v) = go (ltb v valueEnd)
     go true = refl
     go false = refl
 
+-- the power limits stand first, and storing the first leaves the second
+module _ (g : Lows) (f : ℕ → Claim) (m : LowsMet g f) where
+  pub first-met : getD (g .low) 0 0 ≡ numberOf (f 0)
+  first-met = rw (limit-at 0 (omega arith)) at (m .low 0 (omega arith))
+
+  pub second-met : (v : ℕ) → getD (set (g .low) 0 v) 1 0 ≡ numberOf (f 1)
+  second-met v = getD-set-other (g .low) 0 1 v 0 (λ e. omega arith) ∙ (rw (limit-at 1 (omega arith)) at (m .low 1 (omega arith)))
+
+-- THE SECOND ROW's numbers: the limits with the failsafe's, the currents as they were met, no setpoint
+module _ (s : Settings) (g : Lows) (f : ℕ → Claim) (m : LowsMet g f) (a b : ℕ) (ea : a ≡ smallestWith (getD (s .failsafe) 0 0) (f 0))
+    (eb : b ≡ smallestWith (getD (s .failsafe) 1 0) (f 1)) where
+  abbrev safeLows : List ℕ
+  safeLows = set (set (g .low) 0 a) 1 b
+
+  safe-limit : (q : ℕ) → q < 2 → getD safeLows q 0 ≡ smallestWith (getD (s .failsafe) q 0) (f q)
+  safe-limit zero h = getD-set-other (set (g .low) 0 a) 1 0 b 0 (λ e. omega arith) ∙ getD-set-same (g .low) 0 a 0 (omega (arith, m .size)) ∙ ea
+  safe-limit (suc zero) h = getD-set-same (set (g .low) 0 a) 1 b 0 (rw length-set (omega (arith, m .size))) ∙ eb
+  safe-limit (suc (suc q)) h = absurd (omega arith)
+
+  safe-current : (q : ℕ) → 4 ≤ q → q < helds → getD safeLows (q - 2) 0 ≡ numberOf (f q)
+  safe-current q l h =
+      getD-set-other (set (g .low) 0 a) 1 (q - 2) b 0 (λ e. omega arith)
+      ∙ getD-set-other (g .low) 0 (q - 2) a 0 (λ e. omega arith)
+      ∙ rw (current-at q l) at (m .low (q - 2) (omega arith))
+
+  pub safe-number : (q : ℕ) → q < helds → numberIn safeLows (most ∷ most ∷ []) q ≡ safeNumber s f q
+  unfolding numberIn safeNumber
+  safe-number q h = go (isLimit q) (isSetpoint q) refl refl
+    where
+      go : (l p : Bool) → isLimit q ≡ l → isSetpoint q ≡ p
+          → cond l (getD safeLows q 0) (cond p (getD (most ∷ most ∷ []) (q - 2) 0) (getD safeLows (q - 2) 0))
+          ≡ cond l (smallestWith (getD (s .failsafe) q 0) (f q)) (cond p most (numberOf (f q)))
+      go true p e d = safe-limit q (ltb-true q 2 e)
+      go false true e d = two (q - 2) (let k : (2 ≤ q) × (q < 4) = setpoint-place q d in omega arith)
+        where
+          two : (n : ℕ) → n < 2 → getD (most ∷ most ∷ []) n 0 ≡ most
+          two zero k = refl
+          two (suc zero) k = refl
+          two (suc (suc n)) k = absurd (omega arith)
+      go false false e d = safe-current q (no-setpoint q d (ltb-false q 2 e)) h
+
+  -- the values of the second row, once all are shown and the control state is stored
+  pub safe-filled : (v : List ℤ) → length v ≡ 1 + helds → Filled (shownIn (s .directions) safeLows (most ∷ most ∷ [])) v helds
+      → set v 0 (pos FAILSAFE) ≡ pos FAILSAFE ∷ upTo (shownSafe s f) helds
+  unfolding shownIn shownSafe
+  safe-filled v e fl =
+      filled helds (shownSafe s f) v (pos FAILSAFE) e (λ k h. fl k h ∙ ap (shownBelow (topOf (s .directions) (directionOf k))) (safe-number k h))
+
 module _ (s : Situation) (t : ℕ) where
   abbrev has : ℕ
   has = s .settings .directions
 
   -- SOME ZONE UP
   module _ (up : anyUp (s .zones) ≡ true) where
-    value-up : (q n : ℕ) → n ≡ numberOf (winner t q (s .zones)) → shownIf has (directionOf q) n ≡ shown (valueAt s t q)
-    unfolding shownIf valueAt shown
-    value-up q n e = rw (up, e) (go (supports has (directionOf q)))
+    value-up : (q n : ℕ) → n ≡ numberOf (winner t q (s .zones)) → shownBelow (topOf has (directionOf q)) n ≡ shown (valueAt s t q)
+    unfolding valueAt shown
+    value-up q n e = below-shown has (directionOf q) n ∙ rw (up, e) (go (supports has (directionOf q)))
       where
         go : (b : Bool) → cond b (shown (Is (numberOf (winner t q (s .zones))))) (negsuc 0) ≡ shown (cond b (amountOf (winner t q (s .zones))) Absent)
         go true = number-shown (winner t q (s .zones))
@@ -110,25 +183,29 @@ module _ (s : Situation) (t : ℕ) where
         go false true = refl
         go false false = refl
 
-    module _ (g : Met) (m : Meets helds g (λ q. winner t q (s .zones))) where
-      number-up : (q : ℕ) → q < helds → numberIn g q ≡ numberOf (winner t q (s .zones))
+    module _ (a : Lows) (b : Leads) (m : LowsMet a (λ q. winner t q (s .zones))) (n : LeadsMet b (λ q. winner t q (s .zones))) where
+      number-up : (q : ℕ) → q < helds → numberIn (a .low) (b .lead) q ≡ numberOf (winner t q (s .zones))
       unfolding numberIn
-      number-up q h = go (isLimit q) refl
+      number-up q h = go (isLimit q) (isSetpoint q) refl refl
         where
-          go : (b : Bool) → isLimit q ≡ b → cond b (getD (g .low) q 0) (getD (g .lead) (q - lows) 0) ≡ numberOf (winner t q (s .zones))
-          go true e = m .low q (ltb-true q lows e)
-          go false e =
-              let past : lows ≤ q = ltb-false q lows e in
-              let back : lows + (q - lows) ≡ q = omega arith in
-              rw back at (m .lead (q - lows) (omega arith) (omega arith) .number)
+          go : (l p : Bool) → isLimit q ≡ l → isSetpoint q ≡ p
+              → cond l (getD (a .low) q 0) (cond p (getD (b .lead) (q - 2) 0) (getD (a .low) (q - 2) 0)) ≡ numberOf (winner t q (s .zones))
+          go true p e d = let k : q < 2 = ltb-true q 2 e in rw (limit-at q k) at (m .low q (omega arith))
+          go false true e d =
+              let k : (2 ≤ q) × (q < 4) = setpoint-place q d in
+              let back : 2 + (q - 2) ≡ q = omega arith in
+              rw back at (n .lead (q - 2) (omega arith) .number)
+          go false false e d =
+              let k : 4 ≤ q = no-setpoint q d (ltb-false q 2 e) in
+              rw (current-at q k) at (m .low (q - 2) (omega arith))
 
-      shown-up : (q : ℕ) → q < helds → shownIn has g q ≡ shown (valueAt s t q)
+      shown-up : (q : ℕ) → q < helds → shownIn has (a .low) (b .lead) q ≡ shown (valueAt s t q)
       unfolding shownIn
-      shown-up q h = value-up q (numberIn g q) (number-up q h)
+      shown-up q h = value-up q (numberIn (a .low) (b .lead) q) (number-up q h)
 
-      pub values-up : valuesUp has (s .override) g ≡ valuesAt s t
+      pub values-up : valuesUp has (s .override) (a .low) (b .lead) ≡ valuesAt s t
       unfolding valuesUp valuesAt
-      values-up = rw (upTo-cong (shownIn has g) (λ q. shown (valueAt s t q)) helds shown-up, shown-up 0 (omega arith), shown-up 1 (omega arith), state-up)
+      values-up = rw (upTo-cong (shownIn has (a .low) (b .lead)) (λ q. shown (valueAt s t q)) helds shown-up, shown-up 0 (omega arith), shown-up 1 (omega arith), state-up)
 
   -- NO ZONE UP
   module _ (down : anyUp (s .zones) ≡ false) where
@@ -139,37 +216,48 @@ module _ (s : Situation) (t : ℕ) where
     unfolding inFailsafe
     failsafe-is = rw down
 
-    abbrev safeLimit : ℕ → ℕ
-    safeLimit q = smallestWith (getD (s .settings .failsafe) q 0) (winner t q (s .zones))
+    abbrev best : ℕ → Claim
+    best q = winner t q (s .zones)
 
-    limit-down : (q : ℕ) → isLimit q ≡ true → safe ≡ true → shownIf has (directionOf q) (safeLimit q) ≡ shown (valueAt s t q)
-    unfolding shownIf valueAt failsafeValue shown
-    limit-down q l e = rw (down, failsafe-is, e, l) (go (supports has (directionOf q)))
+    safe-shown : (q : ℕ) → safe ≡ true → shownSafe (s .settings) best q ≡ shown (valueAt s t q)
+    unfolding shownSafe safeNumber valueAt failsafeValue shown
+    safe-shown q e = below-shown has (directionOf q) (safeNumber (s .settings) best q) ∙ rw (down, failsafe-is, e) (go (supports has (directionOf q)) (isLimit q) (isSetpoint q))
       where
-        go : (b : Bool) → cond b (shown (Is (safeLimit q))) (negsuc 0) ≡ shown (cond b (Is (safeLimit q)) Absent)
+        limit : ℕ
+        limit = smallestWith (getD (s .settings .failsafe) q 0) (best q)
+
+        go : (b l p : Bool) → cond b (shown (Is (cond l limit (cond p most (numberOf (best q)))))) (negsuc 0) ≡ shown (cond b (cond l (Is limit) (cond p Absent (amountOf (best q)))) Absent)
+        go true true p = refl
+        go true false true = refl
+        go true false false = number-shown (best q)
+        go false l p = refl
+
+    absent-down : (q : ℕ) → safe ≡ false → valueAt s t q ≡ Absent
+    unfolding valueAt
+    absent-down q e = rw (down, failsafe-is, e) (go (supports has (directionOf q)))
+      where
+        go : (a : Bool) → cond a Absent Absent ≡ Absent
         go true = refl
         go false = refl
 
-    absent-down : (q : ℕ) → (safe && isLimit q) ≡ false → valueAt s t q ≡ Absent
-    unfolding valueAt failsafeValue
-    absent-down q = rw (down, failsafe-is) (go (supports has (directionOf q)) safe (isLimit q))
-      where
-        go : (a b l : Bool) → (b && l) ≡ false → cond a (cond b (cond l (Is (safeLimit q)) Absent) Absent) Absent ≡ Absent
-        go false b l e = refl
-        go true true true e = absurd (never e)
-        go true true false e = refl
-        go true false l e = refl
+    absent-shown : (q : ℕ) → safe ≡ false → shown (valueAt s t q) ≡ negsuc 0
+    unfolding shown
+    absent-shown q e = rw (absent-down q e)
 
-    values-safe : safe ≡ true → valuesDown (s .settings) (s .override) true (λ q. winner t q (s .zones)) ≡ valuesAt s t
-    unfolding valuesDown shownSafe valuesAt stateAt shown upTo
-    values-safe e = rw (failsafe-is ∙ e, limit-down 0 refl e, limit-down 1 refl e, absent-down 2 (rw e), absent-down 3 (rw e))
+    values-safe : safe ≡ true → valuesDown (s .settings) (s .override) true best ≡ valuesAt s t
+    unfolding valuesDown valuesAt stateAt
+    values-safe e = rw (failsafe-is ∙ e, upTo-cong (shownSafe (s .settings) best) (λ q. shown (valueAt s t q)) helds (λ q h. safe-shown q e))
 
     values-open : safe ≡ false → valuesNone (s .override) ≡ valuesAt s t
-    unfolding valuesNone valuesAt stateAt stateDown present shown upTo
+    unfolding valuesNone valuesAt stateAt stateDown present
     values-open e =
-        rw (failsafe-is ∙ e, down, absent-down 0 (rw e), absent-down 1 (rw e), absent-down 2 (rw e), absent-down 3 (rw e)) (go (not (eqb (s .override) 0)))
+        rw (failsafe-is ∙ e, down, absent-down 0 e, absent-down 1 e, upTo-cong (λ q. negsuc 0) (λ q. shown (valueAt s t q)) helds (λ q h. sym (absent-shown q e)))
+        (go (not (eqb (s .override) 0)))
       where
-        go : (a : Bool) → cond a (pos OVERRIDE) (pos AUTONOMOUS) ∷ negsuc 0 ∷ negsuc 0 ∷ negsuc 0 ∷ negsuc 0 ∷ [] ≡ pos (cond a OVERRIDE AUTONOMOUS) ∷ negsuc 0 ∷ negsuc 0 ∷ negsuc 0 ∷ negsuc 0 ∷ []
+        vs : List ℤ
+        vs = upTo (λ q. shown (valueAt s t q)) helds
+
+        go : (a : Bool) → cond a (pos OVERRIDE) (pos AUTONOMOUS) ∷ vs ≡ pos (cond a OVERRIDE AUTONOMOUS) ∷ vs
         go true = refl
         go false = refl
 
@@ -214,12 +302,12 @@ module _ (s : Situation) where
       go false true n m = absurd (m refl)
       go false false n m = (refl, refl)
 
-  pub due-up : (t : ℕ) → anyUp (s .zones) ≡ true → nearest t (heldDues helds (s .zones)) ≡ nearest t (dues s)
-  unfolding dues
-  due-up t e = rw e
+  pub due-up : (t : ℕ) → anyUp (s .zones) ≡ true → foldl (nearer t) (foldl (nearer t) end (lowDues (s .zones))) (leadDues (s .zones)) ≡ nearest t (dues s)
+  unfolding dues nearest
+  due-up t e = rw e (sym (foldl-append (nearer t) end (lowDues (s .zones)) (leadDues (s .zones))))
 
   pub due-down : (t : ℕ) → anyUp (s .zones) ≡ false → anyJoined (s .zones) ≡ true
-      → foldl (nearer t) (nearer t end (s .since + s .settings .duration)) (heldDues lows (s .zones)) ≡ nearest t (dues s)
+      → foldl (nearer t) (nearer t end (s .since + s .settings .duration)) (lowDues (s .zones)) ≡ nearest t (dues s)
   unfolding dues nearest
   due-down t e j = rw (e, j)
 

@@ -111,7 +111,9 @@ fn state_up(overridden: u64, a: i64, b: i64) -> i64
 fn values_up(d: &State, a: Lows, b: Leads) -> [i64; VALUES]
     ensures { λ r. ⌜ r ≡ valuesUp (settingsOf (now (d .entry)) .directions) (overrideOf (now (d .entry))) (a .low) (b .lead) ⌝ }
 {
-    let mut v = row(settings_at(d).directions, a.low, b.lead);
+    let low = a.low;
+    let lead = b.lead;
+    let mut v = row(settings_at(d).directions, low, lead);
     v[0] = state_up(overridden(d), v[1], v[2]);
     v
 }

@@ -9,17 +9,31 @@ use Rattle.holds.proofs.Ends.{lesser-swap}
 use Rattle.holds.proofs.tops.low_with.Statement.{statement}
 use Rattle.holds.proofs.tops.low_with.Tie as tie
 
-pub low-with-spec : {M : Type 1} → statement M
+mul-least : tie.Need-mul-least
+mul-least c = search needs
+
+array-read-least : tie.Need-array-read-least
+array-read-least c = search needs
+
+least-requires : tie.Need-least-requires
+least-requires c κs = search needs
+
+mul-low : tie.Need-mul-low
+mul-low c = search needs
+
+array-write-low : tie.Need-array-write-low
+array-write-low c = search needs
+
+least-requires-2 : tie.Need-least-requires-2
+least-requires-2 c κs = search needs
+
+returns : tie.Need-returns
 unfolding lowStep nearer lesser
-low-with-spec =
-    tie.close
-    (tie.spec
-    (λ c. search needs) (λ c. search needs) (λ c κs. search needs) (λ c. search needs) (λ c. search needs)
-    (λ c κs. search needs)
-    (λ c.
-    let at-if1 = c .before .before .before .if1 in
-    let at-args = c .before .before .before .before .before .before .before .args in (
-      rw (c .before .least .ensures, c .least2 .ensures ∙ lesser-swap (at-args .g .next) (at-args .h .until), lt-ltb _ _ (at-if1 .taken)),
-      omega arith,
-    ))
-    (λ c. (rw (le-ltb _ _ (c .if1 .left)), omega arith)))
+returns c = (rw (c .before .least .ensures, c .least2 .ensures ∙ lesser-swap (c .before .before .before .before .before .args .g .next) (c .before .before .before .before .before .args .h .until), lt-ltb _ _ (c .before .before .before .if1 .taken)), omega arith)
+
+returns-2 : tie.Need-returns-2
+unfolding lowStep nearer lesser
+returns-2 c = (rw (le-ltb _ _ (c .if1 .left)), omega arith)
+
+pub low-with-spec : {M : Type 1} → statement M
+low-with-spec = tie.close (tie.spec mul-least array-read-least least-requires mul-low array-write-low least-requires-2 returns returns-2)

@@ -1,6 +1,7 @@
--- A limit stands among the limits, a setpoint among the setpoints, in the order of quantities.
+-- A limit stands among those that go by the smallest, a setpoint among the setpoints, a current behind the limits.
+use native.Mathlib.Omega.{arith}
 use borrow.Author.Needs.{needs}
-use borrow.Author.Tests.{lt-ltb, le-ltb}
+use borrow.Author.Tests.{lt-ltb, le-ltb, le-leb}
 use Rattle.holds.specs.Pass.{numberIn}
 use Rattle.holds.proofs.values.number_of.Statement.{statement}
 use Rattle.holds.proofs.values.number_of.Tie as tie
@@ -10,5 +11,8 @@ unfolding numberIn
 number-of-spec =
     tie.close
     (tie.spec
-    (λ c. search needs) (λ c. search needs) (λ c. rw (lt-ltb _ _ (c .if1 .taken))) (λ c. search needs)
-    (λ c. search needs) (λ c. rw (le-ltb _ _ (c .if1 .left))))
+    (λ c. search needs) (λ c. search needs) (λ c. rw (lt-ltb _ _ (c .if1 .taken)))
+    (λ c. search needs) (λ c. search needs)
+    (λ c. rw (le-ltb _ _ (c .before .if1 .left), le-leb _ _ (c .before .if1 .left), lt-ltb _ _ (c .if2 .taken)))
+    (λ c. search needs) (λ c. search needs)
+    (λ c. rw (le-ltb _ _ (c .before .if1 .left), le-leb _ _ (c .before .if1 .left), le-ltb _ _ (c .if2 .left))))

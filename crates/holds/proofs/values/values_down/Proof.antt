@@ -1,11 +1,8 @@
--- Each limit is the smaller of the failsafe limit and what the pass met; behind the end of the failsafe nothing holds.
-use native.Mathlib.Omega.{arith}
-use mir.Facts.{toZ-ofZ}
-use mir.Val.{SFits}
-use mir.Syntax.{w64}
+-- Each limit is the smaller of the failsafe limit and what the pass met, currents are what it met; behind the end of the failsafe nothing holds.
 use borrow.Author.Needs.{needs}
-use Rattle.holds.specs.Pass.{shownSafe, valuesDown}
+use Rattle.holds.specs.Pass.{valuesDown}
 use Rattle.store.proofs.Tests.{via}
+use Rattle.holds.proofs.Shows.{first-met, second-met, safe-filled}
 use Rattle.holds.proofs.values.values_down.Statement.{statement}
 use Rattle.holds.proofs.values.values_down.Tie as tie
 
@@ -18,58 +15,53 @@ since-requires c κs = search needs
 failsafe-holds-requires : tie.Need-failsafe-holds-requires
 failsafe-holds-requires c κs = search needs
 
-element-copy-out-shown-low : tie.Need-element-copy-out-shown-low
-element-copy-out-shown-low c = search needs
+element-copy-out-safe-low : tie.Need-element-copy-out-safe-low
+element-copy-out-safe-low c = search needs
 
-array-read-shown-low : tie.Need-array-read-shown-low
-array-read-shown-low c = search needs
+array-read-safe-low : tie.Need-array-read-safe-low
+array-read-safe-low c = search needs
 
-shown-low-requires : tie.Need-shown-low-requires
-shown-low-requires c κs = search needs
+safe-low-requires : tie.Need-safe-low-requires
+safe-low-requires c κs = search needs
 
-element-copy-out-shown-low-2 : tie.Need-element-copy-out-shown-low-2
-element-copy-out-shown-low-2 c = search needs
+array-write-low : tie.Need-array-write-low
+array-write-low c = search needs
 
-array-read-shown-low-2 : tie.Need-array-read-shown-low-2
-array-read-shown-low-2 c = search needs
+element-copy-out-safe-low-2 : tie.Need-element-copy-out-safe-low-2
+element-copy-out-safe-low-2 c = search needs
 
-shown-low-requires-2 : tie.Need-shown-low-requires-2
-shown-low-requires-2 c κs = search needs
+array-read-safe-low-2 : tie.Need-array-read-safe-low-2
+array-read-safe-low-2 c = search needs
+
+safe-low-requires-2 : tie.Need-safe-low-requires-2
+safe-low-requires-2 c κs = search needs
+
+array-write-low-2 : tie.Need-array-write-low-2
+array-write-low-2 c = search needs
+
+row-requires : tie.Need-row-requires
+row-requires c κs = search needs
+
+array-set-of-v : tie.Need-array-set-of-v
+array-set-of-v c = search needs
 
 returns : tie.Need-returns
-unfolding valuesDown shownSafe
+unfolding valuesDown
 returns c f m =
-    let at-shown-low = c .before .before .shown-low in
-    let at-if1 = c .before .before .before .before .if1 in
-    let at-failsafe-holds = c .before .before .before .before .before .failsafe-holds in
-    let at-since = c .before .before .before .before .before .before .since in
-    let at-settings-at = c .before .before .before .before .before .before .before .before .settings-at in
-    let a : SFits w64 (at-shown-low .result) = search needs in
-    let b : SFits w64 (c .shown-low2 .result) = search needs in
-    rw (
-      toZ-ofZ a,
-      toZ-ofZ b,
-      at-shown-low .ensures (f 0) (m .low 0 (omega arith)),
-      c .shown-low2 .ensures (f 1) (m .low 1 (omega arith)),
-      ← at-since .ensures,
-      ← at-settings-at .ensures,
-      via (at-failsafe-holds .ensures) (at-if1 .taken),
-    )
+    rw (← c .before .before .before .before .before .before .before .before .since .ensures, ← c .before .before .before .before .before .before .before .before .before .settings-at .ensures, via (c .before .before .before .before .before .before .before .failsafe-holds .ensures) (c .before .before .before .before .before .before .if1 .taken))
+    (safe-filled (c .before .before .before .before .before .before .before .before .before .settings-at .result) (c .before .before .before .before .before .before .before .before .before .before .args .g) f m (c .before .before .before .safe-low .result) (c .before .safe-low2 .result) (c .before .before .before .safe-low .ensures (f 0) (first-met (c .before .before .before .before .before .before .before .before .before .before .args .g) f m))
+    (c .before .safe-low2 .ensures (f 1) (second-met (c .before .before .before .before .before .before .before .before .before .before .args .g) f m (c .before .before .before .safe-low .result))) (c .row .result) (c .row .ensures .0) (c .row .ensures .1))
 
 values-none-requires : tie.Need-values-none-requires
 values-none-requires c κs = search needs
 
 returns-2 : tie.Need-returns-2
 unfolding valuesDown
-returns-2 c f m =
-    let at-failsafe-holds = c .before .before .failsafe-holds in
-    let at-since = c .before .before .before .since in
-    let at-settings-at = c .before .before .before .before .before .settings-at in
-    rw (← at-since .ensures, ← at-settings-at .ensures, via (at-failsafe-holds .ensures) (c .before .if1 .left)) (c .values-none .ensures)
+returns-2 c f m = rw (← c .before .before .before .since .ensures, ← c .before .before .before .before .settings-at .ensures, via (c .before .before .failsafe-holds .ensures) (c .before .if1 .left)) (c .values-none .ensures)
 
 pub values-down-spec : {M : Type 1} → statement M
 values-down-spec =
     tie.close
     (tie.spec
-    settings-at-requires since-requires failsafe-holds-requires element-copy-out-shown-low array-read-shown-low shown-low-requires element-copy-out-shown-low-2 array-read-shown-low-2
-    shown-low-requires-2 returns values-none-requires returns-2)
+    settings-at-requires since-requires failsafe-holds-requires element-copy-out-safe-low array-read-safe-low safe-low-requires array-write-low element-copy-out-safe-low-2
+    array-read-safe-low-2 safe-low-requires-2 array-write-low-2 row-requires array-set-of-v returns values-none-requires returns-2)
