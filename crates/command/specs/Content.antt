@@ -1,21 +1,18 @@
 -- What is asked of a command itself: 4, and 11 to 14. Assumes nothing: these are definitions.
-use Prim.Native.Nat.{ℕ, zero, suc, _+_, min}
-use mathlib.Core.Bool.{Bool, true, false, cond, not, _&&_, _||_}
+use Prim.Native.Nat.{ℕ}
+use mathlib.Core.Bool.{Bool, true, false, not, _&&_, _||_}
 use mathlib.Core.List.{List, [], _∷_}
-use lib.Dec.{ltb, leb, eqb}
-use lib.ListN.{getD}
-use lib.IntN.{ℤ, pos, negsuc}
+use lib.Dec.{leb, eqb}
 use Rattle.messages.specs.declared.Field.{Field}
-use Rattle.messages.specs.declared.Target.{Target}
 use Rattle.messages.specs.declared.Aim.{Aim}
-use Rattle.messages.specs.declared.Limits.{Limits}
-use Rattle.messages.specs.declared.Setpoints.{Setpoints}
 use Rattle.messages.specs.declared.Command.{Command}
 use Rattle.store.specs.Sizes.{helds}
 use Rattle.store.specs.declared.Settings.{Settings}
 use Rattle.quantities.specs.Quantities.{isCurrent, directionOf, phaseOf, supports}
+unfoldable pub use Rattle.fields.specs.Fields.{tooLow}
+use Rattle.fields.specs.Fields.{fieldTooLow}
 use Rattle.command.specs.declared.said.Kind.{Kind}
-use Rattle.command.specs.Says.{says, kindOf, isSet, aimOf, someOf, natural, fieldNames, fieldNegative}
+use Rattle.command.specs.Says.{says, kindOf, isSet, aimOf, someOf, fieldNames, fieldNegative}
 
 -- THE TESTS
 -- 4: the command is not served
@@ -70,16 +67,7 @@ invalid s c =
     || (not (someOf (λ q. fieldNames (says c q)) helds)
     || someOf (λ q. outside (s .phases) (says c q) q) helds))
 
--- 14: "a consumption limit below the minimum": the rule for a single value. 0 means off, and is never too low
-unfoldable pub tooLow : ℕ → ℕ → Bool
-tooLow minimum v = ltb 0 v && ltb v minimum
-
-abbrev pub fieldTooLow : ℕ → Field → Bool
-fieldTooLow minimum Field.Absent = false
-fieldTooLow minimum Field.Null = false
-fieldTooLow minimum (Field.Value v) = tooLow minimum (natural v)
-
--- quantity 0 is the consumption limit; a clear says no number
+-- 14: "a consumption limit below the minimum". Quantity 0 is the consumption limit; a clear says no number
 unfoldable pub belowTheMinimum : Settings → Command → Bool
 belowTheMinimum s c = fieldTooLow (s .minimum) (says c 0)
 

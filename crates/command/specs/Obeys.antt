@@ -1,15 +1,8 @@
 -- What a command leaves held. Assumes nothing: these are definitions.
-use Prim.Native.Nat.{ℕ, zero, suc, _+_, min}
-use mathlib.Core.Bool.{Bool, true, false, cond, not, _&&_, _||_}
-use mathlib.Core.List.{List, [], _∷_}
-use lib.Dec.{ltb, leb, eqb}
+use Prim.Native.Nat.{ℕ, min}
+use mathlib.Core.Bool.{cond}
 use lib.ListN.{getD}
-use lib.IntN.{ℤ, pos, negsuc}
 use Rattle.messages.specs.declared.Field.{Field}
-use Rattle.messages.specs.declared.Target.{Target}
-use Rattle.messages.specs.declared.Aim.{Aim}
-use Rattle.messages.specs.declared.Limits.{Limits}
-use Rattle.messages.specs.declared.Setpoints.{Setpoints}
 use Rattle.messages.specs.declared.Command.{Command}
 use Rattle.store.specs.Sizes.{helds, most}
 use Rattle.store.specs.Zones.{upTo, nothing, holding, heldOf}
@@ -17,6 +10,7 @@ use Rattle.store.specs.declared.Held.{Held}
 use Rattle.store.specs.declared.Zone.{Zone}
 use Rattle.store.specs.declared.Settings.{Settings}
 use Rattle.quantities.specs.Quantities.{isLimit, directionOf}
+unfoldable pub use Rattle.fields.specs.Fields.{untilOf}
 use Rattle.command.specs.declared.Action.{Action}
 use Rattle.command.specs.Says.{says, durationOf, natural}
 
@@ -35,10 +29,7 @@ topOf s q = cond (isLimit q) (getD (s .maxima) (directionOf q) 0) most
 unfoldable pub action : Settings → Command → ℕ → Action
 action s c q = fieldAction (topOf s q) (says c q)
 
--- "A value set at second n with duration d > 0 holds while t < n + d; duration 0 or omitted holds until replaced or cleared"
-unfoldable pub untilOf : ℕ → ℕ → ℕ
-untilOf n d = cond (eqb d 0) most (min (n + d) most)
-
+-- a value is replaced together with its end
 unfoldable pub done : Action → ℕ → Held → Held
 done Action.Keep end h = h
 done Action.Remove end h = nothing

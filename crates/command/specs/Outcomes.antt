@@ -1,49 +1,25 @@
 -- What a command is answered. Assumes nothing: these are definitions.
-use Prim.Native.Nat.{ℕ, zero, suc, _+_, min}
-use mathlib.Core.Bool.{Bool, true, false, cond, not, _&&_, _||_}
-use mathlib.Core.List.{List, [], _∷_}
-use lib.Dec.{ltb, leb, eqb}
+use Prim.Native.Nat.{ℕ, _+_}
+use mathlib.Core.Bool.{Bool, cond, _&&_, _||_}
+use mathlib.Core.List.{List}
+use lib.Dec.{leb, eqb}
 use lib.ListN.{getD}
-use lib.IntN.{ℤ, pos, negsuc}
-use Rattle.messages.specs.declared.Field.{Field}
-use Rattle.messages.specs.declared.Target.{Target}
-use Rattle.messages.specs.declared.Aim.{Aim}
-use Rattle.messages.specs.declared.Limits.{Limits}
-use Rattle.messages.specs.declared.Setpoints.{Setpoints}
+use lib.IntN.{ℤ, pos}
 use Rattle.messages.specs.declared.Command.{Command}
-use Rattle.messages.specs.Numbers.{belowMinimum, aboveContractual, invalidValue, overrideSet, notSupported}
 use Rattle.messages.specs.declared.Amount.{Amount}
-use Rattle.messages.specs.declared.Amount.the-variants.{Absent, Is}
 use Rattle.messages.specs.declared.Outcome.{Outcome}
 use Rattle.quantities.specs.Quantities.{currentAt}
 use Rattle.store.specs.Sizes.{helds}
 use Rattle.store.specs.declared.Settings.{Settings}
+unfoldable pub use Rattle.fields.specs.Fields.{reasonOf}
+pub use Rattle.fields.specs.Fields.{stated, fieldAbove}
 use Rattle.command.specs.Says.{says, someOf, natural}
 use Rattle.command.specs.Obeys.{topOf}
 
 -- WHAT IS ANSWERED
 -- "above contractual 1 (status 0)"
-abbrev pub fieldAbove : ℕ → Field → Bool
-fieldAbove top Field.Absent = false
-fieldAbove top Field.Null = false
-fieldAbove top (Field.Value v) = ltb top (natural v)
-
 unfoldable pub isCapped : Settings → Command → Bool
 isCapped s c = someOf (λ q. fieldAbove (topOf s q) (says c q)) helds
-
--- "below minimum 0 (status 14), above contractual 1 (status 0), invalid 2 (13), override 3 (12), not supported 4 (11)"
-unfoldable pub reasonOf : ℕ → Bool → Amount
-reasonOf n capped =
-    cond (eqb n 11) (Is notSupported)
-    (cond (eqb n 12) (Is overrideSet)
-    (cond (eqb n 13) (Is invalidValue)
-    (cond (eqb n 14) (Is belowMinimum)
-    (cond (eqb n 0 && capped) (Is aboveContractual) Absent))))
-
--- a value as a response has it: left out when absent
-abbrev pub stated : ℤ → Amount
-stated (pos v) = Is v
-stated (negsuc n) = Absent
 
 -- the results: "applied is false at 11 to 14"; the values are control state, limits, setpoints, currents
 abbrev pub limitOutcome : ℕ → Bool → List ℤ → Outcome

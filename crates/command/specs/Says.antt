@@ -1,43 +1,16 @@
 -- A command seen by quantity. Assumes nothing: these are definitions.
-use Prim.Native.Nat.{ℕ, zero, suc, _+_, min}
-use mathlib.Core.Bool.{Bool, true, false, cond, not, _&&_, _||_}
-use mathlib.Core.List.{List, [], _∷_}
-use lib.Dec.{ltb, leb, eqb}
-use lib.ListN.{getD}
-use lib.IntN.{ℤ, pos, negsuc}
+use Prim.Native.Nat.{ℕ, zero, suc}
+use mathlib.Core.Bool.{Bool, true, false, cond, _||_}
+use lib.Dec.{eqb}
 use Rattle.messages.specs.declared.Field.{Field}
-use Rattle.messages.specs.declared.Target.{Target}
 use Rattle.messages.specs.declared.Aim.{Aim}
-use Rattle.messages.specs.declared.Limits.{Limits}
-use Rattle.messages.specs.declared.Setpoints.{Setpoints}
-use Rattle.messages.specs.declared.Phases.{Phases}
 use Rattle.messages.specs.declared.CurrentLimits.{CurrentLimits}
 use Rattle.messages.specs.declared.Command.{Command}
 use Rattle.quantities.specs.Quantities.{isLimit, isSetpoint, isCurrent, directionOf, phaseOf}
+pub use Rattle.fields.specs.Fields.{limitField, targetField, setpointField, aimField, phaseField, negative, natural, fieldNames, fieldNegative}
 use Rattle.command.specs.declared.said.Kind.{Kind}
 
 -- A COMMAND SEEN BY QUANTITY: what it says of each, beside its kind, aim and duration. All else goes by these and the answers below.
--- the fields of a command, by direction
-abbrev pub limitField : Limits → ℕ → Field
-limitField m d = cond (eqb d 0) (m .consumption) (m .production)
-
--- a setpoint's field has no null
-abbrev pub targetField : Target → Field
-targetField Target.Absent = Field.Absent
-targetField (Target.Value v) = Field.Value v
-
-abbrev pub setpointField : Setpoints → ℕ → Field
-setpointField m d = cond (eqb d 0) (targetField (m .consumption)) (targetField (m .production))
-
--- "without one they clear both"
-abbrev pub aimField : Aim → ℕ → Field
-aimField Aim.Both d = Field.Null
-aimField (Aim.One e) d = cond (eqb e d) Field.Null Field.Absent
-
--- "a map of phase (A 0, B 1, C 2) to mA or null"
-abbrev pub phaseField : Phases → ℕ → Field
-phaseField m p = cond (eqb p 0) (m .a) (cond (eqb p 1) (m .b) (m .c))
-
 -- "2 direction": the map is of one direction, and says nothing of the other
 abbrev pub currentField : CurrentLimits → ℕ → Field
 currentField m q = cond (eqb (directionOf q) (m .direction)) (phaseField (m .phases) (phaseOf q)) Field.Absent
@@ -105,23 +78,3 @@ durationOf (Command.Unserved n) = 0
 unfoldable pub someOf : (ℕ → Bool) → ℕ → Bool
 someOf p zero = false
 someOf p (suc n) = someOf p n || p n
-
--- WHAT A FIELD SAYS
-abbrev pub negative : ℤ → Bool
-negative (pos n) = false
-negative (negsuc n) = true
-
-abbrev pub natural : ℤ → ℕ
-natural (pos n) = n
-natural (negsuc n) = 0
-
--- "null names it too"
-abbrev pub fieldNames : Field → Bool
-fieldNames Field.Absent = false
-fieldNames Field.Null = true
-fieldNames (Field.Value v) = true
-
-abbrev pub fieldNegative : Field → Bool
-fieldNegative Field.Absent = false
-fieldNegative Field.Null = false
-fieldNegative (Field.Value v) = negative v

@@ -1,12 +1,12 @@
 // What is asked of a command itself, whatever zone it comes from: its tests go over the quantities, not over the commands.
 use crate::asked::Question;
 use crate::asked::some_is;
-use crate::fields::field_too_low;
 use crate::said::Kind;
 use crate::said::aim_of;
 use crate::said::is_set;
 use crate::said::kind_of;
 use crate::said::says;
+use fields::field_too_low;
 use messages::Aim;
 use messages::Command;
 use quantities::supports;

@@ -1,7 +1,6 @@
 // A command by itself, over values alone: what it says of each quantity, what is asked of it, what it leaves held, and its answer.
 mod asked; // asked.rt: one question asked of every quantity
 mod content; // content.rt: the tests of a command's content
-mod fields; // fields.rt: what one field says
 mod obey; // obey.rt: what a command leaves held by its zone
 mod outcomes; // outcomes.rt: the result that its response has
 mod said; // said.rt: a command seen by quantity

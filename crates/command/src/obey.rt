@@ -1,9 +1,11 @@
 // What a command leaves held by its zone.
 use crate::Action;
-use crate::fields::field_action;
 use crate::said::duration_of;
 use crate::said::says;
+use fields::natural_of;
+use fields::until_of;
 use messages::Command;
+use messages::Field;
 use quantities::direction_of;
 use quantities::is_limit;
 use store::HELDS;
@@ -11,11 +13,12 @@ use store::Held;
 use store::MOST;
 use store::Settings;
 use store::Zone;
+ghost use Prim.Native.Nat.{min};
 ghost use mathlib.Core.Path.{_≡_};
 ghost use lib.ListN.{getD};
 ghost use Rattle.store.specs.Sizes.{helds};
 ghost use Rattle.store.specs.Zones.{upTo, nothing};
-ghost use Rattle.command.specs.Obeys.{topOf, action, untilOf, done, obeyed};
+ghost use Rattle.command.specs.Obeys.{fieldAction, topOf, action, done, obeyed};
 
 // The most that quantity q may be: a limit's contractual maximum, and none for the others.
 pub fn top_of(s: Settings, q: usize) -> u64
@@ -27,24 +30,31 @@ pub fn top_of(s: Settings, q: usize) -> u64
     MOST
 }
 
+fn smaller(a: u64, b: u64) -> u64
+    ensures { λ r. ⌜ r ≡ min a b ⌝ }
+{
+    if a < b {
+        return a;
+    }
+    b
+}
+
+// What is stored is never above the top.
+fn field_action(top: u64, f: Field) -> Action
+    ensures { λ r. ⌜ r ≡ fieldAction top f ⌝ }
+{
+    match f {
+        Field::Absent => Action::Keep,
+        Field::Null => Action::Remove,
+        Field::Value(v) => Action::Put(smaller(top, natural_of(v))),
+    }
+}
+
 // What the command does to quantity q: what it says, capped.
 fn action(s: Settings, c: Command, q: usize) -> Action
     ensures { λ r. ⌜ r ≡ action s c q ⌝ }
 {
     field_action(top_of(s, q), says(c, q))
-}
-
-// The second until which a value set at n for a duration holds.
-fn until_of(n: u64, duration: u64) -> u64
-    ensures { λ r. ⌜ r ≡ untilOf n duration ⌝ }
-{
-    if duration == 0 {
-        return MOST;
-    }
-    if n < MOST - duration {
-        return n + duration;
-    }
-    MOST
 }
 
 // A value is replaced together with its end.

@@ -1,8 +1,9 @@
 // The result that stands in the response to a command.
 use crate::asked::Question;
 use crate::asked::some_is;
-use crate::fields::is_negative;
-use crate::fields::natural_of;
+use fields::natural_of;
+use fields::reason_of;
+use fields::stated;
 use messages::Amount;
 use messages::Command;
 use messages::CurrentResult;
@@ -14,56 +15,16 @@ use store::Settings;
 use store::VALUES;
 ghost use Prim.Native.Nat.{_<_};
 ghost use mathlib.Core.Path.{_≡_};
-ghost use mathlib.Core.Bool.{cond, _&&_, _||_};
+ghost use mathlib.Core.Bool.{_&&_, _||_};
 ghost use lib.Dec.{leb, eqb};
 ghost use Rattle.quantities.specs.Quantities.{phases};
-ghost use Rattle.command.specs.Outcomes.{isCapped, reasonOf, stated, limitOutcome, setpointOutcome, currentIn, currentOutcome};
+ghost use Rattle.command.specs.Outcomes.{isCapped, limitOutcome, setpointOutcome, currentIn, currentOutcome};
 
 // Some quantity's number is above its top.
 pub fn is_capped(s: Settings, c: Command) -> bool
     ensures { λ r. ⌜ r ≡ isCapped s c ⌝ }
 {
     some_is(Question::Above, s, c)
-}
-
-fn above_if(capped: bool) -> Amount
-    ensures { λ r. ⌜ r ≡ cond capped (Amount.Is 1) Amount.Absent ⌝ }
-{
-    if capped {
-        return Amount::Is(1);
-    }
-    Amount::Absent
-}
-
-// Why a SetLimit was refused, or that it was capped.
-fn reason_of(n: u64, capped: bool) -> Amount
-    ensures { λ r. ⌜ r ≡ reasonOf n capped ⌝ }
-{
-    if n == 11 {
-        return Amount::Is(4);
-    }
-    if n == 12 {
-        return Amount::Is(3);
-    }
-    if n == 13 {
-        return Amount::Is(2);
-    }
-    if n == 14 {
-        return Amount::Is(0);
-    }
-    if n == 0 {
-        return above_if(capped);
-    }
-    Amount::Absent
-}
-
-fn stated(v: i64) -> Amount
-    ensures { λ r. ⌜ r ≡ stated v ⌝ }
-{
-    if is_negative(v) {
-        return Amount::Absent;
-    }
-    Amount::Is(natural_of(v))
 }
 
 // SetLimit has a result where it is accepted and at refusals 11 to 14.

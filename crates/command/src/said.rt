@@ -1,12 +1,12 @@
 // A command seen by quantity: what it says of each, and its kind, aim and duration. All else that is asked of a command goes by these.
+use fields::aim_field;
+use fields::limit_field;
+use fields::phase_field;
+use fields::setpoint_field;
 use messages::Aim;
 use messages::Command;
 use messages::CurrentLimits;
 use messages::Field;
-use messages::Limits;
-use messages::Phases;
-use messages::Setpoints;
-use messages::Target;
 use quantities::CURRENTS;
 use quantities::LIMITS;
 use quantities::direction_of;
@@ -15,7 +15,7 @@ use quantities::is_limit;
 use quantities::phase_of;
 ghost use mathlib.Core.Path.{_≡_};
 ghost use Rattle.quantities.specs.Quantities.{isSetpoint};
-ghost use Rattle.command.specs.Says.{limitField, targetField, setpointField, aimField, phaseField, currentField, isOf, fieldAt, says, kindOf, isSet, aimOf, durationOf};
+ghost use Rattle.command.specs.Says.{currentField, isOf, fieldAt, says, kindOf, isSet, aimOf, durationOf};
 
 // What a command is about. Each kind is accepted or not by a setting of its own.
 pub enum Kind {
@@ -23,57 +23,6 @@ pub enum Kind {
     Setpoints,
     Currents,
     Unserved,
-}
-
-fn limit_field(m: Limits, d: u64) -> Field
-    ensures { λ r. ⌜ r ≡ limitField m d ⌝ }
-{
-    if d == 0 {
-        return m.consumption;
-    }
-    m.production
-}
-
-fn target_field(t: Target) -> Field
-    ensures { λ r. ⌜ r ≡ targetField t ⌝ }
-{
-    match t {
-        Target::Absent => Field::Absent,
-        Target::Value(v) => Field::Value(v),
-    }
-}
-
-fn setpoint_field(m: Setpoints, d: u64) -> Field
-    ensures { λ r. ⌜ r ≡ setpointField m d ⌝ }
-{
-    let a = m.consumption;
-    let b = m.production;
-    if d == 0 {
-        return target_field(a);
-    }
-    target_field(b)
-}
-
-fn aim_field(a: Aim, d: u64) -> Field
-    ensures { λ r. ⌜ r ≡ aimField a d ⌝ }
-{
-    match a {
-        Aim::Both => Field::Null,
-        Aim::One(e) => if e == d { Field::Null } else { Field::Absent },
-    }
-}
-
-// A map of phases: A 0, B 1, C 2.
-fn phase_field(m: Phases, p: usize) -> Field
-    ensures { λ r. ⌜ r ≡ phaseField m p ⌝ }
-{
-    if p == 0 {
-        return m.a;
-    }
-    if p == 1 {
-        return m.b;
-    }
-    m.c
 }
 
 // The field of its phase, where the quantity is of the direction that the map is of.
