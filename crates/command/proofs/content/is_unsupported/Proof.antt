@@ -12,14 +12,10 @@ is-unsupported-spec =
     (tie.spec
     (λ c κs. search needs) (λ c κs. search needs) (λ c κs. search needs) (λ c κs. search needs)
     (λ c.
-    let at-aim-of-2 = c .before .before .aim-of in
-    let at-if1-2 = c .before .before .before .if1 in
-    let at-accepts-2 = c .before .before .before .before .accepts in
-    let at-kind-of-2 = c .before .before .before .before .before .kind-of in
-    let at-aim-of = at-aim-of-2 in
-    let at-if1 = at-if1-2 in
-    let at-accepts = at-accepts-2 in
-    let at-kind-of = at-kind-of-2 in
+    let at-aim-of = c .before .before .aim-of in
+    let at-if1 = c .before .before .before .if1 in
+    let at-accepts = c .before .before .before .before .accepts in
+    let at-kind-of = c .before .before .before .before .before .kind-of in
     rw (
       via (rw (at-kind-of .ensures) at (at-accepts .ensures)) (at-if1 .taken),
       via
@@ -27,20 +23,13 @@ is-unsupported-spec =
     ))
     (λ c κs. search needs) (λ c κs. search needs)
     (λ c.
-    let at-is-set-2 = c .before .before .is-set in
-    let at-if2-2 = c .before .before .before .if2 in
-    let at-aim-unsupported-2 = c .before .before .before .before .aim-unsupported in
-    let at-aim-of-2 = c .before .before .before .before .before .aim-of in
-    let at-if1-2 = c .before .before .before .before .before .before .if1 in
-    let at-accepts-2 = c .before .before .before .before .before .before .before .accepts in
-    let at-kind-of-2 = c .before .before .before .before .before .before .before .before .kind-of in
-    let at-is-set = at-is-set-2 in
-    let at-if2 = at-if2-2 in
-    let at-aim-unsupported = at-aim-unsupported-2 in
-    let at-aim-of = at-aim-of-2 in
-    let at-if1 = at-if1-2 in
-    let at-accepts = at-accepts-2 in
-    let at-kind-of = at-kind-of-2 in
+    let at-is-set = c .before .before .is-set in
+    let at-if2 = c .before .before .before .if2 in
+    let at-aim-unsupported = c .before .before .before .before .aim-unsupported in
+    let at-aim-of = c .before .before .before .before .before .aim-of in
+    let at-if1 = c .before .before .before .before .before .before .if1 in
+    let at-accepts = c .before .before .before .before .before .before .before .accepts in
+    let at-kind-of = c .before .before .before .before .before .before .before .before .kind-of in
     rw (
       via (rw (at-kind-of .ensures) at (at-accepts .ensures)) (at-if1 .taken),
       via (rw (at-aim-of .ensures) at (at-aim-unsupported .ensures))
@@ -48,18 +37,12 @@ is-unsupported-spec =
       via (at-is-set .ensures) (c .before .if3 .taken),
     ) (c .some-is .ensures))
     (λ c.
-    let at-if2-2 = c .before .before .if2 in
-    let at-aim-unsupported-2 = c .before .before .before .aim-unsupported in
-    let at-aim-of-2 = c .before .before .before .before .aim-of in
-    let at-if1-2 = c .before .before .before .before .before .if1 in
-    let at-accepts-2 = c .before .before .before .before .before .before .accepts in
-    let at-kind-of-2 = c .before .before .before .before .before .before .before .kind-of in
-    let at-if2 = at-if2-2 in
-    let at-aim-unsupported = at-aim-unsupported-2 in
-    let at-aim-of = at-aim-of-2 in
-    let at-if1 = at-if1-2 in
-    let at-accepts = at-accepts-2 in
-    let at-kind-of = at-kind-of-2 in
+    let at-if2 = c .before .before .if2 in
+    let at-aim-unsupported = c .before .before .before .aim-unsupported in
+    let at-aim-of = c .before .before .before .before .aim-of in
+    let at-if1 = c .before .before .before .before .before .if1 in
+    let at-accepts = c .before .before .before .before .before .before .accepts in
+    let at-kind-of = c .before .before .before .before .before .before .before .kind-of in
     rw (
       via (rw (at-kind-of .ensures) at (at-accepts .ensures)) (at-if1 .taken),
       via (rw (at-aim-of .ensures) at (at-aim-unsupported .ensures))
@@ -67,6 +50,5 @@ is-unsupported-spec =
       via (c .before .is-set .ensures) (c .if3 .left),
     ))
     (λ c.
-    let at-kind-of-2 = c .before .before .kind-of in
-    let at-kind-of = at-kind-of-2 in
+    let at-kind-of = c .before .before .kind-of in
     rw (via (rw (at-kind-of .ensures) at (c .before .accepts .ensures)) (c .if1 .left))))
