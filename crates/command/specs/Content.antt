@@ -9,8 +9,8 @@ use Rattle.messages.specs.declared.Command.{Command}
 use Rattle.store.specs.Sizes.{helds}
 use Rattle.store.specs.declared.Settings.{Settings}
 use Rattle.quantities.specs.Quantities.{isCurrent, directionOf, phaseOf, supports}
-unfoldable pub use Rattle.fields.specs.Fields.{tooLow}
-use Rattle.fields.specs.Fields.{fieldTooLow}
+unfoldable pub use Rattle.field_rules.specs.Fields.{tooLow}
+use Rattle.field_rules.specs.Fields.{fieldTooLow}
 use Rattle.command.specs.declared.said.Kind.{Kind}
 use Rattle.command.specs.Says.{says, kindOf, isSet, aimOf, someOf, fieldNames, fieldNegative}
 

@@ -10,7 +10,7 @@ use Rattle.store.specs.declared.Held.{Held}
 use Rattle.store.specs.declared.Zone.{Zone}
 use Rattle.store.specs.declared.Settings.{Settings}
 use Rattle.quantities.specs.Quantities.{isLimit, directionOf}
-unfoldable pub use Rattle.fields.specs.Fields.{untilOf}
+unfoldable pub use Rattle.field_rules.specs.Fields.{untilOf}
 use Rattle.command.specs.declared.Action.{Action}
 use Rattle.command.specs.Says.{says, durationOf, natural}
 

@@ -11,8 +11,8 @@ use Rattle.messages.specs.declared.Outcome.{Outcome}
 use Rattle.quantities.specs.Quantities.{currentAt}
 use Rattle.store.specs.Sizes.{helds}
 use Rattle.store.specs.declared.Settings.{Settings}
-unfoldable pub use Rattle.fields.specs.Fields.{reasonOf}
-pub use Rattle.fields.specs.Fields.{stated, fieldAbove}
+unfoldable pub use Rattle.field_rules.specs.Fields.{reasonOf}
+pub use Rattle.field_rules.specs.Fields.{stated, fieldAbove}
 use Rattle.command.specs.Says.{says, someOf, natural}
 use Rattle.command.specs.Obeys.{topOf}
 

@@ -7,7 +7,7 @@ use Rattle.messages.specs.declared.Aim.{Aim}
 use Rattle.messages.specs.declared.CurrentLimits.{CurrentLimits}
 use Rattle.messages.specs.declared.Command.{Command}
 use Rattle.quantities.specs.Quantities.{isLimit, isSetpoint, isCurrent, directionOf, phaseOf}
-pub use Rattle.fields.specs.Fields.{limitField, targetField, setpointField, aimField, phaseField, negative, natural, fieldNames, fieldNegative}
+pub use Rattle.field_rules.specs.Fields.{limitField, targetField, setpointField, aimField, phaseField, negative, natural, fieldNames, fieldNegative}
 use Rattle.command.specs.declared.said.Kind.{Kind}
 
 -- A COMMAND SEEN BY QUANTITY: what it says of each, beside its kind, aim and duration. All else goes by these and the answers below.

@@ -1,9 +1,9 @@
 // One question asked of what a command says of each quantity: one loop for them all.
 use crate::obey::top_of;
 use crate::said::says;
-use fields::field_above;
-use fields::field_names;
-use fields::field_negative;
+use field_rules::field_above;
+use field_rules::field_names;
+use field_rules::field_negative;
 use messages::Command;
 use messages::Field;
 use quantities::direction_of;

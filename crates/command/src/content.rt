@@ -6,7 +6,7 @@ use crate::said::aim_of;
 use crate::said::is_set;
 use crate::said::kind_of;
 use crate::said::says;
-use fields::field_too_low;
+use field_rules::field_too_low;
 use messages::Aim;
 use messages::Command;
 use quantities::supports;

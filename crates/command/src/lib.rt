@@ -7,8 +7,8 @@ mod said; // said.rt: a command seen by quantity
 
 pub use content::content_number;
 pub use content::is_unserved;
-pub use fields::is_negative;
-pub use fields::natural_of;
+pub use field_rules::is_negative;
+pub use field_rules::natural_of;
 pub use obey::obeyed;
 pub use outcomes::current_outcome;
 pub use outcomes::has_result;

@@ -2,8 +2,8 @@
 use crate::Action;
 use crate::said::duration_of;
 use crate::said::says;
-use fields::natural_of;
-use fields::until_of;
+use field_rules::natural_of;
+use field_rules::until_of;
 use messages::Command;
 use messages::Field;
 use quantities::direction_of;

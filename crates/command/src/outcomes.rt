@@ -1,9 +1,9 @@
 // The result that stands in the response to a command.
 use crate::asked::Question;
 use crate::asked::some_is;
-use fields::natural_of;
-use fields::reason_of;
-use fields::stated;
+use field_rules::natural_of;
+use field_rules::reason_of;
+use field_rules::stated;
 use messages::Amount;
 use messages::Command;
 use messages::CurrentResult;

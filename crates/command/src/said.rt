@@ -1,8 +1,8 @@
 // A command seen by quantity: what it says of each, and its kind, aim and duration. All else that is asked of a command goes by these.
-use fields::aim_field;
-use fields::limit_field;
-use fields::phase_field;
-use fields::setpoint_field;
+use field_rules::aim_field;
+use field_rules::limit_field;
+use field_rules::phase_field;
+use field_rules::setpoint_field;
 use messages::Aim;
 use messages::Command;
 use messages::CurrentLimits;
