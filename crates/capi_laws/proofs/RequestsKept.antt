@@ -8,6 +8,8 @@ use Rattle.messages.specs.declared.Target.{Target}
 use Rattle.messages.specs.declared.Aim.{Aim}
 use Rattle.messages.specs.declared.Limits.{Limits}
 use Rattle.messages.specs.declared.Setpoints.{Setpoints}
+use Rattle.messages.specs.declared.Phases.{Phases}
+use Rattle.messages.specs.declared.CurrentLimits.{CurrentLimits}
 use Rattle.messages.specs.declared.Command.{Command}
 use Rattle.messages.specs.declared.Request.{Request}
 use Rattle.messages.specs.Refusals.{firstOf}
@@ -16,7 +18,9 @@ use Rattle.frames.specs.Writing.{itemFrame}
 use Rattle.frames.specs.declared.requests.Reading.{Reading}
 use Rattle.frame_laws.proofs.RequestBack.{request-reads-back}
 use Rattle.frame_laws.proofs.RequestAgain.{request-writable}
-use Rattle.capi.specs.Requests.{fieldOf, targetOf, aimOf, limitsOf, setpointsOf, limitKind, setpointKind, commandOf, requestOf, flatField, flatTarget, hasAim, aimed, flatSet, flatClear, flatRequest, flatReading}
+use Rattle.flat.specs.Requests.{fieldOf, targetOf, aimOf, limitsOf, setpointsOf, phasesOf, currentsOf, limitKind, setpointKind, currentCommand, commandOf, requestOf}
+use Rattle.flat.specs.Requests.{flatField, flatTarget, hasAim, aimed, flatSet, flatCurrents, flatClear, flatRequest}
+use Rattle.capi.specs.Requests.{flatReading}
 use Rattle.capi_laws.specs.Inverse.{RequestKept, Plain, ReadPlain, FlatReadsBack}
 
 field-kept : (f : Field) → fieldOf (flatField f) ≡ f
@@ -46,22 +50,32 @@ unfolding setpointKind flatTarget
 target-kind Target.Absent = refl
 target-kind (Target.Value v) = refl
 
+currents-kept : (r : Request) (m : CurrentLimits) → currentCommand (flatCurrents r m (m .phases)) ≡ Command.SetCurrentLimits m
+unfolding currentCommand flatCurrents
+currents-kept r m =
+    let f = m .phases in
+    rw (field-kind (f .a), field-kind (f .b), field-kind (f .c)) (unfold currentsOf phasesOf in rw (field-kept (f .a), field-kept (f .b), field-kept (f .c)))
+
 command-kept : (r : Request) (c : Command) → isServed c ≡ true → commandOf (flatRequest r c) ≡ c
-unfolding flatRequest commandOf flatSet flatClear
+unfolding flatRequest commandOf flatSet flatCurrents flatClear
 command-kept r (Command.SetLimit m) e =
     rw (field-kind (m .consumption), field-kind (m .production)) (unfold limitsOf in rw (field-kept (m .consumption), field-kept (m .production)))
 command-kept r (Command.ClearLimit a) e = rw (aim-kept a)
 command-kept r (Command.SetSetpoint m) e =
     rw (target-kind (m .consumption), target-kind (m .production)) (unfold setpointsOf in rw (target-kept (m .consumption), target-kept (m .production)))
 command-kept r (Command.ClearSetpoint a) e = rw (aim-kept a)
+command-kept r (Command.SetCurrentLimits m) e = currents-kept r m
+command-kept r (Command.ClearCurrentLimits a) e = rw (aim-kept a)
 command-kept r (Command.Unserved n) e = absurd (let w : _≡_ {A = ℕ} 0 1 = cc in omega arith)
 
 envelope-kept : (r : Request) (c : Command) → (flatRequest r c .id ≡ r .id) × (flatRequest r c .endpoint ≡ r .endpoint) × (flatRequest r c .feature ≡ r .feature)
-unfolding flatRequest flatSet flatClear
+unfolding flatRequest flatSet flatCurrents flatClear
 envelope-kept r (Command.SetLimit m) = (refl, refl, refl)
 envelope-kept r (Command.ClearLimit a) = (refl, refl, refl)
 envelope-kept r (Command.SetSetpoint m) = (refl, refl, refl)
 envelope-kept r (Command.ClearSetpoint a) = (refl, refl, refl)
+envelope-kept r (Command.SetCurrentLimits m) = (refl, refl, refl)
+envelope-kept r (Command.ClearCurrentLimits a) = (refl, refl, refl)
 envelope-kept r (Command.Unserved n) = (refl, refl, refl)
 
 same-request : {r : Request} {i n f : ℕ} {c : Command} → i ≡ r .id → n ≡ r .endpoint → f ≡ r .feature → c ≡ r .command

@@ -9,18 +9,19 @@ use Rattle.messages.specs.Refusals.{firstOf}
 use Rattle.messages.specs.declared.Amount.{Amount}
 use Rattle.messages.specs.declared.LimitResult.{LimitResult}
 use Rattle.messages.specs.declared.SetpointResult.{SetpointResult}
+use Rattle.messages.specs.declared.CurrentResult.{CurrentResult}
 use Rattle.messages.specs.declared.Outcome.{Outcome}
 use Rattle.messages.specs.declared.Response.{Response}
 use Rattle.map_fields.specs.Fields.{mostValue}
 use Rattle.frames.specs.Requests.{servedCommand}
-use Rattle.frames.specs.Responses.{isStatus, stands, readResponse, responseItem, amountUpTo, limitInRange, setpointInRange, goesWith, isNothing, fits, responseFits, responseNumber}
+use Rattle.frames.specs.Responses.{isStatus, stands, readResponse, responseItem, amountUpTo, limitInRange, setpointInRange, currentInRange, goesWith, isNothing, fits, responseFits, responseNumber}
 use Rattle.frames.specs.Writing.{itemFrame}
 use Rattle.frames.specs.declared.responses.Answer.{Answer}
 use Rattle.frame_laws.proofs.ResponseBack.{response-reads-back}
 use Rattle.frame_laws.proofs.ResponseAgain.{response-writable}
-use Rattle.store.specs.Sizes.{valueEnd}
-use Rattle.holds.specs.Holds.{shown}
-use Rattle.capi.specs.Responses.{amountOf, limitOf, setpointOf, outcomeOf, responseOf, flat, flatResponse, flatAnswer}
+use Rattle.flat.specs.Amounts.{valueEnd, amountOf, flatAmount}
+use Rattle.flat.specs.Responses.{limitOf, setpointOf, currentOf, outcomeOf, responseOf, flat, flatCurrent, flatResponse}
+use Rattle.capi.specs.Responses.{flatAnswer}
 use Rattle.capi_laws.specs.Inverse.{ResponseKept, AnswerPlain, FlatAnswerReadsBack}
 
 never : {A : Type 0} → false ≡ true → A
@@ -30,8 +31,8 @@ both : (a b : Bool) → (a && b) ≡ true → (a ≡ true) × (b ≡ true)
 both true b e = (refl, e)
 both false b e = never e
 
-amount-kept : (n : ℕ) (a : Amount) → n ≤ mostValue → amountUpTo n a ≡ true → amountOf (shown a) ≡ a
-unfolding amountOf shown
+amount-kept : (n : ℕ) (a : Amount) → n ≤ mostValue → amountUpTo n a ≡ true → amountOf (flatAmount a) ≡ a
+unfolding amountOf flatAmount
 amount-kept n Amount.Absent l e = refl
 amount-kept n (Amount.Is v) l e = let h = leb-true v n e in rw (lt-ltb v valueEnd (omega arith))
 
@@ -54,15 +55,30 @@ setpoint-kept command r l e =
     let three = eqb-true command 3 (p .0) in
     rw three (unfold setpointOf in rw (amount-kept mostValue (l .consumption) (omega arith) (c .0), amount-kept mostValue (l .production) (omega arith) (c .1)))
 
-success-kept : (command : ℕ) (r : Response) → (eqb command 2 || eqb command 4) ≡ true → outcomeOf command (flatResponse r Outcome.Success) ≡ Outcome.Success
+current-kept : (command : ℕ) (r : Response) (l : CurrentResult) → (eqb command 5 && currentInRange l) ≡ true → outcomeOf command (flatResponse r (Outcome.Current l)) ≡ Outcome.Current l
+unfolding flatResponse flatCurrent outcomeOf currentInRange
+current-kept command r l e =
+    let p = both (eqb command 5) _ e in
+    let x = both (amountUpTo mostValue (l .a)) _ (p .1) in
+    let y = both (amountUpTo mostValue (l .b)) (amountUpTo mostValue (l .c)) (x .1) in
+    let five = eqb-true command 5 (p .0) in
+    rw five (unfold currentOf in
+    rw (amount-kept mostValue (l .a) (omega arith) (x .0), amount-kept mostValue (l .b) (omega arith) (y .0), amount-kept mostValue (l .c) (omega arith) (y .1)))
+
+-- a clear, by its number n
+success-at : (command n : ℕ) (r : Response) → outcomeOf n (flatResponse r Outcome.Success) ≡ Outcome.Success → eqb command n ≡ true
+    → outcomeOf command (flatResponse r Outcome.Success) ≡ Outcome.Success
+success-at command n r h e = rw (eqb-true command n e) h
+
+success-kept : (command : ℕ) (r : Response) → (eqb command 2 || eqb command 4 || eqb command 6) ≡ true → outcomeOf command (flatResponse r Outcome.Success) ≡ Outcome.Success
 unfolding flatResponse flat outcomeOf
-success-kept command r e = go (eqb command 2) (eqb command 4) refl refl e
+success-kept command r e = go (eqb command 2) (eqb command 4) (eqb command 6) e (success-at command 2 r refl) (success-at command 4 r refl) (success-at command 6 r refl)
   where
-    go : (a b : Bool) → eqb command 2 ≡ a → eqb command 4 ≡ b → (a || b) ≡ true
-        → cond (eqb command 1 || false) (Outcome.Limit (limitOf (flatResponse r Outcome.Success))) (cond (eqb command 3) (Outcome.Setpoint (setpointOf (flatResponse r Outcome.Success))) Outcome.Success) ≡ Outcome.Success
-    go true b p q e = rw (eqb-true command 2 p)
-    go false true p q e = rw (eqb-true command 4 q)
-    go false false p q e = never e
+    go : {X : Type 0} (a b c : Bool) → (a || b || c) ≡ true → (a ≡ true → X) → (b ≡ true → X) → (c ≡ true → X) → X
+    go true b c e p q s = p refl
+    go false true c e p q s = q refl
+    go false false true e p q s = s refl
+    go false false false e p q s = never e
 
 outcome-kept : (command : ℕ) (r : Response) (o : Outcome) (b : Bool) → cond b (goesWith command o) (isNothing o) ≡ true → outcomeOf command (flatResponse r o) ≡ o
 unfolding goesWith
@@ -71,14 +87,17 @@ outcome-kept command r (Outcome.Limit l) true e = limit-kept command r l e
 outcome-kept command r (Outcome.Limit l) false e = never e
 outcome-kept command r (Outcome.Setpoint l) true e = setpoint-kept command r l e
 outcome-kept command r (Outcome.Setpoint l) false e = never e
+outcome-kept command r (Outcome.Current l) true e = current-kept command r l e
+outcome-kept command r (Outcome.Current l) false e = never e
 outcome-kept command r Outcome.Success true e = success-kept command r e
 outcome-kept command r Outcome.Success false e = never e
 
 head-kept : (r : Response) (o : Outcome) → (flatResponse r o .id ≡ r .id) × (flatResponse r o .status ≡ r .status)
-unfolding flatResponse flat
+unfolding flatResponse flat flatCurrent
 head-kept r Outcome.Nothing = (refl, refl)
 head-kept r (Outcome.Limit l) = (refl, refl)
 head-kept r (Outcome.Setpoint l) = (refl, refl)
+head-kept r (Outcome.Current l) = (refl, refl)
 head-kept r Outcome.Success = (refl, refl)
 
 -- a response that can be written has a result that fits

@@ -12,10 +12,12 @@ use Rattle.frame_laws.specs.RoundTrips.{Command64}
 use Rattle.frames.specs.Writing.{itemFrame}
 use Rattle.frames.specs.declared.requests.Reading.{Reading}
 use Rattle.frames.specs.declared.responses.Answer.{Answer}
-use Rattle.capi.specs.Requests.{requestOf, flatRequest, flatReading}
-use Rattle.capi.specs.Responses.{responseOf, flatResponse, flatAnswer}
-use Rattle.capi.specs.declared.requests.FlatRequest.{FlatRequest}
-use Rattle.capi.specs.declared.responses.FlatResponse.{FlatResponse}
+use Rattle.flat.specs.Requests.{requestOf, flatRequest}
+use Rattle.flat.specs.Responses.{responseOf, flatResponse}
+use Rattle.flat.specs.declared.requests.FlatRequest.{FlatRequest}
+use Rattle.flat.specs.declared.responses.FlatResponse.{FlatResponse}
+use Rattle.capi.specs.Requests.{flatReading}
+use Rattle.capi.specs.Responses.{flatAnswer}
 
 -- REQUESTS
 -- a request of a served command, made flat and taken back, is itself

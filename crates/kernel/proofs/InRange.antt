@@ -17,7 +17,7 @@ use Rattle.messages.specs.declared.Request.{Request}
 use Rattle.messages.specs.declared.Response.{Response}
 use Rattle.map_fields.specs.Fields.{mostValue, most32}
 use Rattle.frames.specs.Requests.{requestNumber, requestWide, requestUnserved, servedCommand, servedAt, isServed, commandWide}
-use Rattle.frames.specs.Responses.{isStatus, stands, goesWith, fits, amountUpTo, isNothing, limitInRange, setpointInRange, responseFits, responseNumber, statusFits, statusNumber}
+use Rattle.frames.specs.Responses.{isStatus, stands, goesWith, fits, amountUpTo, isNothing, limitInRange, setpointInRange, currentInRange, responseFits, responseNumber, statusFits, statusNumber}
 use Rattle.store.specs.Sizes.{valueEnd}
 use Rattle.store.specs.Zones.{upTo, joined, zoneOf, anyUp}
 use Rattle.store.specs.Words.{settingsOf, clockOf, overrideOf, zonesOf}
@@ -38,6 +38,11 @@ shown-fits (Amount.Is v) = go (ltb v valueEnd) refl
     go : (b : Bool) → ltb v valueEnd ≡ b → amountUpTo mostValue (stated (cond b (pos v) (negsuc 0))) ≡ true
     go true e = le-leb v mostValue (let h = ltb-true v valueEnd e in omega arith)
     go false e = refl
+
+-- of two values that are shown, the one that a direction chooses
+chosen-fits : (b : Bool) (x y : Amount) → amountUpTo mostValue (cond b (stated (shown x)) (stated (shown y))) ≡ true
+chosen-fits true x y = shown-fits x
+chosen-fits false x y = shown-fits y
 
 reason-fits : (n : ℕ) (capped : Bool) → amountUpTo 4 (reasonOf n capped) ≡ true
 unfolding reasonOf
@@ -72,7 +77,7 @@ at-zero-alone command true o h = h
 at-zero-alone command false o h = refl
 
 outcome-fits : (s : Situation) (t n : ℕ) (capped : Bool) (c : Command) → isServed c ≡ true → fits (wireNumber c) n (outcomeWith c n capped (valuesAt s t)) ≡ true
-unfolding fits stands goesWith limitInRange setpointInRange outcomeWith valuesAt upTo
+unfolding fits stands goesWith limitInRange setpointInRange currentInRange outcomeWith valuesAt upTo
 outcome-fits s t n capped (Command.SetLimit m) e =
     where-it-stands 1 (eqb n 0 || (leb 11 n && leb n 14)) _
     (rw (state-fits s t, shown-fits (valueAt s t 0), shown-fits (valueAt s t 1), reason-fits n capped))
@@ -80,6 +85,15 @@ outcome-fits s t n capped (Command.ClearLimit a) e = at-zero-alone 2 (eqb n 0) _
 outcome-fits s t n capped (Command.SetSetpoint m) e =
     at-zero-alone 3 (eqb n 0) _ (rw (shown-fits (valueAt s t 2), shown-fits (valueAt s t 3)))
 outcome-fits s t n capped (Command.ClearSetpoint a) e = at-zero-alone 4 (eqb n 0) _ refl
+outcome-fits s t n capped (Command.SetCurrentLimits m) e =
+    let first = eqb (m .direction) 0 in
+    at-zero-alone 5 (eqb n 0) _
+    (rw (
+      chosen-fits first (valueAt s t 4) (valueAt s t 5),
+      chosen-fits first (valueAt s t 6) (valueAt s t 7),
+      chosen-fits first (valueAt s t 8) (valueAt s t 9),
+    ))
+outcome-fits s t n capped (Command.ClearCurrentLimits a) e = at-zero-alone 6 (eqb n 0) _ refl
 outcome-fits s t n capped (Command.Unserved m) e = absurd (let z : _≡_ {A = ℕ} 0 1 = cc in omega arith)
 
 -- every number of a command is a status
@@ -87,7 +101,7 @@ number-fits : (ws : List ℕ) (z t : ℕ) (c : Command) → isStatus (commandNum
 unfolding commandNumber firstOf isStatus
 number-fits ws z t c =
     go (isUnserved c) (late (clockOf ws) t) (not (joined (zonesOf ws) z)) (not (zoneOf (zonesOf ws) z .up)) (unsupported (settingsOf ws) c)
-    (setsLimits c && not (eqb (overrideOf ws) 0)) (invalid c) (belowTheMinimum (settingsOf ws) c)
+    (setsLimits c && not (eqb (overrideOf ws) 0)) (invalid (settingsOf ws) c) (belowTheMinimum (settingsOf ws) c)
   where
     go : (a b c d e f g h : Bool) → isStatus (firstOf ((a, 4) ∷ (b, 5) ∷ (c, 9) ∷ (d, 10) ∷ (e, 11) ∷ (f, 12) ∷ (g, 13) ∷ (h, 14) ∷ [])) ≡ true
     go true b c d e f g h = refl
@@ -107,6 +121,8 @@ served-then (Command.SetLimit m) e = refl
 served-then (Command.ClearLimit a) e = refl
 served-then (Command.SetSetpoint m) e = refl
 served-then (Command.ClearSetpoint a) e = refl
+served-then (Command.SetCurrentLimits m) e = refl
+served-then (Command.ClearCurrentLimits a) e = refl
 served-then (Command.Unserved m) e = absurd (let z : _≡_ {A = ℕ} 0 1 = cc in omega arith)
 
 sound-request : (r : Request) → requestNumber r ≡ 0 → (leb (r .id) most32 ≡ true) × (isServed (r .command) ≡ true)

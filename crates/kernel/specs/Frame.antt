@@ -7,7 +7,7 @@ use lib.ListN.{length}
 use Rattle.bytes.specs.Bytes.{putWhole}
 use Rattle.messages.specs.declared.Request.{Request}
 use Rattle.messages.specs.declared.Response.{Response}
-use Rattle.frames.specs.Requests.{readRequest}
+use Rattle.frames.specs.Requests.{readRequest, readingNumber}
 use Rattle.frames.specs.Responses.{responseItem, statusAlone}
 use Rattle.frames.specs.Writing.{itemFrame, writingNumber}
 use Rattle.frames.specs.declared.requests.Reading.{Reading}
@@ -27,8 +27,8 @@ responseFrame ws z t (Reading.Is r) = itemFrame (responseItem (responseTo ws z t
 
 -- "Order, for a frame: 1, 2, envelope 3, 4, parameters 3, 5, 9, 10, 11, 12, 13, 14, 15"
 unfoldable pub numberFrom : List ℕ → ℕ → ℕ → Reading → ℕ → ℕ
-numberFrom ws z t (Reading.Refused n) room = n
-numberFrom ws z t (Reading.Unserved i) room = 4
+numberFrom ws z t (Reading.Refused n) room = readingNumber (Reading.Refused n)
+numberFrom ws z t (Reading.Unserved i) room = readingNumber (Reading.Unserved i)
 numberFrom ws z t (Reading.Is r) room = writingNumber (commandNumber ws z t (r .command)) (responseFrame ws z t (Reading.Is r)) room
 
 -- "where that frame has no room, the number stands and nothing is written"

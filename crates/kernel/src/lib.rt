@@ -10,9 +10,9 @@
 // lost(d, zone, t), back(d, zone, t)    5, 9, 7
 // set_override(d, reason, direction, t) 5, 18
 // clear_override(d, t)                  5, 7
-// ask(d, t)                             5; the control state, limits and setpoints at t, -1 absent
+// ask(d, t)                             5; the control state and the ten values at t, -1 absent
 // frame(d, zone, t, bytes, out)         1, 2, 3, 4, 5, 9 to 15; the response frame from the front of `out`
-// plan(d, t, rows)                      5, 15; rows of six numbers from the front of `rows`
+// plan(d, t, rows)                      5, 15; rows of twelve numbers from the front of `rows`
 // read_request, write_request           1, 2, 3, 4; 3, 4, 15; for the other side of the wire
 // read_response, write_response         4, 1, 2, 3; 4, 3, 15; likewise
 // report(inputs, attributes, pairs)     16, 17, 15; the conformance report, from the front of `pairs`

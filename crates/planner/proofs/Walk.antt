@@ -12,7 +12,8 @@ use borrow.Author.Tests.{ltb-true, ltb-false, le-ltb}
 use Rattle.store.specs.Sizes.{end, slots, helds}
 use Rattle.store.specs.Zones.{anyUp}
 use Rattle.store.specs.Words.{zonesOf}
-use Rattle.holds.specs.Holds.{lows, Situation, situationOf, valuesAt}
+use Rattle.quantities.specs.Quantities.{lows}
+use Rattle.holds.specs.Holds.{Situation, situationOf, valuesAt}
 use Rattle.holds.specs.Dues.{dues, nearest}
 use Rattle.holds.proofs.Steady.{Idle, values-steady, dues-few, dues-few-down}
 use Rattle.planner.specs.Rows.{plan}
@@ -78,13 +79,13 @@ pub planOf-step : (s : Situation) (cur : ℕ) → planOf s cur ≡ step (valuesA
 unfolding planOf
 planOf-step s cur = plan-step (valuesAt s) (dues s) (values-steady s) cur
 
--- "At most 32 rows", on every content of the words
+-- "the bound on rows is 80", on every content of the words
 pub planOf-few : (ws : List ℕ) (now : ℕ) → length (planOf (situationOf ws) now) ≤ slots * helds
 planOf-few ws now =
     let s = situationOf ws in
     omega (arith, ap length (planOf-walk s now), walk-few (valuesAt s) (dues s) (length (dues s)) now, dues-few ws)
 
--- "A plan made in FAILSAFE may now hold .. 17 at most", likewise
+-- "the 17 of L3 becomes 65": a plan made in FAILSAFE, likewise
 pub planOf-few-down : (ws : List ℕ) (now : ℕ) → anyUp (zonesOf ws) ≡ false → length (planOf (situationOf ws) now) ≤ 1 + slots * lows
 planOf-few-down ws now e =
     let s = situationOf ws in

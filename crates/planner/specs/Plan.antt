@@ -18,7 +18,7 @@ use Rattle.planner.specs.declared.Planned.{Planned}
 unfoldable pub planOf : Situation → ℕ → List (ℕ × List ℤ)
 planOf s now = plan (valuesAt s) now
 
--- "rows of six signed numbers": second, control state, then each quantity
+-- "Plan rows grow to twelve numbers": second, control state, then each quantity
 abbrev pub rowSize : ℕ
 rowSize = 1 + values
 

@@ -10,7 +10,7 @@ use Rattle.store.specs.Sizes.{end}
 abbrev pub last : ℕ
 last = end - 1
 
--- the rows of the n seconds after `now`: "A row stands for each second .. whose five values differ from the second before"
+-- the rows of the n seconds after `now`: "A row stands for each second .. whose .. values differ from the second before": the state's and all ten quantities'
 unfoldable pub rowsOf : (ℕ → List ℤ) → ℕ → ℕ → List (ℕ × List ℤ)
 rowsOf f now zero = []
 rowsOf f now (suc n) =
