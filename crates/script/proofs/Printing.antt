@@ -12,11 +12,8 @@ use lib.ListN.{length, getD, take, drop, length-drop}
 use lib.Seq.{drop-cons, drop-length, drop-drop, take-all, drop-nil}
 use lib.Signed.{ltZ}
 use borrow.Author.Tests.{lt-ltb, le-ltb, ltb-true, ltb-false}
-use Rattle.bytes.specs.Bytes.{putWhole, pastWhole}
 use Rattle.bytes.proofs.Order.{below}
 use Rattle.text.specs.Text.{decimal}
-use Rattle.text.specs.Pieces.{putAll, pastAll}
-use Rattle.text.proofs.Pieces.{whole-length, pieces-more, pieces-length}
 use Rattle.kernel.specs.Door.{rowSize}
 use Rattle.script.specs.Answers.{cell, rowPieces, tablePieces}
 
@@ -30,42 +27,6 @@ pub cell-number : (z : ℤ) → ltZ z (pos 0) ≡ false → decimal (natAbs z) �
 unfolding cell
 cell-number (pos n) e = refl
 cell-number (negsuc n) e = absurd (let b : _≡_ {A = ℕ} 0 1 = cc in omega arith)
-
--- ys from q on in t still lead to what xs from p on in s lead to
-pub record ToDo (s : List ℕ) (p : ℕ) (xs : List (List ℕ)) (t : List ℕ) (q : ℕ) (ys : List (List ℕ)) : Type 0 where
-  pub past : pastAll t q ys ≡ pastAll s p xs
-  pub list : putAll t q ys ≡ putAll s p xs
-  pub len : length t ≡ length s
-
-pub all-to-do : (s : List ℕ) (p : ℕ) (xs : List (List ℕ)) → ToDo s p xs s p xs
-all-to-do s p xs = record { past = refl; list = refl; len = refl }
-
--- nothing is left
-pub all-done : (s t : List ℕ) (p q : ℕ) (xs ys : List (List ℕ)) → ToDo s p xs t q ys → ys ≡ [] → (q ≡ pastAll s p xs) × (t ≡ putAll s p xs)
-unfolding putAll pastAll
-all-done s t p q xs ys w e = (rw e at (w .past), rw e at (w .list))
-
--- two pieces more are written
-module _ (s : List ℕ) (p : ℕ) (xs : List (List ℕ)) (t : List ℕ) (q : ℕ) where
-  pub two-done : (a b : List ℕ) (ys : List (List ℕ)) (t′ t″ : List ℕ) (q′ q″ : ℕ) → ToDo s p xs t q (a ∷ b ∷ ys)
-      → (q′ ≡ pastWhole t q a) × (t′ ≡ putWhole t q a) → (q″ ≡ pastWhole t′ q′ b) × (t″ ≡ putWhole t′ q′ b) → ToDo s p xs t″ q″ ys
-  unfolding putAll pastAll
-  two-done a b ys t′ t″ q′ q″ w h k =
-      rw (k .0, k .1, h .0, h .1) (record {
-        past = w .past;
-        list = w .list;
-        len = whole-length (putWhole t q a) b (pastWhole t q a) ∙ whole-length t a q ∙ w .len;
-      })
-
-  -- all of a run of pieces is written
-  pub run-done : (zs ys : List (List ℕ)) (t′ : List ℕ) (q′ : ℕ) → ToDo s p xs t q (zs ++ ys) → (q′ ≡ pastAll t q zs) × (t′ ≡ putAll t q zs) → ToDo s p xs t′ q′ ys
-  run-done zs ys t′ q′ w h =
-      let m = pieces-more t q zs ys in
-      rw (h .0, h .1) (record {
-        past = sym (m .1) ∙ w .past;
-        list = sym (m .0) ∙ w .list;
-        len = pieces-length t q zs ∙ w .len;
-      })
 
 -- a row's number, and what stands behind it
 row-cons : (x : ℤ) (r : List ℤ) → rowPieces (x ∷ r) ≡ cell x ∷ (cond (ltb 0 (length r)) 32 10 ∷ []) ∷ rowPieces r

@@ -2,7 +2,7 @@
 use Prim.Native.Nat.{ℕ, _+_, _≤_}
 use mathlib.Core.Path.{_≡_, refl, sym, ap, _∙_}
 use mathlib.Core.Logic.{⊎-elim}
-use mathlib.Core.List.{List, [], _∷_}
+use mathlib.Core.List.{List, [], _∷_, _++_}
 use native.Mathlib.Omega.{arith}
 use lib.ListN.{length, length-append}
 use Rattle.bytes.specs.Bytes.{put, putWhole, pastWhole}
@@ -51,3 +51,39 @@ pieces-within s p (x ∷ xs) h =
     let n = whole-length s x p in
     let k = pieces-within (putWhole s p x) (pastWhole s p x) xs (omega (arith, whole-within s x p h)) in
     omega arith
+
+-- ys from q on in t still lead to what xs from p on in s lead to
+pub record ToDo (s : List ℕ) (p : ℕ) (xs : List (List ℕ)) (t : List ℕ) (q : ℕ) (ys : List (List ℕ)) : Type 0 where
+  pub past : pastAll t q ys ≡ pastAll s p xs
+  pub list : putAll t q ys ≡ putAll s p xs
+  pub len : length t ≡ length s
+
+pub all-to-do : (s : List ℕ) (p : ℕ) (xs : List (List ℕ)) → ToDo s p xs s p xs
+all-to-do s p xs = record { past = refl; list = refl; len = refl }
+
+-- nothing is left
+pub all-done : (s t : List ℕ) (p q : ℕ) (xs ys : List (List ℕ)) → ToDo s p xs t q ys → ys ≡ [] → (q ≡ pastAll s p xs) × (t ≡ putAll s p xs)
+unfolding putAll pastAll
+all-done s t p q xs ys w e = (rw e at (w .past), rw e at (w .list))
+
+module _ (s : List ℕ) (p : ℕ) (xs : List (List ℕ)) (t : List ℕ) (q : ℕ) where
+  -- one piece more is written
+  pub one-done : (a : List ℕ) (ys : List (List ℕ)) (t′ : List ℕ) (q′ : ℕ) → ToDo s p xs t q (a ∷ ys)
+      → (q′ ≡ pastWhole t q a) × (t′ ≡ putWhole t q a) → ToDo s p xs t′ q′ ys
+  unfolding putAll pastAll
+  one-done a ys t′ q′ w h = rw (h .0, h .1) (record { past = w .past; list = w .list; len = whole-length t a q ∙ w .len })
+
+  -- all of a run of pieces is written
+  pub run-done : (zs ys : List (List ℕ)) (t′ : List ℕ) (q′ : ℕ) → ToDo s p xs t q (zs ++ ys) → (q′ ≡ pastAll t q zs) × (t′ ≡ putAll t q zs) → ToDo s p xs t′ q′ ys
+  run-done zs ys t′ q′ w h =
+      let m = pieces-more t q zs ys in
+      rw (h .0, h .1) (record {
+        past = sym (m .1) ∙ w .past;
+        list = sym (m .0) ∙ w .list;
+        len = pieces-length t q zs ∙ w .len;
+      })
+
+-- two pieces more are written
+pub two-done : (s : List ℕ) (p : ℕ) (xs : List (List ℕ)) (t : List ℕ) (q : ℕ) (a b : List ℕ) (ys : List (List ℕ)) (t′ t″ : List ℕ) (q′ q″ : ℕ)
+    → ToDo s p xs t q (a ∷ b ∷ ys) → (q′ ≡ pastWhole t q a) × (t′ ≡ putWhole t q a) → (q″ ≡ pastWhole t′ q′ b) × (t″ ≡ putWhole t′ q′ b) → ToDo s p xs t″ q″ ys
+two-done s p xs t q a b ys t′ t″ q′ q″ w h k = one-done s p xs t′ q′ b ys t″ q″ (one-done s p xs t q a (b ∷ ys) t′ q′ w h) k

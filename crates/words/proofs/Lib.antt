@@ -1,3 +1,6 @@
 -- What the proofs of several functions use.
 mod Digits
 mod Pairs
+mod Cuts
+mod Written
+mod Ends

@@ -1,3 +1,5 @@
 pub mod Numbers
 pub mod Hex
 pub mod Examples
+pub mod Spans
+pub mod Answers

@@ -1,9 +1,9 @@
 -- A word as a decimal number. Assumes nothing: these are definitions.
-use Prim.Native.Nat.{ℕ, _+_, _*_, _%_}
+use Prim.Native.Nat.{ℕ, _+_, _-_, _*_, _%_}
 use mathlib.Core.Bool.{Bool, true, false, _&&_, cond}
 use mathlib.Core.List.{List, [], _∷_}
 use lib.Dec.{ltb, leb, eqb}
-use lib.ListN.{drop, getD}
+use lib.ListN.{length, take, drop, getD}
 use Rattle.words.specs.declared.numbers.Number.{Number}
 
 -- 0 to 9
@@ -33,3 +33,7 @@ negated n = cond (eqb (n .value) 0) n (record { good = n .good; negative = true;
 
 unfoldable pub numberOf : List ℕ → Number
 numberOf s = cond (eqb (getD s 0 0) 45) (negated (digitsOf (drop 1 s))) (digitsOf s)
+
+-- the number of a word by its bounds; none where they are past the line
+unfoldable pub numberIn : List ℕ → ℕ → ℕ → Number
+numberIn s from to = cond (leb to (length s) && leb from to) (numberOf (take (to - from) (drop from s))) noNumber

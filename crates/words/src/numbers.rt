@@ -4,7 +4,7 @@ ghost use Prim.Native.Nat.{_+_, _*_, _%_};
 ghost use lib.ListN.{drop};
 ghost use lib.Dec.{eqb};
 ghost use lib.ListN.{getD};
-ghost use Rattle.words.specs.Numbers.{isDigit, upTo, noNumber, digitsFrom, digitsOf, negated, numberOf};
+ghost use Rattle.words.specs.Numbers.{isDigit, upTo, noNumber, digitsFrom, digitsOf, negated, numberOf, numberIn};
 ghost use Rattle.words.specs.declared.numbers.Number.{Number};
 
 const MOST: u64 = 18446744073709551615;
@@ -103,11 +103,14 @@ pub fn read_number(word: &[u8]) -> Number
 }
 
 // The number of a word by its bounds; none where they are past the line.
-pub fn number_in(line: &[u8], from: usize, to: usize) -> Number {
-    if to <= line.len() {
-        if from <= to {
-            return read_number(&line[from..to]);
-        }
+pub fn number_in(line: &[u8], from: usize, to: usize) -> Number
+    ensures { λ r. ⌜ r ≡ numberIn (now (line .entry)) from to ⌝ }
+{
+    if line.len() < to {
+        return no_number();
     }
-    no_number()
+    if to < from {
+        return no_number();
+    }
+    read_number(&line[from..to])
 }

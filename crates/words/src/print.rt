@@ -1,34 +1,41 @@
 // The parts of an answer, written into a lent slice, each where it fits.
-
-// The bytes of a text.
-fn put_text(out: &mut [u8], at: usize, s: &[u8]) -> usize {
-    let mut p = at;
-    let mut i = 0;
-    while i < s.len() {
-        p = bytes::put_byte(out, p, s[i]);
-        i += 1;
-    }
-    p
-}
+ghost use mathlib.Core.Path.{_≡_};
+ghost use mathlib.Core.List.{[], _∷_};
+ghost use lib.ListN.{getD};
+ghost use Rattle.bytes.specs.Bytes.{putWhole, pastWhole};
+ghost use Rattle.text.specs.Pieces.{putAll, pastAll};
+ghost use Rattle.words.specs.Answers.{badLine, numberPieces, hexOrNone, bytesPieces, listPieces, pairPieces, reportPieces};
 
 // The answer to a line that is no command.
-pub fn put_bad(out: &mut [u8], at: usize) -> usize {
-    put_text(out, at, b"bad line\n")
+pub fn put_bad(out: &mut [u8], at: usize) -> usize
+    ensures { λ r. ⌜ r ≡ pastWhole (now (out .entry)) at badLine ⌝ }
+    ensures { λ _. ⌜ now (out .exit) ≡ putWhole (now (out .entry)) at badLine ⌝ }
+{
+    bytes::put_bytes(out, at, b"bad line\n", 9)
 }
 
 // The end of an answer.
-pub fn put_end(out: &mut [u8], at: usize) -> usize {
+pub fn put_end(out: &mut [u8], at: usize) -> usize
+    ensures { λ r. ⌜ r ≡ pastWhole (now (out .entry)) at (10 ∷ []) ⌝ }
+    ensures { λ _. ⌜ now (out .exit) ≡ putWhole (now (out .entry)) at (10 ∷ []) ⌝ }
+{
     bytes::put_byte(out, at, b'\n')
 }
 
 // The answer of a call that says its number only.
-pub fn put_number(out: &mut [u8], at: usize, number: u64) -> usize {
+pub fn put_number(out: &mut [u8], at: usize, number: u64) -> usize
+    ensures { λ r. ⌜ r ≡ pastAll (now (out .entry)) at (numberPieces number) ⌝ }
+    ensures { λ _. ⌜ now (out .exit) ≡ putAll (now (out .entry)) at (numberPieces number) ⌝ }
+{
     let p = text::put_decimal(out, at, number);
     put_end(out, p)
 }
 
 // The first n bytes, or `-`.
-pub fn put_hex_or_none(out: &mut [u8], at: usize, bytes: &[u8], n: usize) -> usize {
+pub fn put_hex_or_none(out: &mut [u8], at: usize, bytes: &[u8], n: usize) -> usize
+    ensures { λ r. ⌜ r ≡ pastWhole (now (out .entry)) at (hexOrNone (now (bytes .entry)) n) ⌝ }
+    ensures { λ _. ⌜ now (out .exit) ≡ putWhole (now (out .entry)) at (hexOrNone (now (bytes .entry)) n) ⌝ }
+{
     if n == 0 {
         return bytes::put_byte(out, at, b'-');
     }
@@ -39,7 +46,10 @@ pub fn put_hex_or_none(out: &mut [u8], at: usize, bytes: &[u8], n: usize) -> usi
 }
 
 // A number, and the first n bytes or `-`.
-pub fn put_bytes(out: &mut [u8], at: usize, number: u64, bytes: &[u8], n: usize) -> usize {
+pub fn put_bytes(out: &mut [u8], at: usize, number: u64, bytes: &[u8], n: usize) -> usize
+    ensures { λ r. ⌜ r ≡ pastAll (now (out .entry)) at (bytesPieces number (now (bytes .entry)) n) ⌝ }
+    ensures { λ _. ⌜ now (out .exit) ≡ putAll (now (out .entry)) at (bytesPieces number (now (bytes .entry)) n) ⌝ }
+{
     let p = text::put_decimal(out, at, number);
     let q = bytes::put_byte(out, p, b' ');
     let r = put_hex_or_none(out, q, bytes, n);
@@ -47,7 +57,10 @@ pub fn put_bytes(out: &mut [u8], at: usize, number: u64, bytes: &[u8], n: usize)
 }
 
 // A space and a number, for each of the first n.
-pub fn put_list(out: &mut [u8], at: usize, list: &[i64], n: u64) -> usize {
+pub fn put_list(out: &mut [u8], at: usize, list: &[i64], n: u64) -> usize
+    ensures { λ r. ⌜ r ≡ pastAll (now (out .entry)) at (listPieces n (now (list .entry))) ⌝ }
+    ensures { λ _. ⌜ now (out .exit) ≡ putAll (now (out .entry)) at (listPieces n (now (list .entry))) ⌝ }
+{
     let mut p = at;
     let mut i = 0;
     while i < list.len() {
@@ -61,14 +74,19 @@ pub fn put_list(out: &mut [u8], at: usize, list: &[i64], n: u64) -> usize {
     p
 }
 
-fn word(list: &[u64], i: usize) -> u64 {
+fn word(list: &[u64], i: usize) -> u64
+    ensures { λ r. ⌜ r ≡ getD (now (list .entry)) i 0 ⌝ }
+{
     if i < list.len() {
         return list[i];
     }
     0
 }
 
-fn put_pair(out: &mut [u8], at: usize, group: u64, number: u64) -> usize {
+fn put_pair(out: &mut [u8], at: usize, group: u64, number: u64) -> usize
+    ensures { λ r. ⌜ r ≡ pastAll (now (out .entry)) at (pairPieces group number) ⌝ }
+    ensures { λ _. ⌜ now (out .exit) ≡ putAll (now (out .entry)) at (pairPieces group number) ⌝ }
+{
     let p = bytes::put_byte(out, at, b' ');
     let q = text::put_decimal(out, p, group);
     let r = bytes::put_byte(out, q, b':');
@@ -76,9 +94,12 @@ fn put_pair(out: &mut [u8], at: usize, group: u64, number: u64) -> usize {
 }
 
 // The first n pairs, or `-`.
-pub fn put_pairs(out: &mut [u8], at: usize, pairs: &[u64], n: u64) -> usize {
+pub fn put_pairs(out: &mut [u8], at: usize, pairs: &[u64], n: u64) -> usize
+    ensures { λ r. ⌜ r ≡ pastAll (now (out .entry)) at (reportPieces n (now (pairs .entry))) ⌝ }
+    ensures { λ _. ⌜ now (out .exit) ≡ putAll (now (out .entry)) at (reportPieces n (now (pairs .entry))) ⌝ }
+{
     if n == 0 {
-        return put_text(out, at, b" -");
+        return bytes::put_bytes(out, at, b" -", 2);
     }
     let half = pairs.len() / 2;
     let mut p = at;

@@ -1,6 +1,8 @@
 // Where the words of a line are. Words are parted by one space, so that two spaces have an empty word between them.
+ghost use mathlib.Core.Path.{_≡_};
 ghost use Prim.Native.Nat.{_≤_};
-ghost use lib.ListN.{length};
+ghost use lib.ListN.{length, getD, drop};
+ghost use Rattle.words.specs.Spans.{nextOf, wordsIn, endsAfter, startOf, spanOf, sameBytes};
 
 // The start and the end of a word.
 pub struct Bounds {
@@ -13,6 +15,7 @@ pub fn next(s: &[u8], from: usize, b: u8) -> usize
     requires { ⌜ from ≤ length (now s) ⌝ }
     ensures { λ r. ⌜ from ≤ r ⌝ }
     ensures { λ r. ⌜ r ≤ length (now (s .entry)) ⌝ }
+    ensures { λ r. ⌜ r ≡ nextOf b from (drop from (now (s .entry))) ⌝ }
 {
     let mut i = from;
     while i < s.len() {
@@ -26,7 +29,10 @@ pub fn next(s: &[u8], from: usize, b: u8) -> usize
 
 // Stores where each word ends, as far as there is room, and says how many words there are; one too many says that
 // there are more.
-pub fn split(line: &[u8], ends: &mut [usize]) -> usize {
+pub fn split(line: &[u8], ends: &mut [usize]) -> usize
+    ensures { λ r. ⌜ r ≡ wordsIn (now (line .entry)) (length (now (ends .entry))) ⌝ }
+    ensures { λ _. ⌜ now (ends .exit) ≡ endsAfter (now (line .entry)) (now (ends .entry)) ⌝ }
+{
     let mut n = 0;
     let mut at = 0;
     while n < ends.len() {
@@ -41,7 +47,9 @@ pub fn split(line: &[u8], ends: &mut [usize]) -> usize {
     usize::MAX
 }
 
-fn end_of(ends: &[usize], k: usize) -> usize {
+fn end_of(ends: &[usize], k: usize) -> usize
+    ensures { λ r. ⌜ r ≡ getD (now (ends .entry)) k 0 ⌝ }
+{
     if k < ends.len() {
         return ends[k];
     }
@@ -49,7 +57,9 @@ fn end_of(ends: &[usize], k: usize) -> usize {
 }
 
 // A word starts past the space behind the one before it.
-fn start_of(ends: &[usize], k: usize) -> usize {
+fn start_of(ends: &[usize], k: usize) -> usize
+    ensures { λ r. ⌜ r ≡ startOf (now (ends .entry)) k ⌝ }
+{
     if k == 0 {
         return 0;
     }
@@ -57,11 +67,13 @@ fn start_of(ends: &[usize], k: usize) -> usize {
     if end < usize::MAX {
         return end + 1;
     }
-    end
+    usize::MAX
 }
 
 // Where the k-th word is, by the ends of the words.
-pub fn span(ends: &[usize], k: usize) -> Bounds {
+pub fn span(ends: &[usize], k: usize) -> Bounds
+    ensures { λ r. ⌜ r ≡ spanOf (now (ends .entry)) k ⌝ }
+{
     Bounds {
         from: start_of(ends, k),
         to: end_of(ends, k),
@@ -69,7 +81,9 @@ pub fn span(ends: &[usize], k: usize) -> Bounds {
 }
 
 // Whether two words are the same bytes.
-pub fn same(a: &[u8], b: &[u8]) -> bool {
+pub fn same(a: &[u8], b: &[u8]) -> bool
+    ensures { λ r. ⌜ r ≡ sameBytes (now (a .entry)) (now (b .entry)) ⌝ }
+{
     if a.len() != b.len() {
         return false;
     }

@@ -1,7 +1,7 @@
 -- The number, the newline and the rows are put one behind the other.
 use mathlib.Core.Path.{_∙_}
 use Rattle.script.specs.Answers.{answerPieces}
-use Rattle.script.proofs.Printing.{all-to-do, two-done}
+use Rattle.text.proofs.Pieces.{all-to-do, two-done}
 use borrow.Author.Needs.{needs}
 use Rattle.script.proofs.answers.print_answer.Statement.{statement}
 use Rattle.script.proofs.answers.print_answer.Tie as tie

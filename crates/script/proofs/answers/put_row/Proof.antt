@@ -8,7 +8,8 @@ use Prim.Native.Nat.{_≤_, _-_}
 use native.Mathlib.Omega.{arith}
 use borrow.Author.Needs.{needs}
 use Rattle.script.specs.Answers.{rowPieces}
-use Rattle.script.proofs.Printing.{ToDo, all-to-do, all-done, two-done, row-next, row-over}
+use Rattle.text.proofs.Pieces.{ToDo, all-to-do, all-done, two-done}
+use Rattle.script.proofs.Printing.{row-next, row-over}
 use Rattle.script.proofs.answers.put_row.Statement.{statement}
 use Rattle.script.proofs.answers.put_row.Tie as tie
 

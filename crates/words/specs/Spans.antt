@@ -1,0 +1,42 @@
+-- Where a line's words are, and when two are the same. Assumes nothing: these are definitions.
+use Prim.Native.Nat.{ℕ, zero, suc, _+_}
+use mathlib.Core.Bool.{Bool, true, false, cond}
+use mathlib.Core.List.{List, [], _∷_}
+use lib.Dec.{leb, eqb}
+use lib.ListN.{length, getD, take}
+use lib.Seq.{sets}
+use Rattle.words.specs.Numbers.{upTo}
+use Rattle.words.specs.declared.spans.Bounds.{Bounds}
+
+-- the position of the first byte b of a text that stands at p, or its end
+unfoldable pub nextOf : ℕ → ℕ → List ℕ → ℕ
+nextOf b p [] = p
+nextOf b p (x ∷ s) = cond (eqb x b) p (nextOf b (suc p) s)
+
+-- where the words of a text end that stands at p: "parted by one space"
+unfoldable pub endsFrom : ℕ → List ℕ → List ℕ
+endsFrom p [] = p ∷ []
+endsFrom p (x ∷ s) = cond (eqb x 32) (p ∷ endsFrom (suc p) s) (endsFrom (suc p) s)
+
+-- how many words a line has; the largest word where there is no room for so many ends
+unfoldable pub wordsIn : List ℕ → ℕ → ℕ
+wordsIn s room = cond (leb (length (endsFrom 0 s)) room) (length (endsFrom 0 s)) 18446744073709551615
+
+-- the room afterwards: the ends at its front, as far as they fit
+unfoldable pub endsAfter : List ℕ → List ℕ → List ℕ
+endsAfter s ends = sets ends 0 (take (length ends) (endsFrom 0 s))
+
+-- a word starts past the space behind the one before it
+unfoldable pub startOf : List ℕ → ℕ → ℕ
+startOf ends zero = 0
+startOf ends (suc k) = upTo (getD ends k 0 + 1)
+
+unfoldable pub spanOf : List ℕ → ℕ → Bounds
+spanOf ends k = record { from = startOf ends k; to = getD ends k 0 }
+
+-- byte for byte
+unfoldable pub sameBytes : List ℕ → List ℕ → Bool
+sameBytes [] [] = true
+sameBytes [] (b ∷ t) = false
+sameBytes (a ∷ s) [] = false
+sameBytes (a ∷ s) (b ∷ t) = cond (eqb a b) (sameBytes s t) false
