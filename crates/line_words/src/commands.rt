@@ -94,7 +94,8 @@ pub fn command_of(line: &[u8], ends: &[usize]) -> Command {
 pub fn words_of(c: Command) -> usize {
     match c {
         Command::Unknown => 0,
-        Command::Start | Command::Conf => 11,
+        Command::Start => 13,
+        Command::Conf => 11,
         Command::Join | Command::Override => 4,
         Command::Leave | Command::Lost | Command::Back | Command::Plan | Command::Response => 3,
         Command::Clear | Command::Ask | Command::Request => 2,
@@ -106,7 +107,7 @@ pub fn words_of(c: Command) -> usize {
 pub fn read_numbers(line: &[u8], ends: &[usize], c: Command, fields: &mut [u64]) -> bool {
     match c {
         Command::Unknown => false,
-        Command::Start => read(line, ends, b"nffnmmnnnf", fields),
+        Command::Start => read(line, ends, b"nffnmmnnnfnf", fields),
         Command::Join | Command::Override => read(line, ends, b"nnn", fields),
         Command::Leave | Command::Lost | Command::Back => read(line, ends, b"nn", fields),
         Command::Clear | Command::Ask | Command::Response => read(line, ends, b"n", fields),

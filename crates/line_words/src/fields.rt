@@ -9,7 +9,7 @@ ghost use mathlib.Core.Path.{_≡_};
 ghost use Prim.Native.Nat.{min};
 
 // No command has more numbers.
-pub const FIELDS: usize = 10;
+pub const FIELDS: usize = 12;
 
 // A maximum may be none. The largest word stands for that, and no number that a line says.
 const FLAG: u8 = b'f';

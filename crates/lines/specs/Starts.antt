@@ -1,11 +1,12 @@
--- The settings that a start's ten numbers say. Assumes nothing: this is a definition.
+-- The settings that a start's twelve numbers say. Assumes nothing: this is a definition.
 use Prim.Native.Nat.{ℕ}
 use mathlib.Core.List.{List, [], _∷_}
 use lib.Dec.{eqb}
 use lib.ListN.{getD}
 use Rattle.store.specs.declared.Settings.{Settings}
 
--- directions, whether limits and setpoints are accepted, the minimum, two maxima, two failsafe limits, the duration, whether it is a manager
+-- directions, whether limits and setpoints are accepted, the minimum, two maxima, two failsafe limits, the duration, whether it is a manager,
+-- the phase count, whether current limits are accepted
 unfoldable pub settingsIn : List ℕ → Settings
 settingsIn f =
     record {
@@ -17,4 +18,6 @@ settingsIn f =
       failsafe = getD f 6 0 ∷ getD f 7 0 ∷ [];
       duration = getD f 8 0;
       manager = eqb (getD f 9 0) 1;
+      phases = getD f 10 0;
+      currents = eqb (getD f 11 0) 1;
     }

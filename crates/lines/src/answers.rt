@@ -55,6 +55,8 @@ fn settings_of(f: [u64; FIELDS]) -> Settings
         failsafe: [f[6], f[7]],
         duration: f[8],
         manager: f[9] == 1,
+        phases: f[10],
+        currents: f[11] == 1,
     }
 }
 
@@ -282,5 +284,5 @@ pub fn answer(
 pub fn before_start(d: &mut State)
     ensures { λ _. ⌜ now (d .exit) ≡ fresh refusedSettings ⌝ }
 {
-    kernel::start(d, settings_of([3, 0, 0, 0, 0, 0, 0, 0, 0, 0]));
+    kernel::start(d, settings_of([3, 0, 0, 0, 0, 0, 0, 0, 0, 0, 0, 0]));
 }

@@ -1,6 +1,6 @@
 // The kernel by hand: a line of text is a call, and its answer is a line of text.
 //
-// start DIRECTIONS LIMITS SETPOINTS MINIMUM MAXIMUM-C MAXIMUM-P FAILSAFE-C FAILSAFE-P DURATION MANAGER
+// start DIRECTIONS LIMITS SETPOINTS MINIMUM MAXIMUM-C MAXIMUM-P FAILSAFE-C FAILSAFE-P DURATION MANAGER PHASES CURRENT
 // join ZONE RANK TIME, leave ZONE TIME, lost ZONE TIME, back ZONE TIME
 // override REASON DIRECTION TIME, clear TIME
 // ask TIME, plan TIME ROOM
@@ -19,6 +19,8 @@ pub use scrap_lines::ROOM;
 // The longest line; a longer one is a bad line.
 pub const LONGEST: usize = 16384;
 
-// No answer is longer: the numbers of the longest plan, each of up to twenty characters and a space, or two digits for each byte
-// of the longest frame.
-pub const ANSWER: usize = 8192;
+// The most characters of a number, and the byte behind it.
+const CELL: usize = 20 + 1;
+
+// No answer is longer: a number and those of the longest plan, or two digits for each byte of the longest frame.
+pub const ANSWER: usize = (1 + kernel::PLAN) * CELL + 2 * kernel::FRAME;

@@ -25,7 +25,8 @@ use Rattle.script.specs.Runs.{callOf, bodyOf}
 use Rattle.script.specs.Answers.{rowPieces}
 use Rattle.script.specs.declared.calls.Call.{Call}
 
--- "Its device: both directions, all accepted, minimum 1,380,000, contractual maxima 43,000,000 and none, failsafe 4,200,000 and 0, 7,200 s, no energy manager"
+-- "Its device: both directions, all accepted, minimum 1,380,000, contractual maxima 43,000,000 and none, failsafe 4,200,000 and 0, 7,200 s, no energy manager";
+-- "The bench accepts all phases"
 abbrev pub benchSettings : Settings
 benchSettings =
     record {
@@ -37,6 +38,8 @@ benchSettings =
       failsafe = 4200000 ∷ 0 ∷ [];
       duration = 7200;
       manager = false;
+      phases = 3;
+      currents = true;
     }
 
 -- what a call answers and leaves where there is room for all that it writes: its number, a plan's rows, the device's words
@@ -129,8 +132,11 @@ abbrev pub rowsRoom : ℕ
 rowsRoom = slots * helds * rowSize
 
 -- room for every answer: a number's line, and a row's numbers of 20 digits at most with a byte behind each
+abbrev pub cellRoom : ℕ
+cellRoom = 21
+
 abbrev pub answerRoom : ℕ
-answerRoom = 4096
+answerRoom = (1 + rowsRoom) * cellRoom
 
 -- what is left to play: nothing behind a bad record but its line
 unfoldable pub remaining : Bool → List ℕ → List ℕ → Played

@@ -1,4 +1,5 @@
 // The records of one piece of a script.
+use kernel::PLAN;
 use kernel::State;
 ghost use mathlib.Core.Path.{_≡_};
 ghost use mathlib.Core.Bool.{true, false};
@@ -8,8 +9,11 @@ ghost use lib.ListN.{length, drop};
 ghost use Rattle.records.specs.Kinds.{longest};
 ghost use Rattle.script.specs.Bench.{script, frameRoom, rowsRoom, answerRoom, remaining, Comes};
 
-// Room for the longest answer.
-const ANSWER: usize = 4096;
+// The most characters of a number, and the byte behind it.
+const CELL: usize = 20 + 1;
+
+// Room for the longest answer: a number's line, and the numbers of the longest plan.
+const ANSWER: usize = (1 + PLAN) * CELL;
 
 // Records are run up to `from` and answers printed up to `at`; `good` is false behind a bad record.
 pub(crate) struct Place {

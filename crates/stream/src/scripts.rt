@@ -3,24 +3,17 @@ use crate::input::Input;
 use crate::input::fill;
 use crate::pieces::Place;
 use crate::pieces::run;
+use kernel::FRAME;
 use kernel::MOST;
+use kernel::PLAN;
 use kernel::Settings;
 use kernel::State;
-use kernel::VALUES;
 use kernel::WORDS;
-use store::HELDS;
-use store::SLOTS;
 ghost use mathlib.Core.Path.{_≡_};
 ghost use mathlib.Core.Bool.{true};
 ghost use Prim.Native.Nat.{_≤_, _<_};
 ghost use lib.ListN.{length};
 ghost use Rattle.script.specs.Bench.{benchSettings, frameRoom, rowsRoom};
-
-// The numbers of a whole plan: a row for each held value, the second and what holds from then on.
-const ROWS: usize = SLOTS * HELDS * (1 + VALUES);
-
-// Room for every response frame: the prefix, and more than any payload that the kernel writes.
-const FRAME: usize = records::FRAME_LEAST + 192;
 
 // Bench's device.
 fn settings() -> Settings
@@ -35,6 +28,8 @@ fn settings() -> Settings
         failsafe: [4200000, 0],
         duration: 7200,
         manager: false,
+        phases: 3,
+        currents: true,
     }
 }
 
@@ -101,6 +96,6 @@ pub fn play(limit: u64) -> u64 {
     let mut buf = io::large_buffer();
     let mut page = io::large_buffer();
     let mut out = [0u8; FRAME];
-    let mut rows = [0i64; ROWS];
+    let mut rows = [0i64; PLAN];
     play_with(&mut d, limit, &mut buf, &mut page, &mut out, &mut rows)
 }

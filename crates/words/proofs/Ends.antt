@@ -56,9 +56,9 @@ ends-more p (x ∷ s) k h e = go (eqb x 32) k h e (ends-more (suc p) s)
   where
     go : (q : Bool) (k : ℕ) → cond q p (nextOf 32 (suc p) s) < p + suc (length s) → p + k ≡ cond q p (nextOf 32 (suc p) s)
         → ((j : ℕ) → nextOf 32 (suc p) s < suc p + length s → suc p + j ≡ nextOf 32 (suc p) s
-          → endsFrom (suc p) s ≡ nextOf 32 (suc p) s ∷ endsFrom (suc (nextOf 32 (suc p) s)) (drop (suc j) s))
+        → endsFrom (suc p) s ≡ nextOf 32 (suc p) s ∷ endsFrom (suc (nextOf 32 (suc p) s)) (drop (suc j) s))
         → cond q (p ∷ endsFrom (suc p) s) (endsFrom (suc p) s)
-          ≡ cond q p (nextOf 32 (suc p) s) ∷ endsFrom (suc (cond q p (nextOf 32 (suc p) s))) (drop k s)
+        ≡ cond q p (nextOf 32 (suc p) s) ∷ endsFrom (suc (cond q p (nextOf 32 (suc p) s))) (drop k s)
     go true k h e f = let z : k ≡ 0 = omega arith in rw z refl
     go false zero h e f = absurd (omega (arith, next-past (suc p) s))
     go false (suc j) h e f = f j (omega arith) (omega arith)
