@@ -101,7 +101,10 @@ module _ (t q : ℕ) (a : Claim) (x : Zone) (joined : isJoined x ≡ true) where
       order : (ltb (a .rank) (rankOf x) || (eqb (a .rank) (rankOf x) && ltb (a .id) (idOf x))) ≡ ltb (seatOf (a .id) (a .rank)) (x .seat)
       order = seat-order (a .rank) (a .id) (rankOf x) (idOf x) (s .small) (small-id x) ∙ ap (λ (m : ℕ). ltb (seatOf (a .id) (a .rank)) m) (seat-of x)
 
-      go : (b : Bool) → Stands (cond (cond b claim noClaim .there && not (a .there && (ltb (a .rank) (cond b claim noClaim .rank) || (eqb (a .rank) (cond b claim noClaim .rank) && ltb (a .id) (cond b claim noClaim .id))))) (cond b claim noClaim) a)
+      told : Bool → Claim
+      told b = cond b claim noClaim
+
+      go : (b : Bool) → Stands (cond (told b .there && not (a .there && (ltb (a .rank) (told b .rank) || (eqb (a .rank) (told b .rank) && ltb (a .id) (told b .id))))) (told b) a)
           (cond (b && leb (x .seat) k) (x .seat) k) (cond (b && leb (x .seat) k) v n)
       go true = rw order (more (a .there) refl (s .place) (ltb (seatOf (a .id) (a .rank)) (x .seat)) refl)
       go false = s

@@ -5,7 +5,8 @@ use mathlib.Core.Path.{_≡_, refl, sym}
 use native.Mathlib.Omega.{arith}
 use borrow.Author.Tests.{le-ltb, ltb-true, ltb-false, eqb-true, eqb-false}
 use lib.Dec.{ltb, eqb}
-use Rattle.holds.specs.Holds.{isLimit, Claim, goesBefore}
+use Rattle.quantities.specs.Quantities.{isSetpoint}
+use Rattle.holds.specs.Holds.{Claim, goesBefore}
 use Rattle.store.proofs.Tests.{never}
 
 -- (rank, id), by rank and then by id
@@ -46,33 +47,36 @@ is-earlier k i l j e = go (ltb k l) (eqb k l) (ltb i j) refl refl refl e
     go false false c p q r f = absurd (never (sym f))
 
 module _ (q : ℕ) where
+  -- before by rank and id where b holds, by the value where it does not
+  abbrev before : Bool → Claim → Claim → Bool
+  before b x y = cond b (earlier (x .rank) (x .id) (y .rank) (y .id)) (ltb (x .value) (y .value))
+
   pub before-self : (a : Claim) → goesBefore q a a ≡ false
   unfolding goesBefore
-  before-self a = go (isLimit q)
+  before-self a = go (isSetpoint q)
     where
-      go : (b : Bool) → cond b (ltb (a .value) (a .value)) (earlier (a .rank) (a .id) (a .rank) (a .id)) ≡ false
-      go true = le-ltb (a .value) (a .value) (omega arith)
-      go false = earlier-self (a .rank) (a .id)
+      go : (b : Bool) → before b a a ≡ false
+      go true = earlier-self (a .rank) (a .id)
+      go false = le-ltb (a .value) (a .value) (omega arith)
 
   -- of two claims at most one goes before the other
   pub before-asym : (a b : Claim) → goesBefore q a b ≡ true → goesBefore q b a ≡ false
   unfolding goesBefore
-  before-asym a b = go (isLimit q)
+  before-asym a b = go (isSetpoint q)
     where
-      go : (l : Bool) → cond l (ltb (a .value) (b .value)) (earlier (a .rank) (a .id) (b .rank) (b .id)) ≡ true → cond l (ltb (b .value) (a .value)) (earlier (b .rank) (b .id) (a .rank) (a .id)) ≡ false
-      go true e = le-ltb (b .value) (a .value) (omega (arith, ltb-true (a .value) (b .value) e))
-      go false e =
+      go : (l : Bool) → before l a b ≡ true → before l b a ≡ false
+      go true e =
           let p : (a .rank ≤ b .rank) × (a .rank ≡ b .rank → a .id < b .id) = is-earlier (a .rank) (a .id) (b .rank) (b .id) e in
           is-not-earlier (b .rank) (b .id) (a .rank) (a .id) (p .0) (λ h. let u : a .id < b .id = p .1 (sym h) in omega arith)
+      go false e = le-ltb (b .value) (a .value) (omega (arith, ltb-true (a .value) (b .value) e))
 
   -- y does not go before a, nor a before b: y does not go before b
   pub not-before-trans : (y a b : Claim) → goesBefore q y a ≡ false → goesBefore q a b ≡ false → goesBefore q y b ≡ false
   unfolding goesBefore
-  not-before-trans y a b = go (isLimit q)
+  not-before-trans y a b = go (isSetpoint q)
     where
-      go : (l : Bool) → cond l (ltb (y .value) (a .value)) (earlier (y .rank) (y .id) (a .rank) (a .id)) ≡ false → cond l (ltb (a .value) (b .value)) (earlier (a .rank) (a .id) (b .rank) (b .id)) ≡ false → cond l (ltb (y .value) (b .value)) (earlier (y .rank) (y .id) (b .rank) (b .id)) ≡ false
-      go true e f = le-ltb (y .value) (b .value) (omega (arith, ltb-false (y .value) (a .value) e, ltb-false (a .value) (b .value) f))
-      go false e f =
+      go : (l : Bool) → before l y a ≡ false → before l a b ≡ false → before l y b ≡ false
+      go true e f =
           let p : (a .rank ≤ y .rank) × (y .rank ≡ a .rank → a .id ≤ y .id) = not-earlier (y .rank) (y .id) (a .rank) (a .id) e in
           let r : (b .rank ≤ a .rank) × (a .rank ≡ b .rank → b .id ≤ a .id) = not-earlier (a .rank) (a .id) (b .rank) (b .id) f in
           is-not-earlier (y .rank) (y .id) (b .rank) (b .id) (omega arith)
@@ -80,3 +84,4 @@ module _ (q : ℕ) where
           let u : a .id ≤ y .id = p .1 (omega arith) in
           let w : b .id ≤ a .id = r .1 (omega arith) in
           omega arith)
+      go false e f = le-ltb (y .value) (b .value) (omega (arith, ltb-false (y .value) (a .value) e, ltb-false (a .value) (b .value) f))

@@ -8,9 +8,9 @@ use lib.Dec.{ltb, eqb}
 use lib.ListN.{length, getD}
 use Rattle.messages.specs.Numbers.{CONTROLLED, LIMITED, FAILSAFE, OVERRIDE}
 use Rattle.messages.specs.declared.Amount.the-variants.{Absent, Is}
-use Rattle.store.specs.Sizes.{helds, most}
+use Rattle.quantities.specs.Quantities.{isLimit, isSetpoint, isCurrent, directionOf, supports}
 use Rattle.store.specs.Zones.{idOf, rankOf, freeZone, isJoined, anyJoined, anyUp, heldOf}
-use Rattle.holds.specs.Holds.{isLimit, directionOf, supports, noClaim, claimOf, goesBefore, winner, Situation, inFailsafe, valueAt, present, stateAt}
+use Rattle.holds.specs.Holds.{noClaim, claimOf, goesBefore, winner, Situation, inFailsafe, valueAt, present, stateAt}
 use Rattle.messages.specs.Refusals.{firstOf}
 use Rattle.store.specs.declared.Zone.{Zone}
 use Rattle.store.specs.declared.Settings.{Settings}
@@ -32,7 +32,7 @@ pub record Wins (t q : ℕ) (zs : List Zone) : Type 0 where
   pub first : Each t q zs (λ x. goesBefore q (claimOf t q x) (winner t q zs) ≡ false)
   pub none : (winner t q zs .there ≡ false) ↔ Each t q zs (λ x. ⊥)
 
--- "smallest unexpired of all joined zones"
+-- "smallest unexpired of all joined zones": power limits and current limits
 abbrev pub SmallestLimit : Situation → ℕ → ℕ → Type 0
 SmallestLimit s t q =
     (v : ℕ) → valueAt s t q ≡ Is v → Some t q (s .zones) (λ x. heldOf x q .value ≡ v) × Each t q (s .zones) (λ y. v ≤ heldOf y q .value)
@@ -47,8 +47,8 @@ BestSetpoint s t q =
 
 -- the first row: "some zone up"; absent exactly when no joined zone has an unexpired value
 pub record SomeUp (s : Situation) (t q : ℕ) : Type 0 where
-  pub limit : isLimit q ≡ true → SmallestLimit s t q
-  pub setpoint : isLimit q ≡ false → BestSetpoint s t q
+  pub limit : isSetpoint q ≡ false → SmallestLimit s t q
+  pub setpoint : isSetpoint q ≡ true → BestSetpoint s t q
   pub absent : supports (s .settings .directions) (directionOf q) ≡ true → (valueAt s t q ≡ Absent) ↔ Each t q (s .zones) (λ x. ⊥)
 
 -- "the smallest of the failsafe limit and all unexpired limits of joined zones": some source holds it, and none is smaller
@@ -57,11 +57,13 @@ pub record SmallestSource (s : Situation) (t q v : ℕ) : Type 0 where
   pub safe : v ≤ getD (s .settings .failsafe) q 0
   pub first : Each t q (s .zones) (λ y. v ≤ heldOf y q .value)
 
--- the second row: in a supported direction there is a limit; setpoints are absent
+-- the second row: in a supported direction there is a limit; setpoints are absent; current limits hold as in the first row
 pub record Failsafe (s : Situation) (t : ℕ) : Type 0 where
   pub state : stateAt s t ≡ FAILSAFE
   pub limit : (q : ℕ) → supports (s .settings .directions) (directionOf q) ≡ true → isLimit q ≡ true → (v : ℕ) × (valueAt s t q ≡ Is v) × SmallestSource s t q v
-  pub setpoint : (q : ℕ) → isLimit q ≡ false → valueAt s t q ≡ Absent
+  pub setpoint : (q : ℕ) → isSetpoint q ≡ true → valueAt s t q ≡ Absent
+  pub current : (q : ℕ) → isCurrent q ≡ true → SmallestLimit s t q
+  pub absent : (q : ℕ) → isCurrent q ≡ true → supports (s .settings .directions) (directionOf q) ≡ true → (valueAt s t q ≡ Absent) ↔ Each t q (s .zones) (λ x. ⊥)
 
 -- the second and third rows: the failsafe holds below since + duration, and from that second on nothing does
 pub record NoneUp (s : Situation) (t : ℕ) : Type 0 where
@@ -95,9 +97,23 @@ pub record ButForLinks (a b : Situation) : Type 0 where
   pub seats : (i : ℕ) → getD (a .zones) i freeZone .seat ≡ getD (b .zones) i freeZone .seat
   pub held : (i : ℕ) → getD (a .zones) i freeZone .held ≡ getD (b .zones) i freeZone .held
 
--- "Losing the link must not loosen a limit": while the failsafe lasts, a limit that held with a link up holds without one, and is no larger
+-- "Losing the link must not loosen a limit": while the failsafe lasts, a power or current limit that held with a link up holds without one, and is no larger
 abbrev pub LosingLinks : Type 0
 LosingLinks =
     (lost linked : Situation) → ButForLinks lost linked → anyUp (lost .zones) ≡ false → anyUp (linked .zones) ≡ true
     → (t : ℕ) → t < lost .since + lost .settings .duration
-    → (q v : ℕ) → isLimit q ≡ true → valueAt linked t q ≡ Is v → (w : ℕ) × (valueAt lost t q ≡ Is w) × (w ≤ v)
+    → (q v : ℕ) → isSetpoint q ≡ false → valueAt linked t q ≡ Is v → (w : ℕ) × (valueAt lost t q ≡ Is w) × (w ≤ v)
+
+-- two situations that differ in current limits and setpoints alone
+pub record ButForCurrents (a b : Situation) : Type 0 where
+  pub settings : a .settings ≡ b .settings
+  pub override : a .override ≡ b .override
+  pub since : a .since ≡ b .since
+  pub slots : length (a .zones) ≡ length (b .zones)
+  pub seats : (i : ℕ) → getD (a .zones) i freeZone .seat ≡ getD (b .zones) i freeZone .seat
+  pub links : (i : ℕ) → getD (a .zones) i freeZone .up ≡ getD (b .zones) i freeZone .up
+  pub limits : (i q : ℕ) → isLimit q ≡ true → heldOf (getD (a .zones) i freeZone) q ≡ heldOf (getD (b .zones) i freeZone) q
+
+-- currents never move the control state
+abbrev pub StateAlone : Type 0
+StateAlone = (a b : Situation) → ButForCurrents a b → (t : ℕ) → stateAt a t ≡ stateAt b t

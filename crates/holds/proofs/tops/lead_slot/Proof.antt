@@ -52,9 +52,12 @@ loop-less c = omega arith
 
 loop-again : tie.Need-loop-again Inv-loop μ-loop
 loop-again c =
-    let x : Zone = getD (zonesOf (c .before .before .before .before .before .before .before .args .d .now)) (c .before .before .before .before .before .before .before .args .i) freeZone in (
+    let at-args = c .before .before .before .before .before .before .before .args in
+    let at-loop = c .before .before .before .before .loop in
+    let at-held-at = c .before .before .held-at in
+    let x : Zone = getD (zonesOf (at-args .d .now)) (at-args .i) freeZone in (
       omega arith,
-      leads-turn (c .before .before .before .before .before .before .before .args .t) x (c .before .before .before .before .loop .k) (c .before .before .before .before .before .before .before .args .start) (c .before .before .before .before .loop .g) (c .lead-with .result) (c .before .before .held-at .result) (c .before .seat-at .result) (c .before .before .before .before .loop .inv .1) (c .before .before .held-at .ensures)
+      leads-turn (at-args .t) x (at-loop .k) (at-args .start) (at-loop .g) (c .lead-with .result) (at-held-at .result) (c .before .seat-at .result) (at-loop .inv .1) (at-held-at .ensures)
           (c .before .seat-at .ensures) (c .lead-with .ensures .0),
       λ h. rw (c .before .seat-at .ensures) at (c .lead-with .ensures .1),
     )
@@ -62,11 +65,14 @@ loop-again c =
 returns-2 : tie.Need-returns-2 Inv-loop μ-loop
 unfolding isJoined
 returns-2 c =
-    let x : Zone = getD (zonesOf (c .before .before .before .before .args .d .now)) (c .before .before .before .before .args .i) freeZone in
+    let at-args = c .before .before .before .before .args in
+    let at-if1 = c .before .before .if1 in
+    let at-id-at = c .before .before .before .id-at in
+    let x : Zone = getD (zonesOf (at-args .d .now)) (at-args .i) freeZone in
     let e : c .before .loop .k ≡ leads = omega arith in
-    let joined : isJoined x ≡ true = rw (ne-eqb _ _ (λ z. c .before .before .if1 .left (c .before .before .before .id-at .ensures ∙ z))) in
-    let is : c .before .loop .g ≡ leadsWith (c .before .before .before .before .args .t) x leads (c .before .before .before .before .args .start) = rw e at (c .before .loop .inv .1) in
-    rw is (leads-add (c .before .before .before .before .args .t) x joined (c .before .before .before .before .args .start) (c .before .loop .inv .2 (omega arith)), leads-end (c .before .before .before .before .args .t) x joined (c .before .before .before .before .args .start))
+    let joined : isJoined x ≡ true = rw (ne-eqb _ _ (λ z. at-if1 .left (at-id-at .ensures ∙ z))) in
+    let is : c .before .loop .g ≡ leadsWith (at-args .t) x leads (at-args .start) = rw e at (c .before .loop .inv .1) in
+    rw is (leads-add (at-args .t) x joined (at-args .start) (c .before .loop .inv .2 (omega arith)), leads-end (at-args .t) x joined (at-args .start))
 
 pub lead-slot-spec : {M : Type 1} → statement M
 lead-slot-spec =

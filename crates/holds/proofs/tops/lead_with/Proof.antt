@@ -32,14 +32,20 @@ least-requires c κs = search needs
 
 returns : tie.Need-returns
 unfolding leadStep takes nearer lesser
-returns c = (rw (c .least .ensures ∙ lesser-swap (c .before .before .before .before .before .before .args .g .next) (c .before .before .before .before .before .before .args .h .until), lt-ltb _ _ (c .before .before .if1 .taken), le-leb _ _ (c .before .if2 .taken)), omega arith)
+returns c =
+    let at-args = c .before .before .before .before .before .before .args in
+    let at-if1 = c .before .before .if1 in
+    (rw (c .least .ensures ∙ lesser-swap (at-args .g .next) (at-args .h .until), lt-ltb _ _ (at-if1 .taken), le-leb _ _ (c .before .if2 .taken)), omega arith)
 
 least-requires-2 : tie.Need-least-requires-2
 least-requires-2 c κs = search needs
 
 returns-2 : tie.Need-returns-2
 unfolding leadStep takes nearer lesser
-returns-2 c = (rw (c .least2 .ensures ∙ lesser-swap (c .before .before .before .before .before .before .args .g .next) (c .before .before .before .before .before .before .args .h .until), lt-ltb _ _ (c .before .before .if1 .taken), lt-leb _ _ (c .before .if2 .left)), omega arith)
+returns-2 c =
+    let at-args = c .before .before .before .before .before .before .args in
+    let at-if1 = c .before .before .if1 in
+    (rw (c .least2 .ensures ∙ lesser-swap (at-args .g .next) (at-args .h .until), lt-ltb _ _ (at-if1 .taken), lt-leb _ _ (c .before .if2 .left)), omega arith)
 
 returns-3 : tie.Need-returns-3
 unfolding leadStep takes nearer lesser

@@ -46,19 +46,23 @@ loop-less c = omega arith
 
 loop-again : tie.Need-loop-again Inv-loop μ-loop
 unfolding heldOf
-loop-again c = (
-  omega arith,
-  leads-turn (c .before .before .before .before .before .before .before .args .t) (c .before .before .before .before .before .before .before .args .zone) (c .before .before .before .loop .k) (c .before .before .before .before .before .before .before .args .start) (c .before .before .before .loop .g) (c .lead-with .result) _ _ (c .before .before .before .loop .inv .1) refl refl (c .lead-with .ensures .0),
-  λ h. c .lead-with .ensures .1,
-)
+loop-again c =
+    let at-args = c .before .before .before .before .before .before .before .args in
+    let at-loop = c .before .before .before .loop in (
+      omega arith,
+      leads-turn (at-args .t) (at-args .zone) (at-loop .k) (at-args .start) (at-loop .g) (c .lead-with .result) _ _ (at-loop .inv .1) refl refl (c .lead-with .ensures .0),
+      λ h. c .lead-with .ensures .1,
+    )
 
 returns-2 : tie.Need-returns-2 Inv-loop μ-loop
 unfolding isJoined idOf
 returns-2 c =
+    let at-args = c .before .before .before .before .before .args in
+    let at-if1 = c .before .before .before .if1 in
     let e : c .before .loop .k ≡ leads = omega arith in
-    let joined : isJoined (c .before .before .before .before .before .args .zone) ≡ true = rw (ne-eqb _ _ (c .before .before .before .if1 .left)) in
-    let is : c .before .loop .g ≡ leadsWith (c .before .before .before .before .before .args .t) (c .before .before .before .before .before .args .zone) leads (c .before .before .before .before .before .args .start) = rw e at (c .before .loop .inv .1) in
-    rw is (leads-add (c .before .before .before .before .before .args .t) (c .before .before .before .before .before .args .zone) joined (c .before .before .before .before .before .args .start) (c .before .loop .inv .2 (omega arith)), leads-end (c .before .before .before .before .before .args .t) (c .before .before .before .before .before .args .zone) joined (c .before .before .before .before .before .args .start))
+    let joined : isJoined (at-args .zone) ≡ true = rw (ne-eqb _ _ (at-if1 .left)) in
+    let is : c .before .loop .g ≡ leadsWith (at-args .t) (at-args .zone) leads (at-args .start) = rw e at (c .before .loop .inv .1) in
+    rw is (leads-add (at-args .t) (at-args .zone) joined (at-args .start) (c .before .loop .inv .2 (omega arith)), leads-end (at-args .t) (at-args .zone) joined (at-args .start))
 
 pub lead-zone-spec : {M : Type 1} → statement M
 lead-zone-spec =

@@ -49,21 +49,27 @@ loop-less c = omega arith
 
 loop-again : tie.Need-loop-again Inv-loop μ-loop
 loop-again c =
-    let x : Zone = getD (zonesOf (c .before .before .before .before .before .before .before .args .d .now)) (c .before .before .before .before .before .before .before .args .i) freeZone in
-    let held : c .before .held-at .result ≡ heldOf x (lowAt (c .before .before .before .before .loop .k)) = rw (c .before .before .low-at .ensures) at (c .before .held-at .ensures) in (
+    let at-args = c .before .before .before .before .before .before .before .args in
+    let at-loop = c .before .before .before .before .loop in
+    let at-low-at = c .before .before .low-at in
+    let x : Zone = getD (zonesOf (at-args .d .now)) (at-args .i) freeZone in
+    let held : c .before .held-at .result ≡ heldOf x (lowAt (at-loop .k)) = rw (at-low-at .ensures) at (c .before .held-at .ensures) in (
       omega arith,
-      lows-turn (c .before .before .before .before .before .before .before .args .t) x (c .before .before .before .before .loop .k) (c .before .before .before .before .before .before .before .args .start) (c .before .before .before .before .loop .g) (c .low-with .result) (c .before .held-at .result) (c .before .before .before .before .loop .inv .1) held (c .low-with .ensures .0),
-      below-turn (λ j. heldOf x (lowAt j) .value ≤ most) (c .before .before .before .before .loop .k) (c .before .before .before .before .loop .inv .2) (rw held at (c .low-with .ensures .1)),
+      lows-turn (at-args .t) x (at-loop .k) (at-args .start) (at-loop .g) (c .low-with .result) (c .before .held-at .result) (at-loop .inv .1) held (c .low-with .ensures .0),
+      below-turn (λ j. heldOf x (lowAt j) .value ≤ most) (at-loop .k) (at-loop .inv .2) (rw held at (c .low-with .ensures .1)),
     )
 
 returns-2 : tie.Need-returns-2 Inv-loop μ-loop
 unfolding isJoined
 returns-2 c =
-    let x : Zone = getD (zonesOf (c .before .before .before .before .args .d .now)) (c .before .before .before .before .args .i) freeZone in
+    let at-args = c .before .before .before .before .args in
+    let at-if1 = c .before .before .if1 in
+    let at-id-at = c .before .before .before .id-at in
+    let x : Zone = getD (zonesOf (at-args .d .now)) (at-args .i) freeZone in
     let e : c .before .loop .k ≡ lows = omega arith in
-    let joined : isJoined x ≡ true = rw (ne-eqb _ _ (λ z. c .before .before .if1 .left (c .before .before .before .id-at .ensures ∙ z))) in
-    let is : c .before .loop .g ≡ lowsWith (c .before .before .before .before .args .t) x lows (c .before .before .before .before .args .start) = rw e at (c .before .loop .inv .1) in
-    rw is (lows-add (c .before .before .before .before .args .t) x joined (c .before .before .before .before .args .start) (rw e at (c .before .loop .inv .2)), lows-end (c .before .before .before .before .args .t) x joined (c .before .before .before .before .args .start))
+    let joined : isJoined x ≡ true = rw (ne-eqb _ _ (λ z. at-if1 .left (at-id-at .ensures ∙ z))) in
+    let is : c .before .loop .g ≡ lowsWith (at-args .t) x lows (at-args .start) = rw e at (c .before .loop .inv .1) in
+    rw is (lows-add (at-args .t) x joined (at-args .start) (rw e at (c .before .loop .inv .2)), lows-end (at-args .t) x joined (at-args .start))
 
 pub low-slot-spec : {M : Type 1} → statement M
 low-slot-spec =

@@ -29,7 +29,10 @@ least-requires-2 c κs = search needs
 
 returns : tie.Need-returns
 unfolding lowStep nearer lesser
-returns c = (rw (c .before .least .ensures, c .least2 .ensures ∙ lesser-swap (c .before .before .before .before .before .args .g .next) (c .before .before .before .before .before .args .h .until), lt-ltb _ _ (c .before .before .before .if1 .taken)), omega arith)
+returns c =
+    let at-args = c .before .before .before .before .before .args in
+    let at-if1 = c .before .before .before .if1 in
+    (rw (c .before .least .ensures, c .least2 .ensures ∙ lesser-swap (at-args .g .next) (at-args .h .until), lt-ltb _ _ (at-if1 .taken)), omega arith)
 
 returns-2 : tie.Need-returns-2
 unfolding lowStep nearer lesser

@@ -32,10 +32,14 @@ low-at-requires : tie.Need-low-at-requires Inv-loop μ-loop
 low-at-requires c κs = omega arith
 
 mul-h : tie.Need-mul-h Inv-loop μ-loop
-mul-h c = omega (arith, c .low-at .ensures, low-small (c .before .before .loop .k) (omega arith))
+mul-h c =
+    let at-loop = c .before .before .loop in
+    omega (arith, c .low-at .ensures, low-small (at-loop .k) (omega arith))
 
 array-copy-out-h : tie.Need-array-copy-out-h Inv-loop μ-loop
-array-copy-out-h c = omega (arith, c .low-at .ensures, low-small (c .before .before .loop .k) (omega arith))
+array-copy-out-h c =
+    let at-loop = c .before .before .loop in
+    omega (arith, c .low-at .ensures, low-small (at-loop .k) (omega arith))
 
 low-with-requires : tie.Need-low-with-requires Inv-loop μ-loop
 low-with-requires c κs = omega arith
@@ -48,21 +52,26 @@ loop-less c = omega arith
 
 loop-again : tie.Need-loop-again Inv-loop μ-loop
 unfolding heldOf
-loop-again c = (
-  omega arith,
-  lows-turn (c .before .before .before .before .before .before .before .before .args .t) (holding freeZone (c .before .before .before .before .before .before .before .before .args .zone .held)) (c .before .before .before .before .loop .k) (c .before .before .before .before .before .before .before .before .args .start) (c .before .before .before .before .loop .g) (c .low-with .result) _ (c .before .before .before .before .loop .inv .1)
-      (rw (c .before .before .low-at .ensures)) (c .low-with .ensures .0),
-  below-turn (λ j. heldOf (holding freeZone (c .before .before .before .before .before .before .before .before .args .zone .held)) (lowAt j) .value ≤ most) (c .before .before .before .before .loop .k) (c .before .before .before .before .loop .inv .2)
-      (rw (c .before .before .low-at .ensures) at (c .low-with .ensures .1)),
-)
+loop-again c =
+    let at-args = c .before .before .before .before .before .before .before .before .args in
+    let at-loop = c .before .before .before .before .loop in
+    let at-low-at = c .before .before .low-at in (
+      omega arith,
+      lows-turn (at-args .t) (holding freeZone (at-args .zone .held)) (at-loop .k) (at-args .start) (at-loop .g) (c .low-with .result) _ (at-loop .inv .1)
+          (rw (at-low-at .ensures)) (c .low-with .ensures .0),
+      below-turn (λ j. heldOf (holding freeZone (at-args .zone .held)) (lowAt j) .value ≤ most) (at-loop .k) (at-loop .inv .2)
+          (rw (at-low-at .ensures) at (c .low-with .ensures .1)),
+    )
 
 returns-2 : tie.Need-returns-2 Inv-loop μ-loop
 unfolding isJoined idOf heldOf
 returns-2 c =
+    let at-args = c .before .before .before .before .before .args in
+    let at-if1 = c .before .before .before .if1 in
     let e : c .before .loop .k ≡ lows = omega arith in
-    let joined : isJoined (c .before .before .before .before .before .args .zone) ≡ true = rw (ne-eqb _ _ (c .before .before .before .if1 .left)) in
-    let is : c .before .loop .g ≡ lowsWith (c .before .before .before .before .before .args .t) (c .before .before .before .before .before .args .zone) lows (c .before .before .before .before .before .args .start) = rw e at (c .before .loop .inv .1) in
-    rw is (lows-add (c .before .before .before .before .before .args .t) (c .before .before .before .before .before .args .zone) joined (c .before .before .before .before .before .args .start) (rw e at (c .before .loop .inv .2)), lows-end (c .before .before .before .before .before .args .t) (c .before .before .before .before .before .args .zone) joined (c .before .before .before .before .before .args .start))
+    let joined : isJoined (at-args .zone) ≡ true = rw (ne-eqb _ _ (at-if1 .left)) in
+    let is : c .before .loop .g ≡ lowsWith (at-args .t) (at-args .zone) lows (at-args .start) = rw e at (c .before .loop .inv .1) in
+    rw is (lows-add (at-args .t) (at-args .zone) joined (at-args .start) (rw e at (c .before .loop .inv .2)), lows-end (at-args .t) (at-args .zone) joined (at-args .start))
 
 pub low-zone-spec : {M : Type 1} → statement M
 low-zone-spec =

@@ -40,7 +40,10 @@ number-of-requires : tie.Need-number-of-requires Inv-loop μ-loop
 number-of-requires c κs = omega arith
 
 shown-below-requires : tie.Need-shown-below-requires Inv-loop μ-loop
-shown-below-requires c κs = rw (c .before .before .loop .inv .1, top-at (c .before .before .before .before .before .args .has) (directionOf (c .before .before .loop .q)) (omega arith)) (top-small (c .before .before .before .before .before .args .has) (directionOf (c .before .before .loop .q)))
+shown-below-requires c κs =
+    let at-loop = c .before .before .loop in
+    let at-args = c .before .before .before .before .before .args in
+    rw (at-loop .inv .1, top-at (at-args .has) (directionOf (at-loop .q)) (omega arith)) (top-small (at-args .has) (directionOf (at-loop .q)))
 
 add-v : tie.Need-add-v Inv-loop μ-loop
 add-v c = omega arith
@@ -60,12 +63,14 @@ loop-less c = omega arith
 loop-again : tie.Need-loop-again Inv-loop μ-loop
 unfolding shownIn
 loop-again c =
+    let at-loop = c .before .before .before .loop in
+    let at-args = c .before .before .before .before .before .before .args in
     let f : SFits w64 (c .shown-below .result) = search needs in (
       omega arith,
-      c .before .before .before .loop .inv .1,
-      simp length-set (c .before .before .before .loop .inv .2),
-      fill-more (shownIn (c .before .before .before .before .before .before .args .has) (c .before .before .before .before .before .before .args .low) (c .before .before .before .before .before .before .args .lead)) (c .before .before .before .loop .v) (c .before .before .before .loop .q) _ (omega (arith, c .before .before .before .loop .inv .2)) (c .before .before .before .loop .inv .3)
-          (toZ-ofZ f ∙ c .shown-below .ensures ∙ rw (c .before .before .before .loop .inv .1, top-at (c .before .before .before .before .before .before .args .has) (directionOf (c .before .before .before .loop .q)) (omega arith), c .before .number-of .ensures)),
+      at-loop .inv .1,
+      simp length-set (at-loop .inv .2),
+      fill-more (shownIn (at-args .has) (at-args .low) (at-args .lead)) (at-loop .v) (at-loop .q) _ (omega (arith, at-loop .inv .2)) (at-loop .inv .3)
+          (toZ-ofZ f ∙ c .shown-below .ensures ∙ rw (at-loop .inv .1, top-at (at-args .has) (directionOf (at-loop .q)) (omega arith), c .before .number-of .ensures)),
     )
 
 returns : tie.Need-returns Inv-loop μ-loop

@@ -48,16 +48,26 @@ array-set-of-v c = search needs
 returns : tie.Need-returns
 unfolding valuesDown
 returns c f m =
-    rw (← c .before .before .before .before .before .before .before .before .since .ensures, ← c .before .before .before .before .before .before .before .before .before .settings-at .ensures, via (c .before .before .before .before .before .before .before .failsafe-holds .ensures) (c .before .before .before .before .before .before .if1 .taken))
-    (safe-filled (c .before .before .before .before .before .before .before .before .before .settings-at .result) (c .before .before .before .before .before .before .before .before .before .before .args .g) f m (c .before .before .before .safe-low .result) (c .before .safe-low2 .result) (c .before .before .before .safe-low .ensures (f 0) (first-met (c .before .before .before .before .before .before .before .before .before .before .args .g) f m))
-    (c .before .safe-low2 .ensures (f 1) (second-met (c .before .before .before .before .before .before .before .before .before .before .args .g) f m (c .before .before .before .safe-low .result))) (c .row .result) (c .row .ensures .0) (c .row .ensures .1))
+    let at-since = c .before .before .before .before .before .before .before .before .since in
+    let at-settings-at = c .before .before .before .before .before .before .before .before .before .settings-at in
+    let at-failsafe-holds = c .before .before .before .before .before .before .before .failsafe-holds in
+    let at-if1 = c .before .before .before .before .before .before .if1 in
+    let at-args = c .before .before .before .before .before .before .before .before .before .before .args in
+    let at-safe-low = c .before .before .before .safe-low in
+    rw (← at-since .ensures, ← at-settings-at .ensures, via (at-failsafe-holds .ensures) (at-if1 .taken))
+    (safe-filled (at-settings-at .result) (at-args .g) f m (at-safe-low .result) (c .before .safe-low2 .result) (at-safe-low .ensures (f 0) (first-met (at-args .g) f m))
+    (c .before .safe-low2 .ensures (f 1) (second-met (at-args .g) f m (at-safe-low .result))) (c .row .result) (c .row .ensures .0) (c .row .ensures .1))
 
 values-none-requires : tie.Need-values-none-requires
 values-none-requires c κs = search needs
 
 returns-2 : tie.Need-returns-2
 unfolding valuesDown
-returns-2 c f m = rw (← c .before .before .before .since .ensures, ← c .before .before .before .before .settings-at .ensures, via (c .before .before .failsafe-holds .ensures) (c .before .if1 .left)) (c .values-none .ensures)
+returns-2 c f m =
+    let at-since = c .before .before .before .since in
+    let at-settings-at = c .before .before .before .before .settings-at in
+    let at-failsafe-holds = c .before .before .failsafe-holds in
+    rw (← at-since .ensures, ← at-settings-at .ensures, via (at-failsafe-holds .ensures) (c .before .if1 .left)) (c .values-none .ensures)
 
 pub values-down-spec : {M : Type 1} → statement M
 values-down-spec =

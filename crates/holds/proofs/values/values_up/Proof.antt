@@ -32,12 +32,16 @@ array-set-from-v c = search needs
 
 returns : tie.Need-returns
 returns c =
+    let at-row = c .before .before .before .before .row in
+    let at-settings-at = c .before .before .before .before .before .settings-at in
+    let at-args = c .before .before .before .before .before .before .before .before .args in
+    let at-overridden = c .before .before .before .overridden in
     let f : SFits w64 (c .state-up .result) = search needs in
-    let a : SFits w64 (getD (c .before .before .before .before .row .result) 1 (pos 0)) = search needs in
-    let b : SFits w64 (getD (c .before .before .before .before .row .result) 2 (pos 0)) = search needs in
-    rw (toZ-ofZ f, ← c .before .before .before .before .before .settings-at .ensures)
-    (up-filled (c .before .before .before .before .before .settings-at .result .directions) _ (c .before .before .before .before .before .before .before .before .args .a .low) (c .before .before .before .before .before .before .before .before .args .b .lead) (c .before .before .before .before .row .result) (c .state-up .result) _ _ (c .before .before .before .before .row .ensures .0)
-    (c .before .before .before .before .row .ensures .1) (rw (c .before .before .before .overridden .ensures) at (c .state-up .ensures)) (toZ-ofZ a) (toZ-ofZ b))
+    let a : SFits w64 (getD (at-row .result) 1 (pos 0)) = search needs in
+    let b : SFits w64 (getD (at-row .result) 2 (pos 0)) = search needs in
+    rw (toZ-ofZ f, ← at-settings-at .ensures)
+    (up-filled (at-settings-at .result .directions) _ (at-args .a .low) (at-args .b .lead) (at-row .result) (c .state-up .result) _ _ (at-row .ensures .0)
+    (at-row .ensures .1) (rw (at-overridden .ensures) at (c .state-up .ensures)) (toZ-ofZ a) (toZ-ofZ b))
 
 pub values-up-spec : {M : Type 1} → statement M
 values-up-spec =

@@ -23,13 +23,17 @@ values-up-requires c κs = search needs
 
 returns : tie.Need-returns
 returns c =
-    let s : Situation = situationOf (c .before .before .before .before .before .args .d .now) in
-    let up : anyUp (s .zones) ≡ true = up-of s (via (c .before .before .before .before .link-row .ensures) (c .before .before .before .if1 .taken)) in
+    let at-args = c .before .before .before .before .before .args in
+    let at-link-row = c .before .before .before .before .link-row in
+    let at-if1 = c .before .before .before .if1 in
+    let at-lows-at = c .before .before .lows-at in
+    let s : Situation = situationOf (at-args .d .now) in
+    let up : anyUp (s .zones) ≡ true = up-of s (via (at-link-row .ensures) (at-if1 .taken)) in
     rw (
-      c .values-up .ensures ∙ values-up s (c .before .before .before .before .before .args .t) up (c .before .before .lows-at .result) (c .before .leads-at .result) (c .before .before .lows-at .ensures .0) (c .before .leads-at .ensures .0),
+      c .values-up .ensures ∙ values-up s (at-args .t) up (at-lows-at .result) (c .before .leads-at .result) (at-lows-at .ensures .0) (c .before .leads-at .ensures .0),
       c .before .leads-at .ensures .1,
-      c .before .before .lows-at .ensures .1,
-      due-up s (c .before .before .before .before .before .args .t) up,
+      at-lows-at .ensures .1,
+      due-up s (at-args .t) up,
     )
 
 since-requires : tie.Need-since-requires
@@ -49,15 +53,21 @@ values-down-requires c κs = search needs
 
 returns-2 : tie.Need-returns-2
 returns-2 c =
-    let s : Situation = situationOf (c .before .before .before .before .before .before .before .before .args .d .now) in
-    let down : (anyUp (s .zones) ≡ false) × (anyJoined (s .zones) ≡ true) = down-of s (via (c .before .before .before .before .before .before .before .link-row .ensures) (c .before .before .before .before .before .if2 .taken)) in
+    let at-args = c .before .before .before .before .before .before .before .before .args in
+    let at-link-row = c .before .before .before .before .before .before .before .link-row in
+    let at-if2 = c .before .before .before .before .before .if2 in
+    let at-failsafe-end = c .before .before .failsafe-end in
+    let at-since = c .before .before .before .before .since in
+    let at-settings-at = c .before .before .before .settings-at in
+    let s : Situation = situationOf (at-args .d .now) in
+    let down : (anyUp (s .zones) ≡ false) × (anyJoined (s .zones) ≡ true) = down-of s (via (at-link-row .ensures) (at-if2 .taken)) in
     rw (
-      c .values-down .ensures (λ q. winner (c .before .before .before .before .before .before .before .before .args .t) q (s .zones)) (c .before .lows-at2 .ensures .0) ∙ values-down s (c .before .before .before .before .before .before .before .before .args .t) (down .0) (down .1),
+      c .values-down .ensures (λ q. winner (at-args .t) q (s .zones)) (c .before .lows-at2 .ensures .0) ∙ values-down s (at-args .t) (down .0) (down .1),
       c .before .lows-at2 .ensures .1,
-      c .before .before .failsafe-end .ensures,
-      c .before .before .before .before .since .ensures,
-      c .before .before .before .settings-at .ensures,
-      due-down s (c .before .before .before .before .before .before .before .before .args .t) (down .0) (down .1),
+      at-failsafe-end .ensures,
+      at-since .ensures,
+      at-settings-at .ensures,
+      due-down s (at-args .t) (down .0) (down .1),
     )
 
 values-none-requires : tie.Need-values-none-requires
@@ -65,9 +75,12 @@ values-none-requires c κs = search needs
 
 returns-3 : tie.Need-returns-3
 returns-3 c =
-    let s : Situation = situationOf (c .before .before .before .before .args .d .now) in
-    let down : (anyUp (s .zones) ≡ false) × (anyJoined (s .zones) ≡ false) = none-of s (rw (← c .before .before .before .link-row .ensures) (c .before .before .if1 .left)) (rw (← c .before .before .before .link-row .ensures) (c .before .if2 .left)) in
-    rw (c .values-none .ensures ∙ values-none s (c .before .before .before .before .args .t) (down .0) (down .1), due-none s (c .before .before .before .before .args .t) (down .0) (down .1))
+    let at-args = c .before .before .before .before .args in
+    let at-link-row = c .before .before .before .link-row in
+    let at-if1 = c .before .before .if1 in
+    let s : Situation = situationOf (at-args .d .now) in
+    let down : (anyUp (s .zones) ≡ false) × (anyJoined (s .zones) ≡ false) = none-of s (rw (← at-link-row .ensures) (at-if1 .left)) (rw (← at-link-row .ensures) (c .before .if2 .left)) in
+    rw (c .values-none .ensures ∙ values-none s (at-args .t) (down .0) (down .1), due-none s (at-args .t) (down .0) (down .1))
 
 pub view-at-spec : {M : Type 1} → statement M
 view-at-spec =
