@@ -1,12 +1,12 @@
 -- The longest frames: each field has at most so many bytes, by the width of its number. Assumes nothing.
-use Prim.Native.Nat.{ℕ, _+_, _-_, _^_, _≤_, _<_}
+use Prim.Native.Nat.{ℕ, _+_, _≤_, _<_}
 use mathlib.Core.Path.{_≡_, refl, sym, ap, _∙_}
-use mathlib.Core.Bool.{Bool, true, false, cond, _&&_, _||_}
-use mathlib.Core.List.{List, [], _∷_, _++_}
+use mathlib.Core.Bool.{Bool, true, false, cond}
+use mathlib.Core.List.{[], _∷_}
 use mathlib.Core.Option.{Option, some, none}
 use native.Mathlib.Omega.{arith}
 use lib.ListN.{length, length-append}
-use lib.Dec.{leb, ltb, eqb}
+use lib.Dec.{leb, eqb}
 use lib.IntN.{pos, negsuc}
 use borrow.Author.Tests.{leb-true, ltb-false, eqb-true}
 use Rattle.bytes.specs.Bytes.{bytesOf}
@@ -20,27 +20,27 @@ use Rattle.messages.specs.declared.Aim.{Aim}
 use Rattle.messages.specs.declared.LimitResult.{LimitResult}
 use Rattle.messages.specs.declared.SetpointResult.{SetpointResult}
 use Rattle.messages.specs.declared.CurrentLimits.{CurrentLimits}
+use Rattle.messages.specs.declared.CurrentResult.{CurrentResult}
 use Rattle.messages.specs.declared.Command.{Command}
 use Rattle.messages.specs.declared.Outcome.{Outcome}
-use Rattle.messages.specs.declared.Request.{Request}
 use Rattle.messages.specs.declared.Response.{Response}
 use Rattle.messages.specs.Numbers.{wireNumber}
 use Rattle.messages.specs.Refusals.{firstOf}
-use Rattle.map_fields.specs.Fields.{Fields, present, most32, mostValue, valueItem, aimItem, amountItem, truthItem}
-use Rattle.map_fields.specs.ByPhase.{phaseFields, phaseMap, phasesItem}
+use Rattle.map_fields.specs.Fields.{Fields, present, most32, valueItem, aimItem, amountItem, truthItem}
+use Rattle.map_fields.specs.ByPhase.{phaseFields, phaseMap, phasesItem, currentsItem}
 use Rattle.map_fields.specs.Puts.{fieldBytes}
 use Rattle.map_fields.proofs.Added.{map-bytes, fields-none, fields-more}
-use Rattle.map_fields.proofs.Joined.{no-both, and-left, and-right, or-left, or-right}
+use Rattle.map_fields.proofs.Joined.{no-both, and-left, and-right}
 use Rattle.frames.specs.Prefix.{frameOf}
 use Rattle.frames.specs.Writing.{itemFrame}
-use Rattle.frames.specs.Sizes.{longestRequest, longestResponse}
-use Rattle.frames.specs.Settings.{durationAmount, settingOfLimits, settingOfSetpoints, settingFields, currentLimitFields}
+use Rattle.frames.specs.Sizes.{longestResponse}
+use Rattle.frames.specs.Settings.{fieldOf, durationAmount, settingOfLimits, settingOfSetpoints, settingFields, currentLimitFields}
 use Rattle.frames.specs.Requests.{commandFields, requestFields, requestItem, requestNumber, requestWide, requestUnserved, commandWide, aimWide, isServed, servedAt, servedCommand}
-use Rattle.frames.specs.Responses.{limitFields, setpointFields, clearFields, mapItem, outcomeItem, responseFields, responseItem, responseNumber, responseFits, fits, stands, goesWith, limitInRange, setpointInRange, amountUpTo, isStatus, isNothing, statusAlone, statusFits, statusNumber}
+use Rattle.frames.specs.Responses.{limitFields, setpointFields, currentFields, clearFields, mapItem, outcomeItem, responseFields, responseItem, responseNumber, responseFits, fits, stands, goesWith, limitInRange, currentInRange, amountUpTo, isStatus, isNothing, statusAlone, statusFits, statusNumber}
 use Rattle.frame_laws.specs.Longest.{RequestLongest, RequestReached, ResponseLongest, ResponseReached, StatusLongest}
 use Rattle.frame_laws.proofs.Maps.{count-fields}
 use Rattle.frame_laws.proofs.RequestBack.{request-ranges, request-served, is-served, wire-served, command-few, wide-parts, wide-currents}
-use Rattle.frame_laws.proofs.ResponseBack.{limit-range, limit-few, setpoint-few, clear-few, status-small, response-ranges, no-test, one-test}
+use Rattle.frame_laws.proofs.ResponseBack.{limit-range, limit-few, setpoint-few, current-few, clear-few, status-small, response-ranges, no-test, one-test}
 
 -- HEADS
 len-1 : (v : ℕ) → v < 24 → headLen v ≤ 1
@@ -131,10 +131,10 @@ module _ (k : ℕ) (low : k < 24) where
 
 -- REQUESTS
 setting-long : (c p : Field) (d k : ℕ) → d ≤ most32 → k ≤ 255
-    → length (encodePairs (present (settingFields (record { consumption = c; production = p; duration = durationAmount d; cause = k })))) ≤ 43
+    → length (encodePairs (present (settingFields (record { consumption = c; production = p; duration = durationAmount d; cause = k })))) ≤ 29
 unfolding settingFields
 setting-long c p d k hd hk =
-    pairs-more 1 _ _ 24 19 (omega (arith, value-long 1 (omega arith) c))
+    pairs-more 1 _ _ 10 19 (value-long 1 (omega arith) c)
     (pairs-more 2 _ _ 10 9 (value-long 2 (omega arith) p)
     (pairs-more 3 _ _ 6 3 (duration-long 3 (omega arith) d hd)
     (pairs-more 4 _ _ 3 0 (uint-long 4 (omega arith) k 2 (len-2 k (omega arith))) pairs-none)))
@@ -153,9 +153,13 @@ one-aim a w = omega (arith, pairs-more 1 (aimItem a) [] 2 0 (aim-long 1 (omega a
 
 command-long : (c : Command) → commandWide c ≡ false → length (encodePairs (present (commandFields c))) ≤ 43
 unfolding commandFields commandWide settingOfLimits settingOfSetpoints
-command-long (Command.SetLimit l) w = let x = wide-parts (l .duration) (l .cause) w in setting-long _ _ _ _ (x .0) (x .1)
+command-long (Command.SetLimit l) w =
+    let x = wide-parts (l .duration) (l .cause) w in
+    omega (arith, setting-long (l .consumption) (l .production) (l .duration) (l .cause) (x .0) (x .1))
 command-long (Command.ClearLimit a) w = one-aim a w
-command-long (Command.SetSetpoint l) w = let x = wide-parts (l .duration) (l .cause) w in setting-long _ _ _ _ (x .0) (x .1)
+command-long (Command.SetSetpoint l) w =
+    let x = wide-parts (l .duration) (l .cause) w in
+    omega (arith, setting-long (fieldOf (l .consumption)) (fieldOf (l .production)) (l .duration) (l .cause) (x .0) (x .1))
 command-long (Command.ClearSetpoint a) w = one-aim a w
 command-long (Command.SetCurrentLimits l) w = current-long l (wide-currents (l .direction) (l .duration) (l .cause) w)
 command-long (Command.ClearCurrentLimits a) w = one-aim a w
@@ -187,52 +191,58 @@ limit-long l h =
     (pairs-more 4 _ _ 10 2 (amount-long 4 (omega arith) (l .production))
     (pairs-more 5 _ _ 2 0 (reason-long 5 (omega arith) (l .reason) (g .3)) pairs-none))))
 
-setpoint-long : (l : SetpointResult) → length (encodePairs (present (setpointFields l))) ≤ 26
+setpoint-long : (l : SetpointResult) → length (encodePairs (present (setpointFields l))) ≤ 22
 unfolding setpointFields
-setpoint-long l = omega (
-  arith,
-  pairs-more 1 (some (truthItem true)) _ 2 20 (truth-long 1 (omega arith) true)
-      (pairs-more 2 (amountItem (l .consumption)) _ 10 10 (amount-long 2 (omega arith) (l .consumption))
-      (pairs-more 3 (amountItem (l .production)) [] 10 0 (amount-long 3 (omega arith) (l .production)) pairs-none)),
-)
+setpoint-long l =
+    pairs-more 1 _ _ 2 20 (truth-long 1 (omega arith) true)
+    (pairs-more 2 _ _ 10 10 (amount-long 2 (omega arith) (l .consumption))
+    (pairs-more 3 _ _ 10 0 (amount-long 3 (omega arith) (l .production)) pairs-none))
 
-clear-long : length (encodePairs (present clearFields)) ≤ 26
+current-result-long : (l : CurrentResult) → length (encodePairs (present (currentFields l))) ≤ 34
+unfolding currentFields currentsItem
+current-result-long l =
+    pairs-more 1 _ _ 2 32 (truth-long 1 (omega arith) true)
+    (pairs-more 2 _ _ 32 0 (phases-long 2 (omega arith) _ _ _ (amount-long 0 (omega arith) (l .a)) (amount-long 1 (omega arith) (l .b)) (amount-long 2 (omega arith) (l .c))) pairs-none)
+
+clear-long : length (encodePairs (present clearFields)) ≤ 2
 unfolding clearFields
-clear-long = omega (arith, pairs-more 1 (some (truthItem true)) [] 2 0 (truth-long 1 (omega arith) true) pairs-none)
+clear-long = pairs-more 1 (some (truthItem true)) [] 2 0 (truth-long 1 (omega arith) true) pairs-none
 
-result-long : (fs : Fields) → length fs ≤ 5 → length (encodePairs (present fs)) ≤ 26 → length (fieldBytes 3 (mapItem fs)) ≤ 28
-result-long fs few h = below-long 3 (omega arith) fs 26 (omega arith) h
+result-long : (fs : Fields) → length fs ≤ 5 → length (encodePairs (present fs)) ≤ 34 → length (fieldBytes 3 (mapItem fs)) ≤ 36
+result-long fs few h = below-long 3 (omega arith) fs 34 (omega arith) h
 
-goes-long : (c : ℕ) (o : Outcome) → goesWith c o ≡ true → length (fieldBytes 3 (outcomeItem o)) ≤ 28
+goes-long : (c : ℕ) (o : Outcome) → goesWith c o ≡ true → length (fieldBytes 3 (outcomeItem o)) ≤ 36
 unfolding goesWith outcomeItem
 goes-long c Outcome.Nothing h = absurd (no-both (sym h))
-goes-long c (Outcome.Limit l) h = result-long (limitFields l) (limit-few l) (limit-long l (and-right (eqb c 1) _ h))
-goes-long c (Outcome.Setpoint l) h = result-long (setpointFields l) (setpoint-few l) (setpoint-long l)
-goes-long c Outcome.Success h = result-long clearFields clear-few clear-long
+goes-long c (Outcome.Limit l) h = result-long (limitFields l) (limit-few l) (omega (arith, limit-long l (and-right (eqb c 1) _ h)))
+goes-long c (Outcome.Setpoint l) h = result-long (setpointFields l) (setpoint-few l) (omega (arith, setpoint-long l))
+goes-long c (Outcome.Current l) h = result-long (currentFields l) (current-few l) (current-result-long l)
+goes-long c Outcome.Success h = result-long clearFields clear-few (omega (arith, clear-long))
 
-nothing-long : (o : Outcome) → isNothing o ≡ true → length (fieldBytes 3 (outcomeItem o)) ≤ 28
+nothing-long : (o : Outcome) → isNothing o ≡ true → length (fieldBytes 3 (outcomeItem o)) ≤ 36
 unfolding outcomeItem
 nothing-long Outcome.Nothing h = omega (arith, none-long 3 (omega arith))
 nothing-long (Outcome.Limit l) h = absurd (no-both (sym h))
 nothing-long (Outcome.Setpoint l) h = absurd (no-both (sym h))
+nothing-long (Outcome.Current l) h = absurd (no-both (sym h))
 nothing-long Outcome.Success h = absurd (no-both (sym h))
 
-outcome-long : (c n : ℕ) (o : Outcome) → fits c n o ≡ true → length (fieldBytes 3 (outcomeItem o)) ≤ 28
+outcome-long : (c n : ℕ) (o : Outcome) → fits c n o ≡ true → length (fieldBytes 3 (outcomeItem o)) ≤ 36
 unfolding fits
 outcome-long c n o = go (stands c n)
   where
-    go : (b : Bool) → cond b (goesWith c o) (isNothing o) ≡ true → length (fieldBytes 3 (outcomeItem o)) ≤ 28
+    go : (b : Bool) → cond b (goesWith c o) (isNothing o) ≡ true → length (fieldBytes 3 (outcomeItem o)) ≤ 36
     go true h = goes-long c o h
     go false h = nothing-long o h
 
 -- by the ranges of its parts
-response-long : (r : Response) → r .id ≤ most32 → r .status ≤ 14 → length (fieldBytes 3 (outcomeItem (r .outcome))) ≤ 28 → length (itemFrame (responseItem r)) ≤ longestResponse
+response-long : (r : Response) → r .id ≤ most32 → r .status ≤ 14 → length (fieldBytes 3 (outcomeItem (r .outcome))) ≤ 36 → length (itemFrame (responseItem r)) ≤ longestResponse
 unfolding responseItem responseFields
 response-long r a b o =
-    let m = map-long (responseFields r) 36 (omega arith)
-    (pairs-more 1 _ _ 6 30 (uint-long 1 (omega arith) (r .id) 5 (len-5 (r .id) (omega arith)))
-    (pairs-more 2 _ _ 2 28 (uint-long 2 (omega arith) (r .status) 1 (len-1 (r .status) (omega arith)))
-    (pairs-more 3 _ _ 28 0 o pairs-none))) in
+    let m = map-long (responseFields r) 44 (omega arith)
+    (pairs-more 1 _ _ 6 38 (uint-long 1 (omega arith) (r .id) 5 (len-5 (r .id) (omega arith)))
+    (pairs-more 2 _ _ 2 36 (uint-long 2 (omega arith) (r .status) 1 (len-1 (r .status) (omega arith)))
+    (pairs-more 3 _ _ 36 0 o pairs-none))) in
     omega (arith, frame-length (Item.map (present (responseFields r))), m)
 
 pub response-longest : ResponseLongest
@@ -268,13 +278,13 @@ request-reached = (
 )
 
 pub response-reached : ResponseReached
-unfolding itemFrame frameOf responseItem responseFields outcomeItem limitFields amountItem present encode encodePairs countPairs headBytes infoOf widthOf bytesOf responseNumber responseFits fits stands goesWith limitInRange isStatus servedCommand firstOf
+unfolding itemFrame frameOf responseItem responseFields outcomeItem currentFields currentsItem amountItem present encode encodePairs countPairs headBytes infoOf widthOf bytesOf responseNumber responseFits fits stands goesWith currentInRange isStatus servedCommand firstOf
 response-reached = (
-  1,
+  5,
   record {
     id = 4294967295;
-    status = 11;
-    outcome = Outcome.Limit (record { applied = true; state = 1; consumption = Amount.Is 9223372036854775807; production = Amount.Is 9223372036854775807; reason = Amount.Is 1 });
+    status = 0;
+    outcome = Outcome.Current (record { a = Amount.Is 9223372036854775807; b = Amount.Is 9223372036854775807; c = Amount.Is 9223372036854775807 });
   },
   refl,
   refl,

@@ -1,8 +1,7 @@
 -- A map of phases, written and read back, read and written again, each phase as one reader and one writer have it. Assumes nothing.
 use Prim.Native.Nat.{ℕ, zero, suc, _+_, _^_, _≤_, _<_}
 use mathlib.Core.Path.{_≡_, refl, sym, ap, subst, _∙_}
-use mathlib.Core.Bool.{Bool, true, false, cond, _&&_, _||_}
-use mathlib.Core.List.{[], _∷_}
+use mathlib.Core.Bool.{Bool, true, false, cond}
 use mathlib.Core.Option.{Option, some, none, bind}
 use native.Mathlib.Omega.{arith}
 use lib.ListN.{length, length-append}
@@ -21,10 +20,14 @@ use Rattle.map_fields.proofs.Joined.{and-left, and-right, or-left, or-right}
 use Rattle.map_fields.proofs.OnlyLaws.{only-phases}
 use Rattle.frames.specs.Responses.{amountUpTo}
 use Rattle.frame_laws.specs.RoundTrips.{Phases64}
-use Rattle.frame_laws.proofs.Maps.{Ascending, values, OkField, OkFields, ShortFields, Holds, hasKey, ok-map, map-short, same-map}
+use Rattle.frame_laws.proofs.Maps.{Ascending, values, OkField, ShortFields, wider, hasKey, ok-map, map-short, same-map}
 use Rattle.frame_laws.proofs.FieldsBack.{Allowed, value-back, amount-back, ok-value, ok-amount, short-value, short-amount}
 use Rattle.frame_laws.proofs.FieldsAgain.{no-value, same-inside, bind-parts, map-again, value-again, amount-again}
 use Rattle.frame_laws.proofs.Trips.{value-ok, map-ok}
+
+-- a map with its key has at most 72 bytes, as every number has
+pub few-short : (fs : Fields) → ShortFields fs 18 → ShortFields fs 72
+few-short fs h = wider fs 18 72 (omega arith) h
 
 -- THE FIELDS OF THE MAP
 module _ (a b c : Option Item) where

@@ -21,7 +21,8 @@ use Rattle.messages.specs.declared.Request.{Request}
 use Rattle.frames.specs.Prefix.{framed, payloadIn}
 use Rattle.map_fields.specs.Fields.{present, upTo, mapIn, needed, most32, valueIn, aimIn, amountIn, aimItem, amountItem}
 use Rattle.map_fields.specs.ByPhase.{phasesIn}
-use Rattle.frames.specs.Settings.{settingIn, durationOf, durationAmount, targetOf, fieldOf, limitsFrom, setpointsFrom, settingOfLimits, settingOfSetpoints, settingFields, currentLimitsIn, currentLimitFields}
+use Rattle.frames.specs.Settings.{settingIn, durationOf, durationAmount, targetOf, fieldOf, limitsFrom, setpointsFrom, settingOfLimits, settingOfSetpoints, settingFields}
+use Rattle.frames.specs.Settings.{currentLimitsIn, currentLimitFields}
 use Rattle.frames.specs.declared.settings.Setting.{Setting}
 use Rattle.frames.specs.Responses.{amountUpTo}
 use Rattle.frames.specs.Requests.{Envelope, envelopeIn, commandIn, servedAt, servedCommand, withCommand, fromEnvelope, fromPayload, readRequest, commandFields, requestFields, requestItem, commandWide, aimWide, isServed, requestWide, requestUnserved, requestNumber}
@@ -164,7 +165,8 @@ module _ (ps : Pairs) where
 
   -- a clear's parameters, whichever it clears
   again-clear : (make : Aim → Command) (c : ℕ) → ((a : Aim) → wireNumber (make a) ≡ c) → ((a : Aim) → isServed (make a) ≡ true) → ((a : Aim) → commandWide (make a) ≡ aimWide a)
-      → ((a : Aim) → Command64 (make a)) → ((a : Aim) → commandFields (make a) ≡ (1, aimItem a) ∷ []) → parameterKeys c ≡ 1 → (x : Command) → Option·map make (aimIn (valueOf ps 1)) ≡ some x → Again c ps x
+      → ((a : Aim) → Command64 (make a)) → ((a : Aim) → commandFields (make a) ≡ (1, aimItem a) ∷ []) → parameterKeys c ≡ 1
+      → (x : Command) → Option·map make (aimIn (valueOf ps 1)) ≡ some x → Again c ps x
   again-clear make c number served wide bits fields one x e =
       let p = map-part make (aimIn (valueOf ps 1)) x e in
       let a = aim-again (valueOf ps 1) (p .0) (p .1) in

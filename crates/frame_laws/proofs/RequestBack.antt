@@ -20,8 +20,9 @@ use Rattle.messages.specs.declared.Setpoints.{Setpoints}
 use Rattle.messages.specs.declared.CurrentLimits.{CurrentLimits}
 use Rattle.messages.specs.declared.Command.{Command}
 use Rattle.messages.specs.declared.Request.{Request}
-use Rattle.map_fields.specs.Fields.{Fields, present, mapIn, needed, most32, aimItem}
-use Rattle.frames.specs.Settings.{settingIn, durationOf, durationAmount, targetOf, fieldOf, limitsFrom, setpointsFrom, settingOfLimits, settingOfSetpoints, settingFields, currentLimitsIn, currentLimitFields}
+use Rattle.map_fields.specs.Fields.{present, mapIn, needed, most32, aimItem}
+use Rattle.frames.specs.Settings.{settingIn, durationOf, durationAmount, targetOf, fieldOf, limitsFrom, setpointsFrom, settingOfLimits, settingOfSetpoints, settingFields}
+use Rattle.frames.specs.Settings.{currentLimitsIn, currentLimitFields}
 use Rattle.frames.specs.declared.settings.Setting.{Setting}
 use Rattle.frames.specs.Responses.{amountUpTo}
 use Rattle.frames.specs.Requests.{envelopeIn, commandIn, servedAt, servedCommand, fromEnvelope, readRequest, commandFields, requestFields, requestItem, commandWide, isServed, requestWide, requestUnserved, requestNumber}
@@ -30,11 +31,11 @@ use Rattle.frames.specs.Writing.{itemFrame}
 use Rattle.frame_laws.specs.RoundTrips.{Field64, Target64, Phases64, Command64, RequestReadsBack, OneRequest}
 use Rattle.frames.specs.declared.requests.Reading.{Reading}
 use Rattle.map_fields.proofs.Joined.{no-both, and-left, and-right, or-left, or-right, not-is-false}
-use Rattle.frame_laws.proofs.Maps.{Ascending, values, OkFields, ShortFields, wider, ok-map, map-short}
+use Rattle.frame_laws.proofs.Maps.{Ascending, values, OkFields, ShortFields, ok-map, map-short}
 use Rattle.frame_laws.proofs.FieldsBack.{Allowed, uint-back, aim-back, amount-back, value-back, ok-uint, ok-aim, ok-amount, ok-value, short-uint, short-aim, short-amount, short-value}
 use Rattle.frames.proofs.Requested.{read-map-of}
 use Rattle.frame_laws.proofs.Trips.{frame-payload, frame-framed}
-use Rattle.frame_laws.proofs.PhaseTrips.{short-numbers, ok-numbers, numbers-back}
+use Rattle.frame_laws.proofs.PhaseTrips.{few-short, short-numbers, ok-numbers, numbers-back}
 
 -- THE PARAMETERS OF A SET COMMAND
 module _ (s : Setting) where
@@ -182,10 +183,6 @@ command-ok (Command.ClearSetpoint a) d w h = (omega arith, ok-aim a (suc d) w, t
 command-ok (Command.SetCurrentLimits l) d w h = current-ok l h (wide-currents (l .direction) (l .duration) (l .cause) w) d
 command-ok (Command.ClearCurrentLimits a) d w h = (omega arith, ok-aim a (suc d) w, tt)
 command-ok (Command.Unserved n) d w h = tt
-
--- a map with its key has at most 72 bytes, as every number has
-few-short : (fs : Fields) → ShortFields fs 18 → ShortFields fs 72
-few-short fs h = wider fs 18 72 (omega arith) h
 
 command-short : (c : Command) → ShortFields (commandFields c) 72
 unfolding commandFields

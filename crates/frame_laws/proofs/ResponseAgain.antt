@@ -13,20 +13,24 @@ use Rattle.messages.specs.Refusals.{firstOf}
 use Rattle.messages.specs.declared.Amount.{Amount}
 use Rattle.messages.specs.declared.LimitResult.{LimitResult}
 use Rattle.messages.specs.declared.SetpointResult.{SetpointResult}
+use Rattle.messages.specs.declared.CurrentResult.{CurrentResult}
 use Rattle.messages.specs.declared.Outcome.{Outcome}
 use Rattle.messages.specs.declared.Response.{Response}
 use Rattle.frames.specs.Prefix.{framed, payloadIn}
 use Rattle.map_fields.specs.Fields.{present, upTo, truth, mapIn, needed, most32, mostValue, amountIn, successIn}
+use Rattle.map_fields.specs.ByPhase.{currentsIn}
 use Rattle.frames.specs.Requests.{servedCommand}
-use Rattle.frames.specs.Responses.{isStatus, onlyStatus, stands, statusIn, limitResultIn, setpointResultIn, clearResultIn, outcomeIn, noResult, resultIn, responseIn, answerOf, answerIn, answerFrom, readResponse, limitFields, setpointFields, clearFields, outcomeItem, responseFields, responseItem, limitInRange, setpointInRange, goesWith, fits, responseFits, responseNumber}
+use Rattle.frames.specs.Responses.{isStatus, onlyStatus, stands, statusIn, limitResultIn, setpointResultIn, currentResultIn, clearResultIn, outcomeIn, noResult, resultIn, responseIn, answerOf, answerIn, answerFrom, readResponse, limitFields, setpointFields, currentFields, clearFields, outcomeItem, responseFields, responseItem, limitInRange, setpointInRange, currentInRange, goesWith, fits, responseFits, responseNumber}
 use Rattle.frames.specs.Writing.{itemFrame}
 use Rattle.frame_laws.specs.RoundTrips.{KeysTo, resultKeys, PlainResponse, ResponseWritable, ResponseWritesAgain}
 use Rattle.frames.specs.declared.responses.Answer.{Answer}
-use Rattle.map_fields.proofs.Joined.{four, and-left, and-right}
+use Rattle.map_fields.proofs.Joined.{and-left, and-right}
 use Rattle.frame_laws.proofs.Maps.{same-map, no-known}
 use Rattle.frame_laws.proofs.FieldsAgain.{no-value, same-inside, bind-parts, map-part, uint-again, map-again, truth-again, success-again, amount-again}
-use Rattle.frame_laws.proofs.ResponseBack.{limit-ascend, limit-ok, setpoint-ascend, setpoint-ok, clear-ascend, clear-ok, result-ok, response-ascend, response-ok}
+use Rattle.frame_laws.proofs.ResponseBack.{limit-ascend, limit-ok, setpoint-ascend, setpoint-ok, current-ascend, clear-ascend, clear-ok, result-ok, response-ascend, response-ok}
 use Rattle.frame_laws.proofs.Trips.{item-in, frame-again, value-ok, map-ok}
+use Rattle.frame_laws.proofs.PhaseTrips.{held-ok, amounts-again}
+use Rattle.frame_laws.proofs.RequestAgain.{six}
 
 -- THE RESULTS
 -- a result that was read goes with its command, and its fields are the pairs where no key is unknown
@@ -93,8 +97,26 @@ module _ (ps : Pairs) where
   success-same t e lo d ok keys =
       ap (λ (m : Pairs). some (Item.map m)) (same-map ps clearFields lo d ok clear-ascend (clear-ok d) (success-again (valueOf ps 1) t e, tt) (λ j h. keys j (no-known clearFields j (refl, tt) h)))
 
-  -- a served command that is neither 1 nor 3 is a clear
-  again-clear : (c : ℕ) → (eqb c 2 || eqb c 4) ≡ true → resultKeys c ≡ 1 → (o : Outcome) → clearResultIn ps ≡ some o → Again c ps o
+  current-made : (t : Bool) (l : CurrentResult) → successIn (valueOf ps 1) ≡ some t → currentsIn mostValue (valueOf ps 2) ≡ some l → Again 5 ps (Outcome.Current l)
+  unfolding goesWith outcomeItem currentInRange currentFields
+  current-made t l et el =
+      let s = success-again (valueOf ps 1) t et in
+      let u = amounts-again mostValue (valueOf ps 2) l el in
+      record {
+        goes = rw (u .range .0, u .range .1, u .range .2);
+        same = λ lo d ok keys.
+            let p = u .same d (held-ok ps lo d 2 _ ok refl) in
+            ap (λ (m : Pairs). some (Item.map m))
+            (same-map ps (currentFields l) lo d ok (current-ascend l) (omega arith, held-ok ps lo d 1 _ ok s, (omega arith, held-ok ps lo d 2 _ ok p, tt))
+            (s, (p, tt)) (λ j h. keys j (no-known (currentFields l) j (refl, (refl, tt)) h)));
+      }
+
+  again-current : (l : CurrentResult) → currentResultIn ps ≡ some l → Again 5 ps (Outcome.Current l)
+  unfolding currentResultIn
+  again-current l e = let a = bind-parts (successIn (valueOf ps 1)) _ l e in current-made (a .0) l (a .1) (a .2)
+
+  -- a served command that is none of 1, 3 and 5 is a clear
+  again-clear : (c : ℕ) → (eqb c 2 || eqb c 4 || eqb c 6) ≡ true → resultKeys c ≡ 1 → (o : Outcome) → clearResultIn ps ≡ some o → Again c ps o
   unfolding goesWith outcomeItem
   again-clear c g k o e =
       let p = map-part (λ (t : Bool). Outcome.Success) (successIn (valueOf ps 1)) o e in
@@ -103,27 +125,36 @@ module _ (ps : Pairs) where
 
   pub outcome-again : (c : ℕ) (o : Outcome) → servedCommand c ≡ true → outcomeIn c ps ≡ some o → Again c ps o
   unfolding servedCommand outcomeIn
-  outcome-again c o s e = go (eqb c 1) (eqb c 3) refl refl e
+  outcome-again c o s e = go (eqb c 1) (eqb c 3) (eqb c 5) refl refl refl e
     where
-      two-or-four : (a : eqb c 1 ≡ false) (b : eqb c 3 ≡ false) → (eqb c 2 || eqb c 4) ≡ true
-      two-or-four a b = go (eqb c 2) refl
+      even : (a : eqb c 1 ≡ false) (b : eqb c 3 ≡ false) (d : eqb c 5 ≡ false) → (eqb c 2 || eqb c 4 || eqb c 6) ≡ true
+      even a b d = go (eqb c 2) (eqb c 4) refl refl
         where
-          go : (x : Bool) → eqb c 2 ≡ x → (x || eqb c 4) ≡ true
-          go true x = refl
-          go false x = eq-eqb c 4 (four c (eqb-false c 1 a) (eqb-false c 2 x) (eqb-false c 3 b) (leb-true 1 c (and-left _ _ s)) (leb-true c 4 (and-right (leb 1 c) _ s)))
+          go : (x y : Bool) → eqb c 2 ≡ x → eqb c 4 ≡ y → (x || y || eqb c 6) ≡ true
+          go true y p q = refl
+          go false true p q = refl
+          go false false p q =
+              let l = leb-true 1 c (and-left _ _ s) in
+              let m = leb-true c 6 (and-right (leb 1 c) _ s) in
+              eq-eqb c 6 (six c (eqb-false c 1 a) (eqb-false c 2 p) (eqb-false c 3 b) (eqb-false c 4 q) (eqb-false c 5 d) l m)
 
-      one-key : eqb c 1 ≡ false → eqb c 3 ≡ false → resultKeys c ≡ 1
-      one-key a b = rw (a, b)
+      one-key : eqb c 1 ≡ false → eqb c 3 ≡ false → eqb c 5 ≡ false → resultKeys c ≡ 1
+      one-key a b d = rw (a, b, d)
 
-      go : (p q : Bool) → eqb c 1 ≡ p → eqb c 3 ≡ q
-          → cond p (Option·map Outcome.Limit (limitResultIn ps)) (cond q (Option·map Outcome.Setpoint (setpointResultIn ps)) (clearResultIn ps)) ≡ some o → Again c ps o
-      go true q a b h =
-          let p = map-part Outcome.Limit (limitResultIn ps) o h in
-          subst (λ (n : ℕ). Again n ps o) (sym (eqb-true c 1 a)) (subst (λ (x : Outcome). Again 1 ps x) (p .2) (again-limit (p .0) (p .1)))
-      go false true a b h =
-          let p = map-part Outcome.Setpoint (setpointResultIn ps) o h in
-          subst (λ (n : ℕ). Again n ps o) (sym (eqb-true c 3 b)) (subst (λ (x : Outcome). Again 3 ps x) (p .2) (again-setpoint (p .0) (p .1)))
-      go false false a b h = again-clear c (two-or-four a b) (one-key a b) o h
+      -- what a reader of that command's result made, as its outcome
+      made : {X : Type 0} (make : X → Outcome) (r : Option X) (n : ℕ) → eqb c n ≡ true → ((x : X) → r ≡ some x → Again n ps (make x)) → Option·map make r ≡ some o → Again c ps o
+      made make r n a f h =
+          let p = map-part make r o h in
+          subst (λ (m : ℕ). Again m ps o) (sym (eqb-true c n a)) (subst (λ (x : Outcome). Again n ps x) (p .2) (f (p .0) (p .1)))
+
+      go : (p q r : Bool) → eqb c 1 ≡ p → eqb c 3 ≡ q → eqb c 5 ≡ r
+          → cond p (Option·map Outcome.Limit (limitResultIn ps))
+          (cond q (Option·map Outcome.Setpoint (setpointResultIn ps)) (cond r (Option·map Outcome.Current (currentResultIn ps)) (clearResultIn ps))) ≡ some o
+          → Again c ps o
+      go true q r a b d h = made Outcome.Limit (limitResultIn ps) 1 a again-limit h
+      go false true r a b d h = made Outcome.Setpoint (setpointResultIn ps) 3 b again-setpoint h
+      go false false true a b d h = made Outcome.Current (currentResultIn ps) 5 d again-current h
+      go false false false a b d h = again-clear c (even a b d) (one-key a b d) o h
 
 -- WHAT STANDS UNDER KEY 3
 pub record AgainResult (c n : ℕ) (v : Option Item) (o : Outcome) : Type 0 where
@@ -228,7 +259,7 @@ same-response c ps r f ok plain =
     let okp : OkPairs ps 0 7 = map-ok ps 7 ok in
     let v : valueOf ps 3 ≡ outcomeItem (r .outcome) = f .third .same (λ m e. (map-ok m 6 (value-ok ps 0 7 3 (Item.map m) okp e), plain .result m e)) in
     ap Item.map
-    (same-map ps (responseFields r) 0 7 okp (response-ascend r) (response-ok r (f .first .1) (f .second .1) (result-ok c (r .status) (r .outcome) (f .third .goes) 6))
+    (same-map ps (responseFields r) 0 7 okp (response-ascend r) (response-ok r (f .first .1) (f .second .1) (result-ok c (r .status) (r .outcome) (f .third .goes) 5))
     (f .first .0, (f .second .0, (v, tt)))
     (λ j h. plain .envelope j (no-known (responseFields r) j (refl, (refl, (refl, tt))) h)))
 

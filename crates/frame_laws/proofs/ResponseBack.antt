@@ -13,11 +13,12 @@ use Rattle.cbor.proofs.Widths.{head-length, head-short}
 use Rattle.messages.specs.Refusals.{firstOf}
 use Rattle.messages.specs.declared.LimitResult.{LimitResult}
 use Rattle.messages.specs.declared.SetpointResult.{SetpointResult}
+use Rattle.messages.specs.declared.CurrentResult.{CurrentResult}
 use Rattle.messages.specs.declared.Outcome.{Outcome}
 use Rattle.messages.specs.declared.Response.{Response}
 use Rattle.map_fields.specs.Fields.{Fields, present, mapIn, needed, most32, mostValue, successIn}
 use Rattle.frames.specs.Requests.{servedCommand}
-use Rattle.frames.specs.Responses.{isStatus, stands, statusIn, limitResultIn, setpointResultIn, outcomeIn, noResult, resultIn, responseIn, answerOf, readResponse, mapItem, limitFields, setpointFields, clearFields, outcomeItem, responseFields, responseItem, amountUpTo, limitInRange, setpointInRange, goesWith, isNothing, fits, responseFits, responseNumber, statusAlone, statusFits, statusNumber}
+use Rattle.frames.specs.Responses.{isStatus, stands, statusIn, limitResultIn, setpointResultIn, currentResultIn, outcomeIn, noResult, resultIn, responseIn, answerOf, readResponse, mapItem, limitFields, setpointFields, currentFields, clearFields, outcomeItem, responseFields, responseItem, amountUpTo, limitInRange, setpointInRange, currentInRange, goesWith, isNothing, fits, responseFits, responseNumber, statusAlone, statusFits, statusNumber}
 use Rattle.map_fields.specs.Puts.{fieldBytes}
 use Rattle.frames.specs.Writing.{itemFrame}
 use Rattle.frame_laws.specs.RoundTrips.{ResponseReadsBack, StatusReadsBack, OneResponse}
@@ -27,6 +28,7 @@ use Rattle.frame_laws.proofs.Maps.{Ascending, fieldAt, values, OkField,
 use Rattle.frame_laws.proofs.FieldsBack.{uint-back, truth-back, success-back, amount-back, ok-uint, ok-truth, ok-amount, short-uint, short-truth, short-amount}
 use Rattle.frames.proofs.Answered.{all-parts, answer-map-of}
 use Rattle.frame_laws.proofs.Trips.{frame-payload, frame-framed}
+use Rattle.frame_laws.proofs.PhaseTrips.{few-short, AmountsTo, short-amounts, ok-amounts, amounts-back}
 
 -- THE RESULTS
 module _ (l : LimitResult) where
@@ -107,6 +109,32 @@ module _ (l : SetpointResult) where
         let v : (k : ℕ) → _ = λ (k : ℕ). values (setpointFields l) 0 k setpoint-ascend in
         rw (v 1, v 2, v 3, success-back, amount-back mostValue (l .consumption) (setpoint-range .0), amount-back mostValue (l .production) (setpoint-range .1))
 
+module _ (l : CurrentResult) where
+  pub current-ascend : Ascending (currentFields l) 0
+  unfolding currentFields
+  current-ascend = (omega arith, (omega arith, tt))
+
+  current-short : ShortFields (currentFields l) 72
+  unfolding currentFields
+  current-short = (omega (arith, short-truth 1 true), (short-amounts l 2, tt))
+
+  module _ (h : currentInRange l ≡ true) where
+    current-range : AmountsTo mostValue l
+    unfolding currentInRange
+    current-range =
+        let b = and-right (amountUpTo mostValue (l .a)) _ h in
+        (and-left _ _ h, and-left _ _ b, and-right (amountUpTo mostValue (l .b)) _ b)
+
+    current-ok : (d : ℕ) → OkFields (currentFields l) (suc d)
+    unfolding currentFields
+    current-ok d = (omega arith, ok-truth true (suc d), (omega arith, ok-amounts l mostValue current-range d (omega arith), tt))
+
+    current-back : currentResultIn (present (currentFields l)) ≡ some l
+    unfolding currentResultIn bind currentFields
+    current-back =
+        let v : (k : ℕ) → _ = λ (k : ℕ). values (currentFields l) 0 k current-ascend in
+        rw (v 1, v 2, success-back, amounts-back l mostValue current-range)
+
 pub clear-ascend : Ascending clearFields 0
 unfolding clearFields
 clear-ascend = (omega arith, tt)
@@ -124,22 +152,27 @@ pub setpoint-few : (l : SetpointResult) → length (setpointFields l) ≤ 5
 unfolding setpointFields
 setpoint-few l = omega arith
 
+pub current-few : (l : CurrentResult) → length (currentFields l) ≤ 5
+unfolding currentFields
+current-few l = omega arith
+
 pub clear-few : length clearFields ≤ 5
 unfolding clearFields
 clear-few = omega arith
 
-pub outcome-ok : (c : ℕ) (o : Outcome) (d : ℕ) → goesWith c o ≡ true → OkField (outcomeItem o) (suc d)
+pub outcome-ok : (c : ℕ) (o : Outcome) (d : ℕ) → goesWith c o ≡ true → OkField (outcomeItem o) (suc (suc d))
 unfolding goesWith outcomeItem
 outcome-ok c Outcome.Nothing d h = absurd (no-both (sym h))
-outcome-ok c (Outcome.Limit l) d h = ok-map (limitFields l) d (omega (arith, limit-few l)) (limit-ascend l) (limit-ok l (and-right (eqb c 1) _ h) d)
-outcome-ok c (Outcome.Setpoint l) d h = ok-map (setpointFields l) d (omega (arith, setpoint-few l)) (setpoint-ascend l) (setpoint-ok l (and-right (eqb c 3) _ h) d)
-outcome-ok c Outcome.Success d h = ok-map clearFields d (omega (arith, clear-few)) clear-ascend (clear-ok d)
+outcome-ok c (Outcome.Limit l) d h = ok-map (limitFields l) (suc d) (omega (arith, limit-few l)) (limit-ascend l) (limit-ok l (and-right (eqb c 1) _ h) (suc d))
+outcome-ok c (Outcome.Setpoint l) d h = ok-map (setpointFields l) (suc d) (omega (arith, setpoint-few l)) (setpoint-ascend l) (setpoint-ok l (and-right (eqb c 3) _ h) (suc d))
+outcome-ok c (Outcome.Current l) d h = ok-map (currentFields l) (suc d) (omega (arith, current-few l)) (current-ascend l) (current-ok l (and-right (eqb c 5) _ h) d)
+outcome-ok c Outcome.Success d h = ok-map clearFields (suc d) (omega (arith, clear-few)) clear-ascend (clear-ok (suc d))
 
-under-3 : (fs : Fields) → ShortFields fs 18 → length fs ≤ 5 → length (fieldBytes 3 (mapItem fs)) ≤ 108
+under-3 : (fs : Fields) → ShortFields fs 72 → length fs ≤ 5 → length (fieldBytes 3 (mapItem fs)) ≤ 378
 unfolding fieldBytes
-under-3 fs h n = rw length-append (omega (arith, head-length 0 3, head-short 3, map-short fs 18 h .1))
+under-3 fs h n = rw length-append (omega (arith, head-length 0 3, head-short 3, map-short fs 72 h .1))
 
-none-short : length (fieldBytes 3 none) ≤ 108
+none-short : length (fieldBytes 3 none) ≤ 378
 unfolding fieldBytes
 none-short = omega arith
 
@@ -147,20 +180,22 @@ clear-short : ShortFields clearFields 18
 unfolding clearFields
 clear-short = (short-truth 1 true, tt)
 
-outcome-short : (o : Outcome) → length (fieldBytes 3 (outcomeItem o)) ≤ 108
+outcome-short : (o : Outcome) → length (fieldBytes 3 (outcomeItem o)) ≤ 378
 unfolding outcomeItem
 outcome-short Outcome.Nothing = none-short
-outcome-short (Outcome.Limit l) = under-3 (limitFields l) (limit-short l) (limit-few l)
-outcome-short (Outcome.Setpoint l) = under-3 (setpointFields l) (setpoint-short l) (setpoint-few l)
-outcome-short Outcome.Success = under-3 clearFields clear-short clear-few
+outcome-short (Outcome.Limit l) = under-3 (limitFields l) (few-short (limitFields l) (limit-short l)) (limit-few l)
+outcome-short (Outcome.Setpoint l) = under-3 (setpointFields l) (few-short (setpointFields l) (setpoint-short l)) (setpoint-few l)
+outcome-short (Outcome.Current l) = under-3 (currentFields l) (current-short l) (current-few l)
+outcome-short Outcome.Success = under-3 clearFields (few-short clearFields clear-short) clear-few
 
--- a clear's command is neither 1 nor 3
-not-set : (c : ℕ) → (eqb c 2 || eqb c 4) ≡ true → (eqb c 1 ≡ false) × (eqb c 3 ≡ false)
-not-set c h = go (eqb c 2) refl h
+-- a clear's command is none of 1, 3 and 5
+not-set : (c : ℕ) → (eqb c 2 || eqb c 4 || eqb c 6) ≡ true → (eqb c 1 ≡ false) × (eqb c 3 ≡ false) × (eqb c 5 ≡ false)
+not-set c h = go (eqb c 2) (eqb c 4) refl refl h
   where
-    go : (b : Bool) → eqb c 2 ≡ b → (b || eqb c 4) ≡ true → (eqb c 1 ≡ false) × (eqb c 3 ≡ false)
-    go true x y = let z = eqb-true c 2 x in rw z (refl, refl)
-    go false x y = let z = eqb-true c 4 y in rw z (refl, refl)
+    go : (a b : Bool) → eqb c 2 ≡ a → eqb c 4 ≡ b → (a || b || eqb c 6) ≡ true → (eqb c 1 ≡ false) × (eqb c 3 ≡ false) × (eqb c 5 ≡ false)
+    go true b x y e = let z = eqb-true c 2 x in rw z (refl, refl, refl)
+    go false true x y e = let z = eqb-true c 4 y in rw z (refl, refl, refl)
+    go false false x y e = let z = eqb-true c 6 e in rw z (refl, refl, refl)
 
 clear-first : successIn (fieldAt clearFields 1) ≡ some true
 unfolding clearFields
@@ -172,13 +207,15 @@ unfolding goesWith outcomeItem needed mapIn bind outcomeIn
 outcome-back c Outcome.Nothing h = absurd (no-both (sym h))
 outcome-back c (Outcome.Limit l) h = rw (and-left (eqb c 1) (limitInRange l) h, limit-back l (and-right (eqb c 1) _ h))
 outcome-back c (Outcome.Setpoint l) h = rw (eqb-true c 3 (and-left (eqb c 3) (setpointInRange l) h), setpoint-back l (and-right (eqb c 3) _ h))
-outcome-back c Outcome.Success h = rw (not-set c h .0, not-set c h .1, values clearFields 0 1 clear-ascend, clear-first)
+outcome-back c (Outcome.Current l) h = rw (eqb-true c 5 (and-left (eqb c 5) (currentInRange l) h), current-back l (and-right (eqb c 5) _ h))
+outcome-back c Outcome.Success h = rw (not-set c h .0, not-set c h .1, not-set c h .2, values clearFields 0 1 clear-ascend, clear-first)
 
 none-back : (o : Outcome) → isNothing o ≡ true → noResult (outcomeItem o) ≡ some o
 unfolding outcomeItem
 none-back Outcome.Nothing h = refl
 none-back (Outcome.Limit l) h = absurd (no-both (sym h))
 none-back (Outcome.Setpoint l) h = absurd (no-both (sym h))
+none-back (Outcome.Current l) h = absurd (no-both (sym h))
 none-back Outcome.Success h = absurd (no-both (sym h))
 
 none-ok : (o : Outcome) (d : ℕ) → isNothing o ≡ true → OkField (outcomeItem o) d
@@ -186,6 +223,7 @@ unfolding outcomeItem
 none-ok Outcome.Nothing d h = tt
 none-ok (Outcome.Limit l) d h = absurd (no-both (sym h))
 none-ok (Outcome.Setpoint l) d h = absurd (no-both (sym h))
+none-ok (Outcome.Current l) d h = absurd (no-both (sym h))
 none-ok Outcome.Success d h = absurd (no-both (sym h))
 
 module _ (c n : ℕ) (o : Outcome) (h : fits c n o ≡ true) where
@@ -197,13 +235,13 @@ module _ (c n : ℕ) (o : Outcome) (h : fits c n o ≡ true) where
       go true x y = outcome-back c o y
       go false x y = none-back o y
 
-  pub result-ok : (d : ℕ) → OkField (outcomeItem o) (suc d)
+  pub result-ok : (d : ℕ) → OkField (outcomeItem o) (suc (suc d))
   unfolding fits
   result-ok d = go (stands c n) h
     where
-      go : (b : Bool) → cond b (goesWith c o) (isNothing o) ≡ true → OkField (outcomeItem o) (suc d)
+      go : (b : Bool) → cond b (goesWith c o) (isNothing o) ≡ true → OkField (outcomeItem o) (suc (suc d))
       go true y = outcome-ok c o d y
-      go false y = none-ok o (suc d) y
+      go false y = none-ok o (suc (suc d)) y
 
 -- THE RESPONSE
 pub status-small : (n : ℕ) → isStatus n ≡ true → n ≤ 14
@@ -233,11 +271,11 @@ module _ (r : Response) where
   unfolding responseFields
   response-ok a b o = (omega arith, ok-uint (r .id) 7 (omega arith), (omega arith, ok-uint (r .status) 7 (omega (arith, status-small (r .status) b)), (omega arith, o, tt)))
 
-  response-short : (1 ≤ length (encode (responseItem r))) × (length (encode (responseItem r)) ≤ 333)
+  response-short : (1 ≤ length (encode (responseItem r))) × (length (encode (responseItem r)) ≤ 1143)
   unfolding responseItem responseFields
   response-short =
-      let h : ShortFields (responseFields r) 108 = (omega (arith, short-uint 1 (r .id)), (omega (arith, short-uint 2 (r .status)), (outcome-short (r .outcome), tt))) in
-      map-short (responseFields r) 108 h
+      let h : ShortFields (responseFields r) 378 = (omega (arith, short-uint 1 (r .id)), (omega (arith, short-uint 2 (r .status)), (outcome-short (r .outcome), tt))) in
+      map-short (responseFields r) 378 h
 
   module _ (c : ℕ) (h : responseFits c r ≡ true) where
     pub response-ranges : (r .id ≤ most32) × (isStatus (r .status) ≡ true) × (fits c (r .status) (r .outcome) ≡ true)
@@ -248,7 +286,7 @@ module _ (r : Response) where
 
     item-ok : Ok (responseItem r) levels
     unfolding responseItem
-    item-ok = ok-map (responseFields r) 7 response-few response-ascend (response-ok (response-ranges .0) (response-ranges .1) (result-ok c (r .status) (r .outcome) (response-ranges .2) 6))
+    item-ok = ok-map (responseFields r) 7 response-few response-ascend (response-ok (response-ranges .0) (response-ranges .1) (result-ok c (r .status) (r .outcome) (response-ranges .2) 5))
 
     body-back : responseIn c (present (responseFields r)) ≡ some r
     unfolding responseFields

@@ -102,7 +102,7 @@ abbrev pub parameterKeys : ℕ → ℕ
 parameterKeys c = cond (eqb c 1 || eqb c 3 || eqb c 5) 4 1
 
 abbrev pub resultKeys : ℕ → ℕ
-resultKeys c = cond (eqb c 1) 5 (cond (eqb c 3) 3 1)
+resultKeys c = cond (eqb c 1) 5 (cond (eqb c 3) 3 (cond (eqb c 5) 2 1))
 
 -- "no unknown key and no written zero duration"
 pub record PlainRequest (ps : Pairs) : Type 0 where
