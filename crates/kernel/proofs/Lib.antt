@@ -1,5 +1,4 @@
 -- What the proofs of several functions use, and the laws that callers cite.
-pub mod Door
 pub mod InRange
 pub mod Unserved
 pub mod Framing

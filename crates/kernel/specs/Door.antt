@@ -1,15 +1,11 @@
 -- What the contracts of the kernel's calls cite from the rooms beneath, for those who enter by the kernel.
 unfoldable pub use Rattle.device.specs.Start.{startNumber, startAfter}
 unfoldable pub use Rattle.device.specs.Calls.{joinNumber, joinAfter, leaveNumber, leaveAfter, linkNumber, linkAfter, overrideNumber, overrideAfter, clearNumber, clearAfter, askAnswer, askAfter}
-unfoldable pub use Rattle.holds.specs.Holds.{shown}
 unfoldable pub use Rattle.planner.specs.Plan.{planAnswer, planAfter, planSlice}
-unfoldable pub use Rattle.planner.specs.Walk.{sameNumber}
 unfoldable pub use Rattle.frames.specs.Requests.{readRequest, requestNumber, requestItem}
 unfoldable pub use Rattle.frames.specs.Responses.{readResponse, responseNumber, responseItem}
 unfoldable pub use Rattle.frames.specs.Writing.{itemFrame, writtenOf, leftBy}
 unfoldable pub use Rattle.conformance.specs.Report.{reportOf, pairsAfter}
-pub use Rattle.store.specs.Sizes.{most}
-pub use Rattle.command.specs.Says.{negative, natural}
 pub use Rattle.planner.specs.Plan.{rowSize}
 pub use Rattle.store.specs.declared.Settings.{Settings}
 pub use Rattle.device.specs.declared.Asked.{Asked}

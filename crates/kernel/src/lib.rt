@@ -16,12 +16,8 @@
 // read_request, write_request           1, 2, 3, 4; 3, 4, 15; for the other side of the wire
 // read_response, write_response         4, 1, 2, 3; 4, 3, 15; likewise
 // report(inputs, attributes, pairs)     16, 17, 15; the conformance report, from the front of `pairs`
-//
-// A signed number at the edge: `shown` writes an amount as one, -1 for absent, `is_negative` and `natural_of` read one.
 mod frame_call; // frame_call.rt: bytes in, the device, bytes out
 
-pub use command::is_negative;
-pub use command::natural_of;
 pub use conformance::Answer as Reported;
 pub use conformance::Inputs;
 pub use conformance::report;
@@ -51,7 +47,6 @@ pub use frames::read_request;
 pub use frames::read_response;
 pub use frames::write_request;
 pub use frames::write_response;
-pub use holds::shown;
 pub use planner::PLAN;
 pub use planner::Planned;
 pub use planner::ROW;
