@@ -181,8 +181,9 @@ free = box 0 most
 abbrev pub amps : ℕ → List Step → List Step
 amps d calls = two (tell 3 10 (current 1 d (mw 16000) 0) ∷ tell 4 20 (current 1 d (mw 10000) 0) ∷ calls)
 
-unfoldable pub table : ℕ → List Case
-table d =
+-- values and refusals of commands
+unfoldable pub commandCases : ℕ → List Case
+commandCases d =
     -- P1 limits 9,000, 7,000, 7,000: 7,000
     case free (two (join 5 3 10 ∷ tell 3 10 (limit d (mw 9000) 0) ∷ tell 4 10 (limit d (mw 7000) 0) ∷ tell 5 10 (limit d (mw 7000) 0) ∷ []))
     (limitAt d 10) (pos 7000 ∷ [])
@@ -209,16 +210,26 @@ table d =
     ∷ case (box 0 43000000) (two []) (reason 3 20 (limit d (mw 43000001) 0)) (pos 1 ∷ [])
     ∷ case (box 0 43000000) (two (tell 3 20 (limit d (mw 43000000) 0) ∷ [])) (limitAt d 20) (pos 43000000 ∷ [])
     ∷ case (box 0 43000000) (two []) (reason 3 20 (limit d (mw 43000000) 0)) (absent ∷ [])
+    ∷ []
+
+-- with all links lost
+unfoldable pub failsafeCases : ℕ → List Case
+failsafeCases d =
     -- P8 all links lost at 1,000, 7,200 s: FAILSAFE at 8,199, AUTONOMOUS at 8,200
-    ∷ case free (two (lost 3 900 ∷ lost 4 1000 ∷ [])) (controlAt 8199) (pos FAILSAFE ∷ [])
+    case free (two (lost 3 900 ∷ lost 4 1000 ∷ [])) (controlAt 8199) (pos FAILSAFE ∷ [])
     ∷ case free (two (lost 3 900 ∷ lost 4 1000 ∷ [])) (controlAt 8200) (pos AUTONOMOUS ∷ [])
     -- L3 the failsafe limit is 4,200,000 and 0: a standing 2,000,000 holds when all links are lost, 4,200,001 gives way, and 0 stays
     ∷ case free (two (tell 3 10 (limit d (mw 2000000) 0) ∷ lost 3 900 ∷ lost 4 1000 ∷ [])) (limitAt d 1000) (cond (eqb d 0) (pos 2000000) (pos 0) ∷ [])
     ∷ case free (two (tell 3 10 (limit d (mw 4200001) 0) ∷ lost 3 900 ∷ lost 4 1000 ∷ [])) (limitAt d 1000) (cond (eqb d 0) (pos 4200000) (pos 0) ∷ [])
     ∷ case free (two (tell 3 10 (limit 0 (mw 2000000) 60) ∷ lost 3 15 ∷ lost 4 20 ∷ []))
     (rows 20) (pos 70 ∷ pos 3 ∷ pos 4200000 ∷ pos 0 ∷ none 8 ++ pos 7220 ∷ pos 0 ∷ none 10)
+    ∷ []
+
+-- whose setpoint, and plans
+unfoldable pub planCases : ℕ → List Case
+planCases d =
     -- P9 equal rank, zones 4 and 6: zone 4's setpoint
-    ∷ case free (two (join 6 2 10 ∷ tell 6 10 (setpoint d 100) ∷ tell 4 10 (setpoint d 900) ∷ [])) (setpointAt d 10) (pos 900 ∷ [])
+    case free (two (join 6 2 10 ∷ tell 6 10 (setpoint d 100) ∷ tell 4 10 (setpoint d 900) ∷ [])) (setpointAt d 10) (pos 900 ∷ [])
     -- P10 two equal limits, expiries 50 and 70: a row at 70 only
     ∷ case free (two (tell 3 10 (limit d (mw 7000) 40) ∷ tell 4 10 (limit d (mw 7000) 60) ∷ []))
     (rows 10) (pos 70 ∷ pos 1 ∷ none 10)
@@ -226,8 +237,13 @@ table d =
     ∷ case bench (join 3 1 100 ∷ join 9 2 100 ∷ tell 3 100 (limit 0 (mw 11040000) 60) ∷ tell 9 100 (limit 0 (mw 4600000) 20) ∷ [])
     (rows 110)
     (pos 120 ∷ pos 2 ∷ pos 11040000 ∷ none 9 ++ pos 160 ∷ pos 1 ∷ none 10)
+    ∷ []
+
+-- current limits
+unfoldable pub currentCases : ℕ → List Case
+currentCases d =
     -- L5 16,000 and 10,000 mA on phase B: 10,000 holds, in FAILSAFE too and not behind it; the other phases stay absent
-    ∷ case free (amps d []) (currentOf 1 d 20) (pos 10000 ∷ [])
+    case free (amps d []) (currentOf 1 d 20) (pos 10000 ∷ [])
     ∷ case free (amps d (lost 3 900 ∷ lost 4 1000 ∷ [])) (currentOf 1 d 8199) (pos 10000 ∷ [])
     ∷ case free (amps d (lost 3 900 ∷ lost 4 1000 ∷ [])) (currentOf 1 d 8200) (absent ∷ [])
     ∷ case free (amps d []) (currentOf 0 d 20) (absent ∷ [])
@@ -242,6 +258,9 @@ table d =
     ∷ case single (two []) (told 3 20 (current 0 d (Field.Value (negsuc 0)) 0)) (pos 13 ∷ [])
     ∷ case single (two []) (told 3 20 (current 3 d (mw 6000) 0)) (pos 13 ∷ [])
     ∷ []
+
+unfoldable pub table : ℕ → List Case
+table d = commandCases d ++ (failsafeCases d ++ (planCases d ++ currentCases d))
 
 -- "The marked examples are one table under one statement"
 abbrev pub Marked : Type 0
