@@ -3,8 +3,6 @@ use mir.Facts.{toZ-ofZ}
 use mir.Val.{SFits}
 use mir.Syntax.{w64}
 use borrow.Author.Needs.{needs}
-use lib.IntN.{pos}
-use lib.ListN.{getD}
 use Rattle.holds.proofs.Shows.{up-filled}
 use Rattle.holds.proofs.values.values_up.Statement.{statement}
 use Rattle.holds.proofs.values.values_up.Tie as tie
@@ -37,11 +35,9 @@ returns c =
     let at-args = c .before .before .before .before .before .before .before .before .args in
     let at-overridden = c .before .before .before .overridden in
     let f : SFits w64 (c .state-up .result) = search needs in
-    let a : SFits w64 (getD (at-row .result) 1 (pos 0)) = search needs in
-    let b : SFits w64 (getD (at-row .result) 2 (pos 0)) = search needs in
     rw (toZ-ofZ f, ← at-settings-at .ensures)
     (up-filled (at-settings-at .result .directions) _ (at-args .a .low) (at-args .b .lead) (at-row .result) (c .state-up .result) _ _ (at-row .ensures .0)
-    (at-row .ensures .1) (rw (at-overridden .ensures) at (c .state-up .ensures)) (toZ-ofZ a) (toZ-ofZ b))
+    (at-row .ensures .1) (rw (at-overridden .ensures) at (c .state-up .ensures)) (search needs) (search needs))
 
 pub values-up-spec : {M : Type 1} → statement M
 values-up-spec =
