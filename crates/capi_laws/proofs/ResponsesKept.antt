@@ -19,10 +19,11 @@ use Rattle.frames.specs.Writing.{itemFrame}
 use Rattle.frames.specs.declared.responses.Answer.{Answer}
 use Rattle.frame_laws.proofs.ResponseBack.{response-reads-back}
 use Rattle.frame_laws.proofs.ResponseAgain.{response-writable}
+use Rattle.holds.specs.Holds.{shown}
 use Rattle.flat.specs.Amounts.{valueEnd, amountOf, flatAmount}
 use Rattle.flat.specs.Responses.{limitOf, setpointOf, currentOf, outcomeOf, responseOf, flat, flatCurrent, flatResponse}
 use Rattle.capi.specs.Responses.{flatAnswer}
-use Rattle.capi_laws.specs.Inverse.{ResponseKept, AnswerPlain, FlatAnswerReadsBack}
+use Rattle.capi_laws.specs.Inverse.{AmountShown, ResponseKept, AnswerPlain, FlatAnswerReadsBack}
 
 never : {A : Type 0} → false ≡ true → A
 never e = absurd (let w : _≡_ {A = ℕ} 0 1 = cc in omega arith)
@@ -30,6 +31,11 @@ never e = absurd (let w : _≡_ {A = ℕ} 0 1 = cc in omega arith)
 both : (a b : Bool) → (a && b) ≡ true → (a ≡ true) × (b ≡ true)
 both true b e = (refl, e)
 both false b e = never e
+
+pub amount-shown : AmountShown
+unfolding flatAmount shown
+amount-shown Amount.Absent = refl
+amount-shown (Amount.Is v) = refl
 
 amount-kept : (n : ℕ) (a : Amount) → n ≤ mostValue → amountUpTo n a ≡ true → amountOf (flatAmount a) ≡ a
 unfolding amountOf flatAmount

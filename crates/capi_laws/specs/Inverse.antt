@@ -4,6 +4,7 @@ use Prim.Native.Nat.{ℕ}
 use mathlib.Core.Path.{_≡_}
 use mathlib.Core.Bool.{true}
 use mathlib.Core.List.{List}
+use Rattle.messages.specs.declared.Amount.{Amount}
 use Rattle.messages.specs.declared.Request.{Request}
 use Rattle.messages.specs.declared.Response.{Response}
 use Rattle.frames.specs.Requests.{isServed, readRequest, requestItem, requestNumber}
@@ -12,6 +13,8 @@ use Rattle.frame_laws.specs.RoundTrips.{Command64}
 use Rattle.frames.specs.Writing.{itemFrame}
 use Rattle.frames.specs.declared.requests.Reading.{Reading}
 use Rattle.frames.specs.declared.responses.Answer.{Answer}
+use Rattle.holds.specs.Holds.{shown}
+use Rattle.flat.specs.Amounts.{flatAmount}
 use Rattle.flat.specs.Requests.{requestOf, flatRequest}
 use Rattle.flat.specs.Responses.{responseOf, flatResponse}
 use Rattle.flat.specs.declared.requests.FlatRequest.{FlatRequest}
@@ -37,6 +40,10 @@ abbrev pub FlatReadsBack : Type 0
 FlatReadsBack =
     (q : FlatRequest) → Plain q → Command64 (requestOf q .command) → requestNumber (requestOf q) ≡ 0
     → flatReading (readRequest (itemFrame (requestItem (requestOf q)))) ≡ record { number = 0; request = q }
+
+-- AMOUNTS of a response are as an ask shows them
+abbrev pub AmountShown : Type 0
+AmountShown = (a : Amount) → flatAmount a ≡ shown a
 
 -- RESPONSES, for the command that the caller names
 abbrev pub ResponseKept : Type 0
