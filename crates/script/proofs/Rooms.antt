@@ -21,7 +21,8 @@ use Rattle.messages.specs.declared.Response.{Response}
 use Rattle.messages.specs.Refusals.{firstOf}
 use Rattle.frames.specs.Prefix.{frameOf}
 use Rattle.map_fields.specs.Fields.{truthItem, amountItem, withField, present}
-use Rattle.frames.specs.Responses.{limitFields, setpointFields, clearFields, outcomeItem, responseFields, responseItem}
+use Rattle.map_fields.specs.ByPhase.{currentsItem}
+use Rattle.frames.specs.Responses.{limitFields, setpointFields, currentFields, clearFields, outcomeItem, responseFields, responseItem}
 use Rattle.frames.specs.Requests.{readRequest}
 use Rattle.frames.specs.Writing.{itemFrame, writingNumber}
 use Rattle.frames.specs.declared.requests.Reading.{Reading}
@@ -72,9 +73,9 @@ none-long : length (encodePairs Pairs.empty) ≤ 0
 unfolding encode
 none-long = omega arith
 
--- a result has at most five fields
+-- a result has at most five fields, those of a map of phases among them
 outcome-long : (o : Outcome) → size (outcomeItem o) ≤ 99
-unfolding outcomeItem limitFields setpointFields clearFields present
+unfolding outcomeItem limitFields setpointFields currentFields currentsItem clearFields present
 outcome-long Outcome.Nothing = omega arith
 outcome-long (Outcome.Limit l) =
     let c = field-long 5 (amountItem (l .reason)) Pairs.empty 9 0 (amount-long (l .reason)) none-long in
@@ -88,6 +89,13 @@ outcome-long (Outcome.Setpoint l) =
     let e = field-long 2 (amountItem (l .consumption)) _ 9 18 (amount-long (l .consumption)) d in
     let f = field-long 1 (some (truthItem true)) _ 9 36 (truth-long true) e in
     omega (arith, map-long _ 54 f)
+outcome-long (Outcome.Current l) =
+    let c = field-long 2 (amountItem (l .c)) Pairs.empty 9 0 (amount-long (l .c)) none-long in
+    let b = field-long 1 (amountItem (l .b)) _ 9 18 (amount-long (l .b)) c in
+    let a = field-long 0 (amountItem (l .a)) _ 9 36 (amount-long (l .a)) b in
+    let d = field-long 2 (currentsItem l) Pairs.empty 63 0 (map-long _ 54 a) none-long in
+    let e = field-long 1 (some (truthItem true)) _ 9 72 (truth-long true) d in
+    map-long _ 90 e
 outcome-long Outcome.Success = omega (arith, map-long _ 18 (field-long 1 (some (truthItem true)) Pairs.empty 9 0 (truth-long true) none-long))
 
 response-long : (r : Response) → length (itemFrame (responseItem r)) ≤ frameRoom
@@ -123,7 +131,7 @@ module _ (ws : List ℕ) (z t : ℕ) (bytes : List ℕ) (room : ℕ) (h : frameR
   unfolding frameAfter responseRoom
   frame-after = rw (number-room ws z t room (readRequest bytes) h)
 
--- A PLAN: 32 rows of six numbers at most
+-- A PLAN: 80 rows of twelve numbers at most
 module _ (ws : List ℕ) (t room : ℕ) (h : rowsRoom ≤ room) where
   pub plan-number : planNumber ws t room ≡ planNumber ws t (planRoom ws t)
   unfolding planNumber planRoom firstOf

@@ -31,7 +31,8 @@ use Rattle.kernel.specs.Frame.{responseFrame, numberFrom, obeyedBy, frameNumber
 use Rattle.store.specs.Zones.{upTo, first, any, idOf, rankOf, isJoined, isUp, slotOf, zoneOf, heldOf, anyJoined, anyUp}
 use Rattle.store.specs.Zones.{joined as joinedIn}
 use Rattle.store.specs.Words.{settingsOf, heldIn, zoneAt, zonesOf, bit, heldWords, putZone, applied, after, settingWords, fresh}
-use Rattle.holds.specs.Holds.{situationOf, supports, claimOf, goesBefore, better, winner, inFailsafe, smallestWith, failsafeValue, valueAt, present, stateAt, shown, valuesAt}
+use Rattle.quantities.specs.Quantities.{supports}
+use Rattle.holds.specs.Holds.{situationOf, claimOf, goesBefore, better, winner, inFailsafe, smallestWith, failsafeValue, valueAt, present, stateAt, shown, valuesAt}
 use Rattle.holds.specs.Dues.{zoneDues, heldDues, dues, nearer, nearest}
 use Rattle.device.specs.Refusals.{firstOf, late}
 use Rattle.holds.specs.Links.{sinceAfter}
@@ -43,7 +44,7 @@ use Rattle.command.specs.Content.{unsupported, invalid, tooLow, belowTheMinimum
 use Rattle.device.specs.Commands.{commandNumber, commandAfter, commandAnswer}
 use Rattle.command.specs.Obeys.{fieldAction, action, untilOf, done, obeyed}
 use Rattle.command.specs.Outcomes.{isCapped, reasonOf, outcomeWith}
-use Rattle.rules.specs.Rules.{badMaximum, badSettings}
+use Rattle.rules.specs.Rules.{badMaximum, outside, badSettings}
 use Rattle.device.specs.Start.{startAfter}
 use Rattle.planner.specs.Plan.{planOf, numbersOf, planNumber}
 use Rattle.planner.specs.Walk.{sameNumber, alike, step, walk}
@@ -128,7 +129,7 @@ unfolding joined decimal digits widthIn cell rowPieces planPieces planRoom planN
     claimOf goesBefore better winner inFailsafe smallestWith failsafeValue valueAt present stateAt shown valuesAt firstOf late sinceAfter zoneChange
     headChange badJoin joinNumber joinAfter unsupported invalid tooLow belowTheMinimum
     commandNumber says someOf fieldAction action untilOf done obeyed commandAfter isCapped reasonOf outcomeWith commandAnswer
-    badMaximum badSettings startAfter
+    badMaximum outside badSettings startAfter
 answers = simp planOf-walk
 
 pub bench-example : BenchExample
