@@ -31,7 +31,7 @@ use Rattle.kernel.specs.Frame.{responseFrame, numberFrom, obeyedBy, frameNumber
 use Rattle.store.specs.Zones.{upTo, first, any, idOf, rankOf, isJoined, isUp, slotOf, zoneOf, heldOf, anyJoined, anyUp}
 use Rattle.store.specs.Zones.{joined as joinedIn}
 use Rattle.store.specs.Words.{settingsOf, heldIn, zoneAt, zonesOf, bit, heldWords, putZone, applied, after, settingWords, fresh}
-use Rattle.quantities.specs.Quantities.{supports}
+use Rattle.quantities.specs.Quantities.{lowAt, supports}
 use Rattle.holds.specs.Holds.{situationOf, claimOf, goesBefore, better, winner, inFailsafe, smallestWith, failsafeValue, valueAt, present, stateAt, shown, valuesAt}
 use Rattle.holds.specs.Dues.{zoneDues, heldDues, dues, nearer, nearest}
 use Rattle.device.specs.Refusals.{firstOf, late}
@@ -124,7 +124,7 @@ module _ (ws : List ℕ) where
 
 -- WHAT THEY ANSWER
 answers : joined (calls (startAfter benchSettings)) ≡ zeros ++ row120 ++ row160
-unfolding joined decimal digits widthIn cell rowPieces planPieces planRoom planNumber numbersOf walk step nearest nearer alike sameNumber dues heldDues zoneDues upTo first any idOf
+unfolding joined decimal digits widthIn cell rowPieces planPieces planRoom planNumber numbersOf walk step nearest nearer alike sameNumber dues heldDues zoneDues lowAt upTo first any idOf
     rankOf isJoined isUp slotOf joinedIn zoneOf heldOf anyJoined anyUp settingsOf heldIn zoneAt zonesOf bit heldWords putZone applied after settingWords fresh supports
     claimOf goesBefore better winner inFailsafe smallestWith failsafeValue valueAt present stateAt shown valuesAt firstOf late sinceAfter zoneChange
     headChange badJoin joinNumber joinAfter unsupported invalid tooLow belowTheMinimum
