@@ -3,8 +3,8 @@ use mathlib.Core.Path.{sym}
 use lib.Seq.{length-take-le}
 use native.Mathlib.Omega.{arith}
 use borrow.Author.Needs.{needs}
-use Rattle.lines.proofs.answers.with_bytes.Statement.{statement}
-use Rattle.lines.proofs.answers.with_bytes.Tie as tie
+use Rattle.frame_lines.proofs.calls.with_bytes.Statement.{statement}
+use Rattle.frame_lines.proofs.calls.with_bytes.Tie as tie
 
 pub with-bytes-spec : {M : Type 1} → statement M
 with-bytes-spec =

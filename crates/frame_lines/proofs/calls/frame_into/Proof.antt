@@ -3,8 +3,8 @@ use mathlib.Core.Path.{sym}
 use lib.Seq.{length-take-le}
 use native.Mathlib.Omega.{arith}
 use borrow.Author.Needs.{needs}
-use Rattle.lines.proofs.answers.frame_into.Statement.{statement}
-use Rattle.lines.proofs.answers.frame_into.Tie as tie
+use Rattle.frame_lines.proofs.calls.frame_into.Statement.{statement}
+use Rattle.frame_lines.proofs.calls.frame_into.Tie as tie
 
 pub frame-into-spec : {M : Type 1} → statement M
 frame-into-spec =
