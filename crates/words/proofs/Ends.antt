@@ -9,7 +9,7 @@ use lib.Dec.{eqb}
 use lib.ListN.{length, getD, take, drop, set, length-drop, length-set}
 use lib.Seq.{sets, drop-cons, drop-length, drop-drop}
 use borrow.Author.Tests.{le-leb, lt-leb, eq-eqb, ne-eqb}
-use Rattle.words.specs.Spans.{nextOf, endsFrom, wordsIn, endsAfter}
+use Rattle.words.specs.Spans.{nextOf, endsFrom, wordEnds, wordsIn, endsAfter}
 
 -- the next byte b from i on
 module _ (b : ℕ) (s : List ℕ) (i q : ℕ) (inv : nextOf b i (drop i s) ≡ q) where
@@ -28,51 +28,51 @@ module _ (b : ℕ) (s : List ℕ) (i q : ℕ) (inv : nextOf b i (drop i s) ≡ q
   next-end h = let a : drop i s ≡ [] = rw h (drop-length s) in rw a at inv
 
 -- a text's first end, and the ends behind it
-next-past : (p : ℕ) (s : List ℕ) → p ≤ nextOf 32 p s
+next-past : (b p : ℕ) (s : List ℕ) → p ≤ nextOf b p s
 unfolding nextOf
-next-past p [] = omega arith
-next-past p (x ∷ s) = go (eqb x 32) (next-past (suc p) s)
+next-past b p [] = omega arith
+next-past b p (x ∷ s) = go (eqb x b) (next-past b (suc p) s)
   where
-    go : (q : Bool) → suc p ≤ nextOf 32 (suc p) s → p ≤ cond q p (nextOf 32 (suc p) s)
+    go : (q : Bool) → suc p ≤ nextOf b (suc p) s → p ≤ cond q p (nextOf b (suc p) s)
     go true h = omega arith
     go false h = omega arith
 
-ends-last : (p : ℕ) (s : List ℕ) → nextOf 32 p s ≡ p + length s → endsFrom p s ≡ nextOf 32 p s ∷ []
+pub ends-last : (b p : ℕ) (s : List ℕ) → nextOf b p s ≡ p + length s → endsFrom b p s ≡ nextOf b p s ∷ []
 unfolding nextOf endsFrom
-ends-last p [] h = refl
-ends-last p (x ∷ s) h = go (eqb x 32) (ends-last (suc p) s) h
+ends-last b p [] h = refl
+ends-last b p (x ∷ s) h = go (eqb x b) (ends-last b (suc p) s) h
   where
-    go : (q : Bool) → (nextOf 32 (suc p) s ≡ suc p + length s → endsFrom (suc p) s ≡ nextOf 32 (suc p) s ∷ [])
-        → cond q p (nextOf 32 (suc p) s) ≡ p + suc (length s)
-        → cond q (p ∷ endsFrom (suc p) s) (endsFrom (suc p) s) ≡ cond q p (nextOf 32 (suc p) s) ∷ []
+    go : (q : Bool) → (nextOf b (suc p) s ≡ suc p + length s → endsFrom b (suc p) s ≡ nextOf b (suc p) s ∷ [])
+        → cond q p (nextOf b (suc p) s) ≡ p + suc (length s)
+        → cond q (p ∷ endsFrom b (suc p) s) (endsFrom b (suc p) s) ≡ cond q p (nextOf b (suc p) s) ∷ []
     go true f e = absurd (omega arith)
     go false f e = f (omega arith)
 
-ends-more : (p : ℕ) (s : List ℕ) (k : ℕ) → nextOf 32 p s < p + length s → p + k ≡ nextOf 32 p s
-    → endsFrom p s ≡ nextOf 32 p s ∷ endsFrom (suc (nextOf 32 p s)) (drop (suc k) s)
+pub ends-more : (b p : ℕ) (s : List ℕ) (k : ℕ) → nextOf b p s < p + length s → p + k ≡ nextOf b p s
+    → endsFrom b p s ≡ nextOf b p s ∷ endsFrom b (suc (nextOf b p s)) (drop (suc k) s)
 unfolding nextOf endsFrom
-ends-more p [] k h e = absurd (omega arith)
-ends-more p (x ∷ s) k h e = go (eqb x 32) k h e (ends-more (suc p) s)
+ends-more b p [] k h e = absurd (omega arith)
+ends-more b p (x ∷ s) k h e = go (eqb x b) k h e (ends-more b (suc p) s)
   where
-    go : (q : Bool) (k : ℕ) → cond q p (nextOf 32 (suc p) s) < p + suc (length s) → p + k ≡ cond q p (nextOf 32 (suc p) s)
-        → ((j : ℕ) → nextOf 32 (suc p) s < suc p + length s → suc p + j ≡ nextOf 32 (suc p) s
-        → endsFrom (suc p) s ≡ nextOf 32 (suc p) s ∷ endsFrom (suc (nextOf 32 (suc p) s)) (drop (suc j) s))
-        → cond q (p ∷ endsFrom (suc p) s) (endsFrom (suc p) s)
-        ≡ cond q p (nextOf 32 (suc p) s) ∷ endsFrom (suc (cond q p (nextOf 32 (suc p) s))) (drop k s)
+    go : (q : Bool) (k : ℕ) → cond q p (nextOf b (suc p) s) < p + suc (length s) → p + k ≡ cond q p (nextOf b (suc p) s)
+        → ((j : ℕ) → nextOf b (suc p) s < suc p + length s → suc p + j ≡ nextOf b (suc p) s
+        → endsFrom b (suc p) s ≡ nextOf b (suc p) s ∷ endsFrom b (suc (nextOf b (suc p) s)) (drop (suc j) s))
+        → cond q (p ∷ endsFrom b (suc p) s) (endsFrom b (suc p) s)
+        ≡ cond q p (nextOf b (suc p) s) ∷ endsFrom b (suc (cond q p (nextOf b (suc p) s))) (drop k s)
     go true k h e f = let z : k ≡ 0 = omega arith in rw z refl
-    go false zero h e f = absurd (omega (arith, next-past (suc p) s))
+    go false zero h e f = absurd (omega (arith, next-past b (suc p) s))
     go false (suc j) h e f = f j (omega arith) (omega arith)
 
-ends-some : (p : ℕ) (s : List ℕ) → 0 < length (endsFrom p s)
+pub ends-some : (b p : ℕ) (s : List ℕ) → 0 < length (endsFrom b p s)
 unfolding endsFrom
-ends-some p [] = omega arith
-ends-some p (x ∷ s) = go (eqb x 32) (ends-some (suc p) s)
+ends-some b p [] = omega arith
+ends-some b p (x ∷ s) = go (eqb x b) (ends-some b (suc p) s)
   where
-    go : (q : Bool) → 0 < length (endsFrom (suc p) s) → 0 < length (cond q (p ∷ endsFrom (suc p) s) (endsFrom (suc p) s))
+    go : (q : Bool) → 0 < length (endsFrom b (suc p) s) → 0 < length (cond q (p ∷ endsFrom b (suc p) s) (endsFrom b (suc p) s))
     go true h = omega arith
     go false h = h
 
-take-none : (m : ℕ) → take {A = ℕ} m [] ≡ []
+pub take-none : (m : ℕ) → take {A = ℕ} m [] ≡ []
 take-none zero = refl
 take-none (suc m) = refl
 
@@ -80,8 +80,8 @@ take-none (suc m) = refl
 pub record Left (line ends₀ ends : List ℕ) (n at : ℕ) : Type 0 where
   pub within : at ≤ length line
   pub len : length ends ≡ length ends₀
-  pub count : n + length (endsFrom at (drop at line)) ≡ length (endsFrom 0 line)
-  pub list : sets ends n (take (length ends₀ - n) (endsFrom at (drop at line))) ≡ endsAfter line ends₀
+  pub count : n + length (endsFrom 32 at (drop at line)) ≡ length (wordEnds line)
+  pub list : sets ends n (take (length ends₀ - n) (endsFrom 32 at (drop at line))) ≡ endsAfter line ends₀
 
 pub none-stored : (line ends : List ℕ) → Left line ends ends 0 0
 unfolding endsAfter
@@ -96,17 +96,17 @@ module _ (line ends₀ ends : List ℕ) (n at e : ℕ) (inv : Left line ends₀ 
   pub last-stored : e ≡ length line → (n + 1 ≡ wordsIn line (length ends₀)) × (set ends n e ≡ endsAfter line ends₀)
   unfolding wordsIn
   last-stored z =
-      let f : endsFrom at (drop at line) ≡ e ∷ [] = rw here (ends-last at (drop at line) (omega (arith, length-drop at line, inv .within))) in
-      let k : n + 1 ≡ length (endsFrom 0 line) = rw f at (inv .count) in
-      let g : take (length ends₀ - n) (endsFrom at (drop at line)) ≡ e ∷ [] = rw (f, room) (ap (λ (l : List ℕ). e ∷ l) (take-none (length ends₀ - suc n))) in
-      (rw (le-leb (length (endsFrom 0 line)) (length ends₀) (omega arith)) k, rw g at (inv .list))
+      let f : endsFrom 32 at (drop at line) ≡ e ∷ [] = rw here (ends-last 32 at (drop at line) (omega (arith, length-drop at line, inv .within))) in
+      let k : n + 1 ≡ length (wordEnds line) = rw f at (inv .count) in
+      let g : take (length ends₀ - n) (endsFrom 32 at (drop at line)) ≡ e ∷ [] = rw (f, room) (ap (λ (l : List ℕ). e ∷ l) (take-none (length ends₀ - suc n))) in
+      (rw (le-leb (length (wordEnds line)) (length ends₀) (omega arith)) k, rw g at (inv .list))
 
   pub one-stored : at ≤ e → e < length line → Left line ends₀ (set ends n e) (n + 1) (e + 1)
   one-stored g l =
-      let f₀ = ends-more at (drop at line) (e - at) (omega (arith, length-drop at line)) (omega arith) in
+      let f₀ = ends-more 32 at (drop at line) (e - at) (omega (arith, length-drop at line)) (omega arith) in
       let j : at + suc (e - at) ≡ suc e = omega arith in
       let d : drop (suc (e - at)) (drop at line) ≡ drop (suc e) line = drop-drop (suc (e - at)) at line ∙ ap (λ (k : ℕ). drop k line) j in
-      let f : endsFrom at (drop at line) ≡ e ∷ endsFrom (suc e) (drop (suc e) line) = rw here (rw (d, here) at f₀) in
+      let f : endsFrom 32 at (drop at line) ≡ e ∷ endsFrom 32 (suc e) (drop (suc e) line) = rw here (rw (d, here) at f₀) in
       record {
         within = omega arith;
         len = length-set ends n e ∙ inv .len;
@@ -119,4 +119,4 @@ pub no-room : (line ends₀ ends : List ℕ) (n at : ℕ) → Left line ends₀ 
 unfolding wordsIn
 no-room line ends₀ ends n at inv h =
     let z : length ends₀ - n ≡ 0 = omega arith in
-    (rw (lt-leb (length (endsFrom 0 line)) (length ends₀) (omega (arith, inv .count, ends-some at (drop at line)))) refl, rw z at (inv .list))
+    (rw (lt-leb (length (wordEnds line)) (length ends₀) (omega (arith, inv .count, ends-some 32 at (drop at line)))) refl, rw z at (inv .list))

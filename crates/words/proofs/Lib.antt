@@ -4,3 +4,4 @@ mod Pairs
 mod Cuts
 mod Written
 mod Ends
+mod Attributes

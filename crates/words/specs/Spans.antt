@@ -13,18 +13,22 @@ unfoldable pub nextOf : ℕ → ℕ → List ℕ → ℕ
 nextOf b p [] = p
 nextOf b p (x ∷ s) = cond (eqb x b) p (nextOf b (suc p) s)
 
--- where the words of a text end that stands at p: "parted by one space"
-unfoldable pub endsFrom : ℕ → List ℕ → List ℕ
-endsFrom p [] = p ∷ []
-endsFrom p (x ∷ s) = cond (eqb x 32) (p ∷ endsFrom (suc p) s) (endsFrom (suc p) s)
+-- where the parts of a text end that stands at p, parted by one byte b
+unfoldable pub endsFrom : ℕ → ℕ → List ℕ → List ℕ
+endsFrom b p [] = p ∷ []
+endsFrom b p (x ∷ s) = cond (eqb x b) (p ∷ endsFrom b (suc p) s) (endsFrom b (suc p) s)
+
+-- "Words are parted by one space"
+abbrev pub wordEnds : List ℕ → List ℕ
+wordEnds s = endsFrom 32 0 s
 
 -- how many words a line has; the largest word where there is no room for so many ends
 unfoldable pub wordsIn : List ℕ → ℕ → ℕ
-wordsIn s room = cond (leb (length (endsFrom 0 s)) room) (length (endsFrom 0 s)) 18446744073709551615
+wordsIn s room = cond (leb (length (wordEnds s)) room) (length (wordEnds s)) 18446744073709551615
 
 -- the room afterwards: the ends at its front, as far as they fit
 unfoldable pub endsAfter : List ℕ → List ℕ → List ℕ
-endsAfter s ends = sets ends 0 (take (length ends) (endsFrom 0 s))
+endsAfter s ends = sets ends 0 (take (length ends) (wordEnds s))
 
 -- a word starts past the space behind the one before it
 unfoldable pub startOf : List ℕ → ℕ → ℕ
