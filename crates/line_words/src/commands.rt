@@ -2,6 +2,8 @@
 use crate::fields::read;
 use words::same;
 use words::span;
+ghost use mathlib.Core.Path.{_≡_};
+ghost use Rattle.line_words.specs.Commands.{ofFour, ofFive, ofOthers, named, commandOf, wordsOf};
 
 pub enum Command {
     Unknown,
@@ -20,7 +22,9 @@ pub enum Command {
     Conf,
 }
 
-fn of_four(word: &[u8]) -> Command {
+fn of_four(word: &[u8]) -> Command
+    ensures { λ r. ⌜ r ≡ ofFour (now (word .entry)) ⌝ }
+{
     if same(word, b"join") {
         return Command::Join;
     }
@@ -39,7 +43,9 @@ fn of_four(word: &[u8]) -> Command {
     Command::Unknown
 }
 
-fn of_five(word: &[u8]) -> Command {
+fn of_five(word: &[u8]) -> Command
+    ensures { λ r. ⌜ r ≡ ofFive (now (word .entry)) ⌝ }
+{
     if same(word, b"frame") {
         return Command::Frame;
     }
@@ -55,7 +61,9 @@ fn of_five(word: &[u8]) -> Command {
     Command::Unknown
 }
 
-fn of_others(word: &[u8]) -> Command {
+fn of_others(word: &[u8]) -> Command
+    ensures { λ r. ⌜ r ≡ ofOthers (now (word .entry)) ⌝ }
+{
     if same(word, b"ask") {
         return Command::Ask;
     }
@@ -71,7 +79,9 @@ fn of_others(word: &[u8]) -> Command {
     Command::Unknown
 }
 
-fn of_name(word: &[u8]) -> Command {
+fn of_name(word: &[u8]) -> Command
+    ensures { λ r. ⌜ r ≡ named (now (word .entry)) ⌝ }
+{
     if word.len() == 4 {
         return of_four(word);
     }
@@ -81,7 +91,9 @@ fn of_name(word: &[u8]) -> Command {
     of_others(word)
 }
 
-pub fn command_of(line: &[u8], ends: &[usize]) -> Command {
+pub fn command_of(line: &[u8], ends: &[usize]) -> Command
+    ensures { λ r. ⌜ r ≡ commandOf (now (line .entry)) (now (ends .entry)) ⌝ }
+{
     let name = span(ends, 0);
     let to = name.to;
     if to <= line.len() {
@@ -91,15 +103,24 @@ pub fn command_of(line: &[u8], ends: &[usize]) -> Command {
 }
 
 // No line has no words.
-pub fn words_of(c: Command) -> usize {
+pub fn words_of(c: Command) -> usize
+    ensures { λ r. ⌜ r ≡ wordsOf c ⌝ }
+{
     match c {
         Command::Unknown => 0,
         Command::Start => 13,
-        Command::Conf => 11,
-        Command::Join | Command::Override => 4,
-        Command::Leave | Command::Lost | Command::Back | Command::Plan | Command::Response => 3,
-        Command::Clear | Command::Ask | Command::Request => 2,
+        Command::Join => 4,
+        Command::Leave => 3,
+        Command::Lost => 3,
+        Command::Back => 3,
+        Command::Override => 4,
+        Command::Clear => 2,
+        Command::Ask => 2,
+        Command::Plan => 3,
         Command::Frame => 5,
+        Command::Request => 2,
+        Command::Response => 3,
+        Command::Conf => 11,
     }
 }
 

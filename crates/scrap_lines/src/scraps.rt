@@ -9,8 +9,10 @@ use words::put_hex_or_none;
 use words::read_hex;
 use words::same;
 use words::span;
+ghost use mathlib.Core.Path.{_≡_};
 ghost use Prim.Native.Nat.{_≤_};
 ghost use lib.ListN.{length};
+ghost use Rattle.scrap_lines.specs.Scraps.{isWord, isScrap};
 
 // Bytes of the longest room that is lent.
 pub const ROOM: usize = 2052;
@@ -19,20 +21,25 @@ pub const ROOM: usize = 2052;
 const WORDS: usize = 4;
 
 // Whether word k of a line is this one.
-fn is_word(s: &[u8], ends: &[usize], k: usize, word: &[u8]) -> bool {
+fn is_word(s: &[u8], ends: &[usize], k: usize, word: &[u8]) -> bool
+    ensures { λ r. ⌜ r ≡ isWord (now (s .entry)) (now (ends .entry)) k (now (word .entry)) ⌝ }
+{
     let w = span(ends, k);
     let from = w.from;
     let to = w.to;
-    if to <= s.len() {
-        if from <= to {
-            return same(&s[from..to], word);
-        }
+    if s.len() < to {
+        return false;
     }
-    false
+    if to < from {
+        return false;
+    }
+    same(&s[from..to], word)
 }
 
 // Whether a line is about a scrap.
-pub fn is_scrap(s: &[u8], ends: &[usize]) -> bool {
+pub fn is_scrap(s: &[u8], ends: &[usize]) -> bool
+    ensures { λ r. ⌜ r ≡ isScrap (now (s .entry)) (now (ends .entry)) ⌝ }
+{
     is_word(s, ends, 0, b"scrap")
 }
 
