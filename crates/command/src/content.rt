@@ -44,10 +44,7 @@ fn is_unsupported(s: Settings, c: Command) -> bool
         if aim_unsupported(s.directions, aim_of(c)) {
             return true;
         }
-        if is_set(c) {
-            return some_is(Question::Beyond, s, c);
-        }
-        return false;
+        return some_is(Question::Beyond, s, c);
     }
     true
 }

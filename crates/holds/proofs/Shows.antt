@@ -302,6 +302,19 @@ module _ (s : Situation) where
       go false true n m = absurd (m refl)
       go false false n m = (refl, refl)
 
+  -- the row 0, and what is neither 0 nor 2
+  pub none-at : linkRow (s .zones) ≡ 0 → (anyUp (s .zones) ≡ false) × (anyJoined (s .zones) ≡ false)
+  none-at e = none-of (λ n. omega arith) (λ n. omega arith)
+
+  pub down-else : (linkRow (s .zones) ≡ 0 → ⊥) → (linkRow (s .zones) ≡ 2 → ⊥) → (anyUp (s .zones) ≡ false) × (anyJoined (s .zones) ≡ true)
+  unfolding linkRow
+  down-else = go (anyUp (s .zones)) (anyJoined (s .zones))
+    where
+      go : (a b : Bool) → (_≡_ {A = ℕ} (cond a 2 (cond b 1 0)) 0 → ⊥) → (_≡_ {A = ℕ} (cond a 2 (cond b 1 0)) 2 → ⊥) → (a ≡ false) × (b ≡ true)
+      go true b n m = absurd (m refl)
+      go false true n m = (refl, refl)
+      go false false n m = absurd (n refl)
+
   pub due-up : (t : ℕ) → anyUp (s .zones) ≡ true → foldl (nearer t) (foldl (nearer t) end (lowDues (s .zones))) (leadDues (s .zones)) ≡ nearest t (dues s)
   unfolding dues nearest
   due-up t e = rw e (sym (foldl-append (nearer t) end (lowDues (s .zones)) (leadDues (s .zones))))

@@ -188,13 +188,14 @@ pub fn values_with(d: &State, slot: usize, zone: Zone, t: u64) -> [i64; VALUES]
     ensures { λ r. ⌜ r ≡ valuesAt (withZone (situationOf (now (d .entry))) slot zone) t ⌝ }
 {
     let n = link_row_with(d, slot, zone);
+    if n == 0 {
+        return values_none(d);
+    }
+    let a = lows_with(d, slot, zone, t);
     if n == 2 {
-        return values_up(d, lows_with(d, slot, zone, t), leads_with(d, slot, zone, t));
+        return values_up(d, a, leads_with(d, slot, zone, t));
     }
-    if n == 1 {
-        return values_down(d, lows_with(d, slot, zone, t), t);
-    }
-    values_none(d)
+    values_down(d, a, t)
 }
 
 fn nearer(cur: u64, r: u64, e: u64) -> u64

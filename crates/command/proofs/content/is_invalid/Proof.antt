@@ -14,7 +14,8 @@ is-invalid-spec =
     (λ c.
     let at-if1 = c .before .before .if1 in
     let at-is-set = c .before .before .before .is-set in
-    rw (via (at-is-set .ensures) (at-if1 .taken), via (c .before .some-is .ensures) (c .if2 .taken)))
+    let set = via (at-is-set .ensures) (at-if1 .taken) in
+    rw (set, via (rw set at (c .before .some-is .ensures)) (c .if2 .taken)))
     (λ c κs. search needs) (λ c κs. search needs)
     (λ c.
     let at-some-is2 = c .before .before .some-is2 in
@@ -22,19 +23,21 @@ is-invalid-spec =
     let at-some-is = c .before .before .before .before .some-is in
     let at-if1 = c .before .before .before .before .before .if1 in
     let at-is-set = c .before .before .before .before .before .before .is-set in
+    let set = via (at-is-set .ensures) (at-if1 .taken) in
     rw (
-      via (at-is-set .ensures) (at-if1 .taken),
-      via (at-some-is .ensures) (at-if2 .left),
-      via (at-some-is2 .ensures) (c .before .if3 .taken),
-    ) (c .some-is3 .ensures))
+      set,
+      via (rw set at (at-some-is .ensures)) (at-if2 .left),
+      via (rw set at (at-some-is2 .ensures)) (c .before .if3 .taken),
+    ) (rw set at (c .some-is3 .ensures)))
     (λ c.
     let at-if2 = c .before .before .if2 in
     let at-some-is = c .before .before .before .some-is in
     let at-if1 = c .before .before .before .before .if1 in
     let at-is-set = c .before .before .before .before .before .is-set in
+    let set = via (at-is-set .ensures) (at-if1 .taken) in
     rw (
-      via (at-is-set .ensures) (at-if1 .taken),
-      via (at-some-is .ensures) (at-if2 .left),
-      via (c .before .some-is2 .ensures) (c .if3 .left),
+      set,
+      via (rw set at (at-some-is .ensures)) (at-if2 .left),
+      via (rw set at (c .before .some-is2 .ensures)) (c .if3 .left),
     ))
     (λ c. rw (via (c .before .is-set .ensures) (c .if1 .left))))

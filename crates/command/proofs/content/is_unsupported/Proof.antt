@@ -21,34 +21,18 @@ is-unsupported-spec =
       via
           (rw (at-aim-of .ensures) at (c .before .aim-unsupported .ensures)) (c .if2 .taken),
     ))
-    (λ c κs. search needs) (λ c κs. search needs)
+    (λ c κs. search needs)
     (λ c.
-    let at-is-set = c .before .before .is-set in
-    let at-if2 = c .before .before .before .if2 in
-    let at-aim-unsupported = c .before .before .before .before .aim-unsupported in
-    let at-aim-of = c .before .before .before .before .before .aim-of in
-    let at-if1 = c .before .before .before .before .before .before .if1 in
-    let at-accepts = c .before .before .before .before .before .before .before .accepts in
-    let at-kind-of = c .before .before .before .before .before .before .before .before .kind-of in
+    let at-aim-unsupported = c .before .before .aim-unsupported in
+    let at-aim-of = c .before .before .before .aim-of in
+    let at-if1 = c .before .before .before .before .if1 in
+    let at-accepts = c .before .before .before .before .before .accepts in
+    let at-kind-of = c .before .before .before .before .before .before .kind-of in
     rw (
       via (rw (at-kind-of .ensures) at (at-accepts .ensures)) (at-if1 .taken),
       via (rw (at-aim-of .ensures) at (at-aim-unsupported .ensures))
-          (at-if2 .left),
-      via (at-is-set .ensures) (c .before .if3 .taken),
+          (c .before .if2 .left),
     ) (c .some-is .ensures))
-    (λ c.
-    let at-if2 = c .before .before .if2 in
-    let at-aim-unsupported = c .before .before .before .aim-unsupported in
-    let at-aim-of = c .before .before .before .before .aim-of in
-    let at-if1 = c .before .before .before .before .before .if1 in
-    let at-accepts = c .before .before .before .before .before .before .accepts in
-    let at-kind-of = c .before .before .before .before .before .before .before .kind-of in
-    rw (
-      via (rw (at-kind-of .ensures) at (at-accepts .ensures)) (at-if1 .taken),
-      via (rw (at-aim-of .ensures) at (at-aim-unsupported .ensures))
-          (at-if2 .left),
-      via (c .before .is-set .ensures) (c .if3 .left),
-    ))
     (λ c.
     let at-kind-of = c .before .before .kind-of in
     rw (via (rw (at-kind-of .ensures) at (c .before .accepts .ensures)) (c .if1 .left))))
