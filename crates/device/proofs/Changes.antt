@@ -25,7 +25,8 @@ module _ (ws : List ℕ) (t i : ℕ) (x : Zone) where
   unfolding zoneChange
   up-change e = rw (since-up (zonesOf ws) i t (sinceOf ws) x e)
 
-  pub down-change : isUp x ≡ false → zoneChange ws t i x ≡ record { time = t; slot = i; zone = x; since = sinceAfter (zonesOf ws) (set (zonesOf ws) i freeZone) t (sinceOf ws); overridden = overrideOf ws }
+  pub down-change : isUp x ≡ false
+      → zoneChange ws t i x ≡ record { time = t; slot = i; zone = x; since = sinceAfter (zonesOf ws) (set (zonesOf ws) i freeZone) t (sinceOf ws); overridden = overrideOf ws }
   unfolding zoneChange
   down-change e = rw (since-down (zonesOf ws) i t (sinceOf ws) x e)
 

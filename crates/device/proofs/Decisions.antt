@@ -63,7 +63,8 @@ module _ (ws : List ℕ) (z t : ℕ) (c : Command) where
       go true j = rw (there, j, found-slot (zonesOf ws) z i e (ltb-true i slots (there ∙ j)))
       go false j = rw (there, j)
 
-  pub decided : (i n : ℕ) → i ≡ joinedSlot (zonesOf ws) z → n ≡ numberAt i → n ≡ 0 → record { number = 0; slot = i; zone = obeyed (settingsOf ws) c t (getD (zonesOf ws) i freeZone) } ≡ decisionOf ws z t c
+  pub decided : (i n : ℕ) → i ≡ joinedSlot (zonesOf ws) z → n ≡ numberAt i → n ≡ 0
+      → record { number = 0; slot = i; zone = obeyed (settingsOf ws) c t (getD (zonesOf ws) i freeZone) } ≡ decisionOf ws z t c
   unfolding decisionOf zoneOf
   decided i n e f g =
       let m : commandNumber ws z t c ≡ 0 = sym (number-at i e) ∙ sym f ∙ g in

@@ -36,7 +36,8 @@ module _ (frame : List ℕ) where
   unfolding writtenOf writingNumber firstOf
   written-length room = go (leb (length frame) room)
     where
-      go : (b : Bool) → cond {A = Written} (eqb (cond (not b) 15 0) 0) (record { number = 0; length = length frame }) (record { number = cond (not b) 15 0; length = 0 }) .length ≡ cond b (length frame) 0
+      go : (b : Bool)
+          → cond {A = Written} (eqb (cond (not b) 15 0) 0) (record { number = 0; length = length frame }) (record { number = cond (not b) 15 0; length = 0 }) .length ≡ cond b (length frame) 0
       go true = refl
       go false = refl
 
@@ -122,7 +123,8 @@ either false x = refl
 
 module _ (ws : List ℕ) (z t : ℕ) (out : List ℕ) where
   -- what a payload reads as is answered
-  pub as-read : (o : Option Item) (reading : Reading) (f : Framed) (device left : List ℕ) → fromPayload o ≡ reading → Answers ws z t reading out f device left → Answers ws z t (fromPayload o) out f device left
+  pub as-read : (o : Option Item) (reading : Reading) (f : Framed) (device left : List ℕ) → fromPayload o ≡ reading
+      → Answers ws z t reading out f device left → Answers ws z t (fromPayload o) out f device left
   as-read o reading f device left e h = rw e h
 
   -- the frame's bytes are a payload behind its length, or not

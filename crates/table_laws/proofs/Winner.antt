@@ -26,7 +26,8 @@ module _ (t q : ℕ) (x : Zone) where
   unfolding claimOf
   there-claims = go (isJoined x) (ltb t (heldOf x q .until)) refl refl
     where
-      go : (a b : Bool) → isJoined x ≡ a → ltb t (heldOf x q .until) ≡ b → cond (a && b) (record { there = true; value = heldOf x q .value; rank = rankOf x; id = idOf x }) noClaim .there ≡ true → Unexpired t q x
+      go : (a b : Bool) → isJoined x ≡ a → ltb t (heldOf x q .until) ≡ b
+          → cond (a && b) (record { there = true; value = heldOf x q .value; rank = rankOf x; id = idOf x }) noClaim .there ≡ true → Unexpired t q x
       go true true p r e = (p, ltb-true t (heldOf x q .until) r)
       go true false p r e = absurd (never (sym e))
       go false b p r e = absurd (never (sym e))
@@ -84,7 +85,8 @@ module _ (t q : ℕ) where
   fold-one a [] = inl refl
   fold-one a (x ∷ zs) = ⊎-elim (λ e. here (better-one q a (claimOf t q x)) e) (λ s. inr (suc (s .0), omega (arith, s .1), s .2, s .3)) (fold-one (step a x) zs)
     where
-      here : (step a x ≡ a) ⊎ ((step a x ≡ claimOf t q x) × (claimOf t q x .there ≡ true)) → foldl step (step a x) zs ≡ step a x → (foldl step (step a x) zs ≡ a) ⊎ Some t q (x ∷ zs) (λ y. claimOf t q y ≡ foldl step (step a x) zs)
+      here : (step a x ≡ a) ⊎ ((step a x ≡ claimOf t q x) × (claimOf t q x .there ≡ true)) → foldl step (step a x) zs ≡ step a x
+          → (foldl step (step a x) zs ≡ a) ⊎ Some t q (x ∷ zs) (λ y. claimOf t q y ≡ foldl step (step a x) zs)
       here (inl e) f = inl (f ∙ e)
       here (inr e) f = inr (0, omega arith, there-claims t q x (e .1), sym (f ∙ e .0))
 

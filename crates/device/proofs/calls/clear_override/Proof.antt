@@ -14,8 +14,22 @@ clear-override-spec =
     tie.close
     (tie.spec
     (λ c κs. tt) (λ c κs. tt)
-    (λ c. refused _ 5 _ _ (rw (timed _ _ _ _ _ (c .before .before .clock .ensures) (c .before .is-late .ensures) (c .if1 .taken))) (λ e. omega arith))
+    (λ c.
+    let at-clock = c .before .before .clock in
+    refused _ 5 _ _ (rw (timed _ _ _ _ _ (at-clock .ensures) (c .before .is-late .ensures) (c .if1 .taken))) (λ e. omega arith))
     (λ c κs. tt)
-    (λ c. refused _ 7 _ _ (rw (timed _ _ _ _ _ (c .before .before .before .before .before .clock .ensures) (c .before .before .before .before .is-late .ensures) (c .before .before .before .if1 .left), eq-eqb _ _ (sym (c .before .overridden .ensures) ∙ c .if2 .taken))) (λ e. omega arith))
+    (λ c.
+    let at-if1 = c .before .before .before .if1 in
+    let at-is-late = c .before .before .before .before .is-late in
+    let at-clock = c .before .before .before .before .before .clock in
+    refused _ 7 _ _ (rw (timed _ _ _ _ _ (at-clock .ensures) (at-is-late .ensures) (at-if1 .left), eq-eqb _ _
+    (sym (c .before .overridden .ensures) ∙ c .if2 .taken))) (λ e. omega arith))
     (λ c κs. tt)
-    (λ c. accepted _ _ _ _ _ (rw (timed _ _ _ _ _ (c .before .before .before .before .before .before .before .clock .ensures) (c .before .before .before .before .before .before .is-late .ensures) (c .before .before .before .before .before .if1 .left), ne-eqb _ _ (λ e. c .before .before .if2 .left (c .before .before .before .overridden .ensures ∙ e)))) (c .apply-head .ensures) refl))
+    (λ c.
+    let at-if2 = c .before .before .if2 in
+    let at-overridden = c .before .before .before .overridden in
+    let at-if1 = c .before .before .before .before .before .if1 in
+    let at-is-late = c .before .before .before .before .before .before .is-late in
+    let at-clock = c .before .before .before .before .before .before .before .clock in
+    accepted _ _ _ _ _ (rw (timed _ _ _ _ _ (at-clock .ensures) (at-is-late .ensures) (at-if1 .left), ne-eqb _ _
+    (λ e. at-if2 .left (at-overridden .ensures ∙ e)))) (c .apply-head .ensures) refl))

@@ -14,8 +14,28 @@ leave-spec =
     tie.close
     (tie.spec
     (λ c κs. tt) (λ c κs. tt)
-    (λ c. refused _ 5 _ _ (rw (timed _ _ _ _ _ (c .before .before .clock .ensures) (c .before .is-late .ensures) (c .if1 .taken))) (λ e. omega arith))
+    (λ c.
+    let at-clock = c .before .before .clock in
+    refused _ 5 _ _ (rw (timed _ _ _ _ _ (at-clock .ensures) (c .before .is-late .ensures) (c .if1 .taken))) (λ e. omega arith))
     (λ c κs. tt)
-    (λ c. refused _ 9 _ _ (rw (timed _ _ _ _ _ (c .before .before .before .before .before .clock .ensures) (c .before .before .before .before .is-late .ensures) (c .before .before .before .if1 .left), not-found _ _ _ (c .before .slot-of-joined .ensures) (c .if2 .taken))) (λ e. omega arith))
+    (λ c.
+    let at-if1 = c .before .before .before .if1 in
+    let at-is-late = c .before .before .before .before .is-late in
+    let at-clock = c .before .before .before .before .before .clock in
+    refused _ 9 _ _ (rw (timed _ _ _ _ _ (at-clock .ensures) (at-is-late .ensures) (at-if1 .left), not-found _ _ _
+    (c .before .slot-of-joined .ensures) (c .if2 .taken))) (λ e. omega arith))
     (λ c κs. tt) (λ c κs. tt) (λ c κs. tt) (λ c κs. tt)
-    (λ c. accepted _ _ _ _ _ (rw (timed _ _ _ _ _ (c .before .before .before .before .before .before .before .before .before .before .before .before .clock .ensures) (c .before .before .before .before .before .before .before .before .before .before .before .is-late .ensures) (c .before .before .before .before .before .before .before .before .before .before .if1 .left), found _ _ _ (c .before .before .before .before .before .before .before .before .slot-of-joined .ensures) (c .before .before .before .before .before .before .before .if2 .left))) (c .apply .ensures) (rw (c .before .before .before .before .before .before .free-zone .ensures, c .before .before .before .before .since-without .ensures, c .before .before .overridden .ensures, found-slot (zonesOf (c .before .before .before .before .before .before .before .before .before .before .before .before .before .before .args .d .now)) (c .before .before .before .before .before .before .before .before .before .before .before .before .before .before .args .zone) _ (c .before .before .before .before .before .before .before .before .slot-of-joined .ensures) (c .before .before .before .before .before .before .before .if2 .left)))))
+    (λ c.
+    let at-overridden = c .before .before .overridden in
+    let at-since-without = c .before .before .before .before .since-without in
+    let at-free-zone = c .before .before .before .before .before .before .free-zone in
+    let at-if2 = c .before .before .before .before .before .before .before .if2 in
+    let at-slot-of-joined = c .before .before .before .before .before .before .before .before .slot-of-joined in
+    let back-8 = c .before .before .before .before .before .before .before .before in
+    let at-if1 = back-8 .before .before .if1 in
+    let at-is-late = back-8 .before .before .before .is-late in
+    let at-clock = back-8 .before .before .before .before .clock in
+    let at-args = back-8 .before .before .before .before .before .before .args in
+    accepted _ _ _ _ _ (rw (timed _ _ _ _ _ (at-clock .ensures) (at-is-late .ensures) (at-if1 .left), found _ _ _ (at-slot-of-joined .ensures)
+    (at-if2 .left))) (c .apply .ensures) (rw (at-free-zone .ensures, at-since-without .ensures, at-overridden .ensures, found-slot
+    (zonesOf (at-args .d .now)) (at-args .zone) _ (at-slot-of-joined .ensures) (at-if2 .left)))))

@@ -18,10 +18,46 @@ link-spec =
     tie.close
     (tie.spec
     (λ c κs. tt) (λ c κs. tt)
-    (λ c. refused _ 5 _ _ (rw (timed _ _ _ _ _ (c .before .before .clock .ensures) (c .before .is-late .ensures) (c .if1 .taken))) (λ e. omega arith))
+    (λ c.
+    let at-clock = c .before .before .clock in
+    refused _ 5 _ _ (rw (timed _ _ _ _ _ (at-clock .ensures) (c .before .is-late .ensures) (c .if1 .taken))) (λ e. omega arith))
     (λ c κs. tt)
-    (λ c. refused _ 9 _ _ (rw (timed _ _ _ _ _ (c .before .before .before .before .before .clock .ensures) (c .before .before .before .before .is-late .ensures) (c .before .before .before .if1 .left), not-found _ _ _ (c .before .slot-of-joined .ensures) (c .if2 .taken))) (λ e. omega arith))
+    (λ c.
+    let at-if1 = c .before .before .before .if1 in
+    let at-is-late = c .before .before .before .before .is-late in
+    let at-clock = c .before .before .before .before .before .clock in
+    refused _ 9 _ _ (rw (timed _ _ _ _ _ (at-clock .ensures) (at-is-late .ensures) (at-if1 .left), not-found _ _ _
+    (c .before .slot-of-joined .ensures) (c .if2 .taken))) (λ e. omega arith))
     (λ c κs. tt) (λ c κs. tt)
-    (λ c. refused _ 7 _ _ (rw (timed _ _ _ _ _ (c .before .before .before .before .before .before .before .before .before .clock .ensures) (c .before .before .before .before .before .before .before .before .is-late .ensures) (c .before .before .before .before .before .before .before .if1 .left), found _ _ _ (c .before .before .before .before .before .slot-of-joined .ensures) (c .before .before .before .before .if2 .left), ← found-slot _ _ _ (c .before .before .before .before .before .slot-of-joined .ensures) (c .before .before .before .before .if2 .left), ← c .before .before .up-at .ensures, via (c .before .is-same .ensures) (c .if3 .taken))) (λ e. omega arith))
+    (λ c.
+    let at-up-at = c .before .before .up-at in
+    let at-if2 = c .before .before .before .before .if2 in
+    let at-slot-of-joined = c .before .before .before .before .before .slot-of-joined in
+    let at-if1 = c .before .before .before .before .before .before .before .if1 in
+    let at-is-late = c .before .before .before .before .before .before .before .before .is-late in
+    let back-8 = c .before .before .before .before .before .before .before .before in
+    let at-clock = back-8 .before .clock in
+    refused _ 7 _ _ (rw (timed _ _ _ _ _ (at-clock .ensures) (at-is-late .ensures) (at-if1 .left), found _ _ _ (at-slot-of-joined .ensures)
+    (at-if2 .left), ← found-slot _ _ _ (at-slot-of-joined .ensures) (at-if2 .left), ← at-up-at .ensures, via (c .before .is-same .ensures)
+    (c .if3 .taken))) (λ e. omega arith))
     (λ c κs. tt) (λ c κs. tt) (λ c κs. tt) (λ c κs. tt)
-    (λ c. accepted _ _ _ _ _ (rw (timed _ _ _ _ _ (c .before .before .before .before .before .before .before .before .before .before .before .before .before .before .before .before .before .clock .ensures) (c .before .before .before .before .before .before .before .before .before .before .before .before .before .before .before .before .is-late .ensures) (c .before .before .before .before .before .before .before .before .before .before .before .before .before .before .before .if1 .left), found _ _ _ (c .before .before .before .before .before .before .before .before .before .before .before .before .before .slot-of-joined .ensures) (c .before .before .before .before .before .before .before .before .before .before .before .before .if2 .left), ← found-slot _ _ _ (c .before .before .before .before .before .before .before .before .before .before .before .before .before .slot-of-joined .ensures) (c .before .before .before .before .before .before .before .before .before .before .before .before .if2 .left), ← c .before .before .before .before .before .before .before .before .before .before .up-at .ensures, via (c .before .before .before .before .before .before .before .before .before .is-same .ensures) (c .before .before .before .before .before .before .before .before .if3 .left))) (c .apply .ensures) (rw (c .before .before .before .before .before .before .told .ensures, c .before .before .before .before .since-told .ensures, c .before .before .overridden .ensures, found-slot (zonesOf (c .before .before .before .before .before .before .before .before .before .before .before .before .before .before .before .before .before .before .before .args .d .now)) (c .before .before .before .before .before .before .before .before .before .before .before .before .before .before .before .before .before .before .before .args .zone) _ (c .before .before .before .before .before .before .before .before .before .before .before .before .before .slot-of-joined .ensures) (c .before .before .before .before .before .before .before .before .before .before .before .before .if2 .left)) (sym (link-change _ _ _ _ (joined-there _ _ (found _ _ _ (c .before .before .before .before .before .before .before .before .before .before .before .before .before .slot-of-joined .ensures) (c .before .before .before .before .before .before .before .before .before .before .before .before .if2 .left))) _)))))
+    (λ c.
+    let at-overridden = c .before .before .overridden in
+    let at-since-told = c .before .before .before .before .since-told in
+    let at-told = c .before .before .before .before .before .before .told in
+    let at-if3 = c .before .before .before .before .before .before .before .before .if3 in
+    let back-8 = c .before .before .before .before .before .before .before .before in
+    let at-is-same = back-8 .before .is-same in
+    let at-up-at = back-8 .before .before .up-at in
+    let at-if2 = back-8 .before .before .before .before .if2 in
+    let at-slot-of-joined = back-8 .before .before .before .before .before .slot-of-joined in
+    let at-if1 = back-8 .before .before .before .before .before .before .before .if1 in
+    let at-is-late = back-8 .before .before .before .before .before .before .before .before .is-late in
+    let back-16 = back-8 .before .before .before .before .before .before .before .before in
+    let at-clock = back-16 .before .clock in
+    let at-args = back-16 .before .before .before .args in
+    accepted _ _ _ _ _ (rw (timed _ _ _ _ _ (at-clock .ensures) (at-is-late .ensures) (at-if1 .left), found _ _ _ (at-slot-of-joined .ensures)
+    (at-if2 .left), ← found-slot _ _ _ (at-slot-of-joined .ensures) (at-if2 .left), ← at-up-at .ensures, via (at-is-same .ensures) (at-if3 .left)))
+    (c .apply .ensures) (rw (at-told .ensures, at-since-told .ensures, at-overridden .ensures, found-slot (zonesOf (at-args .d .now))
+    (at-args .zone) _ (at-slot-of-joined .ensures) (at-if2 .left))
+    (sym (link-change _ _ _ _ (joined-there _ _ (found _ _ _ (at-slot-of-joined .ensures) (at-if2 .left))) _)))))

@@ -11,6 +11,13 @@ start-spec =
     tie.close
     (tie.spec
     (λ c κs. tt) (λ c κs. tt) (λ c κs. tt)
-    (λ c. (rw (via (c .before .before .before .before .is-bad-settings .ensures) (c .before .before .before .if1 .taken)), rw (via (c .before .before .before .before .is-bad-settings .ensures) (c .before .before .before .if1 .taken), c .fresh .ensures, c .before .refused-settings .ensures)))
+    (λ c.
+    let at-if1 = c .before .before .before .if1 in
+    let at-is-bad-settings = c .before .before .before .before .is-bad-settings in
+    (rw (via (at-is-bad-settings .ensures) (at-if1 .taken)), rw
+    (via (at-is-bad-settings .ensures) (at-if1 .taken), c .fresh .ensures, c .before .refused-settings .ensures)))
     (λ c κs. tt)
-    (λ c. (rw (via (c .before .before .before .is-bad-settings .ensures) (c .before .before .if1 .left)), rw (via (c .before .before .before .is-bad-settings .ensures) (c .before .before .if1 .left), c .fresh2 .ensures))))
+    (λ c.
+    let at-if1 = c .before .before .if1 in
+    let at-is-bad-settings = c .before .before .before .is-bad-settings in
+    (rw (via (at-is-bad-settings .ensures) (at-if1 .left)), rw (via (at-is-bad-settings .ensures) (at-if1 .left), c .fresh2 .ensures))))

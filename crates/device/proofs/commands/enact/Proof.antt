@@ -13,8 +13,11 @@ enact-spec =
     (tie.spec
     (λ c κs. search needs) (λ c κs. search needs) (λ c κs. search needs)
     (λ c.
-    let at-overridden = c .before .before .overridden in
-    let at-since = c .before .before .before .before .since in
-    let at-if1 = c .before .before .before .before .before .before .before .if1 in
+    let at-overridden-2 = c .before .before .overridden in
+    let at-since-2 = c .before .before .before .before .since in
+    let at-if1-2 = c .before .before .before .before .before .before .before .if1 in
+    let at-overridden = at-overridden-2 in
+    let at-since = at-since-2 in
+    let at-if1 = at-if1-2 in
     rw (eq-eqb _ _ (at-if1 .taken), c .apply .ensures, at-since .ensures, at-overridden .ensures))
     (λ c. rw (ne-eqb _ _ (c .if1 .left))))

@@ -14,11 +14,16 @@ outcome-of-spec =
     (λ c. search needs) (λ c κs. search needs) (λ c κs. search needs) (λ c κs. search needs)
     (λ c κs. search needs) (λ c κs. search needs)
     (λ c.
-    let at-is-capped = c .before .before .is-capped in
-    let at-settings-at = c .before .before .before .settings-at in
-    let at-if1 = c .before .before .before .before .if1 in
-    let at-has-result = c .before .before .before .before .before .has-result in
-    let at-enum-told = c .before .before .before .before .before .before .enum-told in
+    let at-is-capped-2 = c .before .before .is-capped in
+    let at-settings-at-2 = c .before .before .before .settings-at in
+    let at-if1-2 = c .before .before .before .before .if1 in
+    let at-has-result-2 = c .before .before .before .before .before .has-result in
+    let at-enum-told-2 = c .before .before .before .before .before .before .enum-told in
+    let at-is-capped = at-is-capped-2 in
+    let at-settings-at = at-settings-at-2 in
+    let at-if1 = at-if1-2 in
+    let at-has-result = at-has-result-2 in
+    let at-enum-told = at-enum-told-2 in
     rw (
       c .limit-outcome .ensures,
       at-is-capped .ensures,
@@ -31,24 +36,30 @@ outcome-of-spec =
     (λ c. search needs) (λ c κs. search needs) (λ c. search needs) (λ c κs. search needs)
     (λ c κs. search needs)
     (λ c.
-    let at-if2 = c .before .before .if2 in
-    let at-enum-told3 = c .before .before .before .enum-told3 in
+    let at-if2-2 = c .before .before .if2 in
+    let at-enum-told3-2 = c .before .before .before .enum-told3 in
+    let at-if2 = at-if2-2 in
+    let at-enum-told3 = at-enum-told3-2 in
     rw (c .setpoint-outcome .ensures, c .before .values-with2 .ensures, at-enum-told3 .given .1, eq-eqb _ _ (at-if2 .taken)))
     (λ c. search needs) (λ c κs. search needs) (λ c. search needs) (λ c κs. search needs)
     (λ c κs. search needs)
     (λ c.
-    let at-if3 = c .before .before .if3 in
-    let at-c = c .before .before .before .before .c in
+    let at-if3-2 = c .before .before .if3 in
+    let at-c-2 = c .before .before .before .before .c in
+    let at-if3 = at-if3-2 in
+    let at-c = at-c-2 in
     rw (c .current-outcome .ensures, c .before .values-with3 .ensures, at-c .given .1, eq-eqb _ _ (at-if3 .taken)))
     (λ c. search needs) (λ c κs. search needs) (λ c. search needs)
     (λ c.
-    let at-enum-told = c .before .before .enum-told in
+    let at-enum-told-2 = c .before .before .enum-told in
+    let at-enum-told = at-enum-told-2 in
     rw (at-enum-told .given .1, ← c .before .has-result .ensures, c .if1 .left))
     (λ c. rw (c .before .enum-told2 .given .1) (c .success-if .ensures))
     (λ c. rw (c .before .enum-told3 .given .1, ne-eqb _ _ (c .if2 .left)))
     (λ c. rw (c .before .enum-told4 .given .1) (c .success-if2 .ensures))
     (λ c.
-    let at-c = c .before .before .c in
+    let at-c-2 = c .before .before .c in
+    let at-c = at-c-2 in
     rw (at-c .given .1, ne-eqb _ _ (c .if3 .left)))
     (λ c. rw (c .before .enum-told5 .given .1) (c .success-if3 .ensures))
     (λ c. rw (c .enum-told6 .given .1)))
