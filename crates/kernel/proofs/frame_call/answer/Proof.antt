@@ -15,19 +15,51 @@ answer-spec =
     (λ c κs. search needs) (λ c κs. search needs) (λ c κs. search needs) (λ c κs. search needs)
     (λ c. search needs)
     (λ c.
-    let l : length (c .before .before .before .before .before .before .before .before .before .all .result) ≡ words = search needs in
-    let y = ready (c .before .before .before .before .before .before .before .before .before .before .before .before .args .d .now) (c .before .before .before .before .before .before .before .before .before .before .before .before .args .zone) (c .before .before .before .before .before .before .before .before .before .before .before .before .args .t) (c .before .before .before .before .before .before .before .before .before .before .before .before .args .r) (c .before .before .before .before .before .before .before .decide .result) (c .before .before .before .before .before .outcome-of .result) (c .before .before .before .frame-response .result) (c .before .before .before .before .before .before .before .before .before .before .before .before .args .out .now) _ (sym (ap length (c .before .before .before .before .before .before .before .before .before .all .ensures)) ∙ l) (c .before .before .before .before .before .before .before .decide .ensures) (c .before .before .before .before .before .outcome-of .ensures) (c .before .before .before .frame-response .ensures .0) (c .before .before .before .frame-response .ensures .1) in
-    let a = refused-answer (c .before .before .before .before .before .before .before .before .before .before .before .before .args .d .now) (c .before .before .before .before .before .before .before .before .before .before .before .before .args .zone) (c .before .before .before .before .before .before .before .before .before .before .before .before .args .t) (c .before .before .before .before .before .before .before .before .before .before .before .before .args .r) (c .before .before .before .before .before .before .before .before .before .before .before .before .args .out .now) (c .before .before .before .before .before .before .before .decide .result .number) (c .before .before .before .frame-response .result) (y .number) (c .if1 .taken) (y .written) in
+    let at-frame-response = c .before .before .before .frame-response in
+    let at-outcome-of = c .before .before .before .before .before .outcome-of in
+    let at-decide = c .before .before .before .before .before .before .before .decide in
+    let back-8 = c .before .before .before .before .before .before .before .before in
+    let at-all = back-8 .before .all in
+    let at-args = back-8 .before .before .before .before .args in
+    let l : length (at-all .result) ≡ words = search needs in
+    let y = ready (at-args .d .now) (at-args .zone) (at-args .t) (at-args .r) (at-decide .result) (at-outcome-of .result) (at-frame-response .result)
+    (at-args .out .now) _ (sym (ap length (at-all .ensures)) ∙ l) (at-decide .ensures) (at-outcome-of .ensures) (at-frame-response .ensures .0)
+    (at-frame-response .ensures .1) in
+    let a = refused-answer (at-args .d .now) (at-args .zone) (at-args .t) (at-args .r) (at-args .out .now) (at-decide .result .number)
+    (at-frame-response .result) (y .number) (c .if1 .taken) (y .written) in
     (a .0, (a .1, y .output)))
     (λ c κs. search needs) (λ c. search needs)
     (λ c.
-    let l : length (c .before .before .before .before .before .before .before .before .before .before .before .before .before .all .result) ≡ words = search needs in
-    let y = ready (c .before .before .before .before .before .before .before .before .before .before .before .before .before .before .before .before .args .d .now) (c .before .before .before .before .before .before .before .before .before .before .before .before .before .before .before .before .args .zone) (c .before .before .before .before .before .before .before .before .before .before .before .before .before .before .before .before .args .t) (c .before .before .before .before .before .before .before .before .before .before .before .before .before .before .before .before .args .r) (c .before .before .before .before .before .before .before .before .before .before .before .decide .result) (c .before .before .before .before .before .before .before .before .before .outcome-of .result) (c .before .before .before .before .before .before .before .frame-response .result) (c .before .before .before .before .before .before .before .before .before .before .before .before .before .before .before .before .args .out .now) _ (sym (ap length (c .before .before .before .before .before .before .before .before .before .before .before .before .before .all .ensures)) ∙ l) (c .before .before .before .before .before .before .before .before .before .before .before .decide .ensures) (c .before .before .before .before .before .before .before .before .before .outcome-of .ensures) (c .before .before .before .before .before .before .before .frame-response .ensures .0) (c .before .before .before .before .before .before .before .frame-response .ensures .1) in
-    let n = sym (y .number) ∙ c .before .before .before .before .if1 .left in
-    (accepted-answer (c .before .before .before .before .before .before .before .before .before .before .before .before .before .before .before .before .args .d .now) (c .before .before .before .before .before .before .before .before .before .before .before .before .before .before .before .before .args .zone) (c .before .before .before .before .before .before .before .before .before .before .before .before .before .before .before .before .args .t) (c .before .before .before .before .before .before .before .before .before .before .before .before .before .before .before .before .args .r) (c .before .before .before .before .before .before .before .before .before .before .before .before .before .before .before .before .args .out .now) (c .before .before .before .before .before .before .before .frame-response .result) n (y .written), (c .enact .ensures ∙ rw (c .before .before .before .before .before .before .before .before .before .before .before .decide .ensures) (decision-enacted _ _ _ _) ∙ accepted-after (c .before .before .before .before .before .before .before .before .before .before .before .before .before .before .before .before .args .d .now) (c .before .before .before .before .before .before .before .before .before .before .before .before .before .before .before .before .args .zone) (c .before .before .before .before .before .before .before .before .before .before .before .before .before .before .before .before .args .t) (c .before .before .before .before .before .before .before .before .before .before .before .before .before .before .before .before .args .r) (c .before .before .before .before .before .before .before .before .before .before .before .before .before .before .before .before .args .out .now) (c .before .before .before .before .before .before .before .frame-response .result) n (y .written) (c .before .before .if2 .taken), y .output)))
+    let at-if2 = c .before .before .if2 in
+    let at-if1 = c .before .before .before .before .if1 in
+    let at-frame-response = c .before .before .before .before .before .before .before .frame-response in
+    let back-8 = c .before .before .before .before .before .before .before .before in
+    let at-outcome-of = back-8 .before .outcome-of in
+    let at-decide = back-8 .before .before .before .decide in
+    let at-all = back-8 .before .before .before .before .before .all in
+    let at-args = back-8 .before .before .before .before .before .before .before .before .args in
+    let l : length (at-all .result) ≡ words = search needs in
+    let y = ready (at-args .d .now) (at-args .zone) (at-args .t) (at-args .r) (at-decide .result) (at-outcome-of .result) (at-frame-response .result)
+    (at-args .out .now) _ (sym (ap length (at-all .ensures)) ∙ l) (at-decide .ensures) (at-outcome-of .ensures) (at-frame-response .ensures .0)
+    (at-frame-response .ensures .1) in
+    let n = sym (y .number) ∙ at-if1 .left in
+    (accepted-answer (at-args .d .now) (at-args .zone) (at-args .t) (at-args .r) (at-args .out .now) (at-frame-response .result) n (y .written),
+    (c .enact .ensures ∙ rw (at-decide .ensures) (decision-enacted _ _ _ _) ∙ accepted-after (at-args .d .now) (at-args .zone) (at-args .t)
+    (at-args .r) (at-args .out .now) (at-frame-response .result) n (y .written) (at-if2 .taken), y .output)))
     (λ c. search needs)
     (λ c.
-    let l : length (c .before .before .before .before .before .before .before .before .before .before .before .all .result) ≡ words = search needs in
-    let y = ready (c .before .before .before .before .before .before .before .before .before .before .before .before .before .before .args .d .now) (c .before .before .before .before .before .before .before .before .before .before .before .before .before .before .args .zone) (c .before .before .before .before .before .before .before .before .before .before .before .before .before .before .args .t) (c .before .before .before .before .before .before .before .before .before .before .before .before .before .before .args .r) (c .before .before .before .before .before .before .before .before .before .decide .result) (c .before .before .before .before .before .before .before .outcome-of .result) (c .before .before .before .before .before .frame-response .result) (c .before .before .before .before .before .before .before .before .before .before .before .before .before .before .args .out .now) _ (sym (ap length (c .before .before .before .before .before .before .before .before .before .before .before .all .ensures)) ∙ l) (c .before .before .before .before .before .before .before .before .before .decide .ensures) (c .before .before .before .before .before .before .before .outcome-of .ensures) (c .before .before .before .before .before .frame-response .ensures .0) (c .before .before .before .before .before .frame-response .ensures .1) in
-    let n = sym (y .number) ∙ c .before .before .if1 .left in
-    (accepted-answer (c .before .before .before .before .before .before .before .before .before .before .before .before .before .before .args .d .now) (c .before .before .before .before .before .before .before .before .before .before .before .before .before .before .args .zone) (c .before .before .before .before .before .before .before .before .before .before .before .before .before .before .args .t) (c .before .before .before .before .before .before .before .before .before .before .before .before .before .before .args .r) (c .before .before .before .before .before .before .before .before .before .before .before .before .before .before .args .out .now) (c .before .before .before .before .before .frame-response .result) n (y .written), (crowded-after (c .before .before .before .before .before .before .before .before .before .before .before .before .before .before .args .d .now) (c .before .before .before .before .before .before .before .before .before .before .before .before .before .before .args .zone) (c .before .before .before .before .before .before .before .before .before .before .before .before .before .before .args .t) (c .before .before .before .before .before .before .before .before .before .before .before .before .before .before .args .r) (c .before .before .before .before .before .before .before .before .before .before .before .before .before .before .args .out .now) (c .before .before .before .before .before .frame-response .result) n (y .written) (c .if2 .left), y .output))))
+    let at-if1 = c .before .before .if1 in
+    let at-frame-response = c .before .before .before .before .before .frame-response in
+    let at-outcome-of = c .before .before .before .before .before .before .before .outcome-of in
+    let back-8 = c .before .before .before .before .before .before .before .before in
+    let at-decide = back-8 .before .decide in
+    let at-all = back-8 .before .before .before .all in
+    let at-args = back-8 .before .before .before .before .before .before .args in
+    let l : length (at-all .result) ≡ words = search needs in
+    let y = ready (at-args .d .now) (at-args .zone) (at-args .t) (at-args .r) (at-decide .result) (at-outcome-of .result) (at-frame-response .result)
+    (at-args .out .now) _ (sym (ap length (at-all .ensures)) ∙ l) (at-decide .ensures) (at-outcome-of .ensures) (at-frame-response .ensures .0)
+    (at-frame-response .ensures .1) in
+    let n = sym (y .number) ∙ at-if1 .left in
+    (accepted-answer (at-args .d .now) (at-args .zone) (at-args .t) (at-args .r) (at-args .out .now) (at-frame-response .result) n (y .written),
+    (crowded-after (at-args .d .now) (at-args .zone) (at-args .t) (at-args .r) (at-args .out .now) (at-frame-response .result) n (y .written)
+    (c .if2 .left), y .output))))

@@ -11,7 +11,26 @@ payload-call-spec =
     (tie.spec
     (λ c κs. search needs) (λ c. search needs) (λ c κs. search needs) (λ c. search needs)
     (λ c κs. search needs) (λ c. search needs) (λ c. search needs)
-    (λ c. as-read (c .before .before .before .before .before .before .before .before .before .before .before .args .d .now) (c .before .before .before .before .before .before .before .before .before .before .before .args .zone) (c .before .before .before .before .before .before .before .before .before .before .before .args .t) (c .before .before .before .before .before .before .before .before .before .before .before .args .out .now) _ _ _ _ _ (sym (c .before .before .before .before .before .before .before .before .read-payload .ensures) ∙ c .before .before .before .before .before .before .r .given .1) (c .before .before .answer .ensures))
+    (λ c.
+    let at-answer = c .before .before .answer in
+    let at-r = c .before .before .before .before .before .before .r in
+    let at-read-payload = c .before .before .before .before .before .before .before .before .read-payload in
+    let back-8 = c .before .before .before .before .before .before .before .before in
+    let at-args = back-8 .before .before .before .args in
+    as-read (at-args .d .now) (at-args .zone) (at-args .t) (at-args .out .now) _ _ _ _ _ (sym (at-read-payload .ensures) ∙ at-r .given .1)
+    (at-answer .ensures))
     (λ c. search needs)
-    (λ c. as-read (c .before .before .before .before .before .before .before .before .before .before .args .d .now) (c .before .before .before .before .before .before .before .before .before .before .args .zone) (c .before .before .before .before .before .before .before .before .before .before .args .t) (c .before .before .before .before .before .before .before .before .before .before .args .out .now) _ _ _ _ _ (sym (c .before .before .before .before .before .before .before .read-payload .ensures) ∙ c .before .before .before .before .before .id .given .1) (unserved-answer (c .before .before .before .before .before .before .before .before .before .before .args .d .now) (c .before .before .before .before .before .before .before .before .before .before .args .zone) (c .before .before .before .before .before .before .before .before .before .before .args .t) (c .before .before .before .before .before .before .before .before .before .before .args .out .now) _ (c .before .before .frame-response .result) _ (c .before .before .frame-response .ensures .0) (c .before .before .frame-response .ensures .1)))
-    (λ c. as-read (c .before .before .before .before .before .before .args .d .now) (c .before .before .before .before .before .before .args .zone) (c .before .before .before .before .before .before .args .t) (c .before .before .before .before .before .before .args .out .now) _ _ _ _ _ (sym (c .before .before .before .read-payload .ensures) ∙ c .before .n .given .1) (refused-reading (c .before .before .before .before .before .before .args .d .now) (c .before .before .before .before .before .before .args .zone) (c .before .before .before .before .before .before .args .t) (c .before .before .before .before .before .before .args .out .now) _)))
+    (λ c.
+    let at-frame-response = c .before .before .frame-response in
+    let at-id = c .before .before .before .before .before .id in
+    let at-read-payload = c .before .before .before .before .before .before .before .read-payload in
+    let back-8 = c .before .before .before .before .before .before .before .before in
+    let at-args = back-8 .before .before .args in
+    as-read (at-args .d .now) (at-args .zone) (at-args .t) (at-args .out .now) _ _ _ _ _ (sym (at-read-payload .ensures) ∙ at-id .given .1)
+    (unserved-answer (at-args .d .now) (at-args .zone) (at-args .t) (at-args .out .now) _ (at-frame-response .result) _
+    (at-frame-response .ensures .0) (at-frame-response .ensures .1)))
+    (λ c.
+    let at-read-payload = c .before .before .before .read-payload in
+    let at-args = c .before .before .before .before .before .before .args in
+    as-read (at-args .d .now) (at-args .zone) (at-args .t) (at-args .out .now) _ _ _ _ _ (sym (at-read-payload .ensures) ∙ c .before .n .given .1)
+    (refused-reading (at-args .d .now) (at-args .zone) (at-args .t) (at-args .out .now) _)))
