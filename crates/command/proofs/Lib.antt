@@ -1,2 +1,2 @@
-pub mod Fills
+pub mod Leaves
 pub mod Quantities

@@ -3,3 +3,4 @@ pub mod Content
 pub mod Obeys
 pub mod Outcomes
 pub mod Asked
+pub mod Fields

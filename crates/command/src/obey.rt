@@ -1,11 +1,18 @@
 // What a command leaves held by its zone.
 use crate::Action;
 use crate::said::duration_of;
-use crate::said::says;
+use field_rules::aim_field;
+use field_rules::limit_field;
 use field_rules::natural_of;
+use field_rules::setpoint_field;
 use field_rules::until_of;
+use messages::Aim;
 use messages::Command;
+use messages::CurrentLimits;
 use messages::Field;
+use messages::Phases;
+use quantities::CURRENTS;
+use quantities::LIMITS;
 use quantities::direction_of;
 use quantities::is_limit;
 use store::HELDS;
@@ -13,12 +20,11 @@ use store::Held;
 use store::MOST;
 use store::Settings;
 use store::Zone;
-ghost use Prim.Native.Nat.{min};
+ghost use Prim.Native.Nat.{_+_, _<_, min};
 ghost use mathlib.Core.Path.{_≡_};
-ghost use lib.ListN.{getD};
 ghost use Rattle.store.specs.Sizes.{helds};
-ghost use Rattle.store.specs.Zones.{upTo, nothing};
-ghost use Rattle.command.specs.Obeys.{fieldAction, topOf, action, done, obeyed};
+ghost use Rattle.command.specs.Obeys.{fieldAction, topOf, done, obeyed};
+ghost use Rattle.command.specs.Fields.{leftBy, withTwo, withPhases, allPhases, heldsAfter};
 
 // The most that quantity q may be: a limit's contractual maximum, and none for the others.
 pub fn top_of(s: Settings, q: usize) -> u64
@@ -50,13 +56,6 @@ fn field_action(top: u64, f: Field) -> Action
     }
 }
 
-// What the command does to quantity q: what it says, capped.
-fn action(s: Settings, c: Command, q: usize) -> Action
-    ensures { λ r. ⌜ r ≡ action s c q ⌝ }
-{
-    field_action(top_of(s, q), says(c, q))
-}
-
 // A value is replaced together with its end.
 fn done(a: Action, until: u64, h: Held) -> Held
     ensures { λ r. ⌜ r ≡ done a until h ⌝ }
@@ -71,17 +70,105 @@ fn done(a: Action, until: u64, h: Held) -> Held
     }
 }
 
-fn helds_after(s: Settings, c: Command, until: u64, old: [Held; HELDS]) -> [Held; HELDS]
-    ensures { λ r. ⌜ r ≡ upTo (λ q. done (action s c q) until (getD old q nothing)) helds ⌝ }
+// What a field of quantity q leaves held of it.
+fn left_by(s: Settings, f: Field, q: usize, until: u64, h: Held) -> Held
+    ensures { λ r. ⌜ r ≡ leftBy s f q until h ⌝ }
 {
+    done(field_action(top_of(s, q), f), until, h)
+}
+
+// Two fields obeyed, of quantity q and of the next.
+fn with_two(
+    s: Settings,
+    a: Field,
+    b: Field,
+    q: usize,
+    until: u64,
+    old: [Held; HELDS],
+) -> [Held; HELDS]
+    requires { ⌜ q + 1 < helds ⌝ }
+    ensures { λ r. ⌜ r ≡ withTwo s a b q until old ⌝ }
+{
+    let x = old[q];
+    let y = old[q + 1];
     let mut held = old;
-    let mut q = 0;
-    while q < HELDS {
-        let h = held[q];
-        held[q] = done(action(s, c, q), until, h);
-        q += 1;
-    }
+    held[q] = left_by(s, a, q, until, x);
+    held[q + 1] = left_by(s, b, q + 1, until, y);
     held
+}
+
+// Three phases obeyed, of quantity q and of every second behind it.
+fn with_phases(s: Settings, m: Phases, q: usize, until: u64, old: [Held; HELDS]) -> [Held; HELDS]
+    requires { ⌜ q + 4 < helds ⌝ }
+    ensures { λ r. ⌜ r ≡ withPhases s m q until old ⌝ }
+{
+    let a = m.a;
+    let b = m.b;
+    let c = m.c;
+    let x = old[q];
+    let y = old[q + 2];
+    let z = old[q + 4];
+    let mut held = old;
+    held[q] = left_by(s, a, q, until, x);
+    held[q + 2] = left_by(s, b, q + 2, until, y);
+    held[q + 4] = left_by(s, c, q + 4, until, z);
+    held
+}
+
+// A map of a direction that is none leaves all as it was.
+fn with_map(s: Settings, m: CurrentLimits, until: u64, old: [Held; HELDS]) -> [Held; HELDS]
+    ensures { λ r. ⌜ r ≡ heldsAfter s (Command.SetCurrentLimits m) until old ⌝ }
+{
+    let phases = m.phases;
+    if m.direction == 0 {
+        return with_phases(s, phases, CURRENTS, until, old);
+    }
+    if m.direction == 1 {
+        return with_phases(s, phases, CURRENTS + 1, until, old);
+    }
+    old
+}
+
+fn all_phases(f: Field) -> Phases
+    ensures { λ r. ⌜ r ≡ allPhases f ⌝ }
+{
+    Phases { a: f, b: f, c: f }
+}
+
+// A clear says the same of every phase.
+fn without_currents(s: Settings, a: Aim, until: u64, old: [Held; HELDS]) -> [Held; HELDS]
+    ensures { λ r. ⌜ r ≡ heldsAfter s (Command.ClearCurrentLimits a) until old ⌝ }
+{
+    let consumption = all_phases(aim_field(a, 0));
+    let production = all_phases(aim_field(a, 1));
+    let held = with_phases(s, consumption, CURRENTS, until, old);
+    with_phases(s, production, CURRENTS + 1, until, held)
+}
+
+// Only the quantities that the command has fields of are worked over.
+fn helds_after(s: Settings, c: Command, until: u64, old: [Held; HELDS]) -> [Held; HELDS]
+    ensures { λ r. ⌜ r ≡ heldsAfter s c until old ⌝ }
+{
+    match c {
+        Command::SetLimit(m) => with_two(s, limit_field(m, 0), limit_field(m, 1), 0, until, old),
+        Command::ClearLimit(a) => with_two(s, aim_field(a, 0), aim_field(a, 1), 0, until, old),
+        Command::SetSetpoint(m) => {
+            with_two(
+                s,
+                setpoint_field(m, 0),
+                setpoint_field(m, 1),
+                LIMITS,
+                until,
+                old,
+            )
+        }
+        Command::ClearSetpoint(a) => {
+            with_two(s, aim_field(a, 0), aim_field(a, 1), LIMITS, until, old)
+        }
+        Command::SetCurrentLimits(m) => with_map(s, m, until, old),
+        Command::ClearCurrentLimits(a) => without_currents(s, a, until, old),
+        Command::Unserved(_) => old,
+    }
 }
 
 // The zone's record once it has obeyed.

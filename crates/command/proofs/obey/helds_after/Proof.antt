@@ -1,38 +1,60 @@
--- Below q stands what is held afterwards, from q on what was held before.
-use mathlib.Core.Path.{_≡_, refl, _∙_}
-use native.Mathlib.Omega.{arith}
-use borrow.Author.Needs.{needs}
-use lib.ListN.{length, getD, length-set}
-use Prim.Native.Nat.{_-_, _≤_}
+-- The fields of the command are obeyed; a quantity without one keeps what it has.
+use mathlib.Core.Path.{_≡_, _∙_}
+use lib.ListN.{length}
 use Rattle.store.specs.Sizes.{helds}
-use Rattle.command.specs.Obeys.{action, done}
-use Rattle.store.specs.Zones.{upTo, nothing}
-use Rattle.store.proofs.Folds.{fill-end, length-of}
-use Rattle.command.proofs.Fills.{Worked, work-turn}
+use Rattle.store.proofs.Folds.{length-of}
+use Rattle.command.specs.Says.{says, limitField, setpointField, aimField}
+use Rattle.command.specs.Obeys.{action}
+use Rattle.command.specs.Fields.{heldsAfter}
+use Rattle.command.proofs.Leaves.{left-limits, left-setpoints, left-none}
+use borrow.Author.Needs.{needs}
 use Rattle.command.proofs.obey.helds_after.Statement.{statement}
 use Rattle.command.proofs.obey.helds_after.Tie as tie
 
-abbrev Inv-loop : tie.InvT-loop
-Inv-loop s c until held₀ q₀ held q = (q ≤ helds) × (length held ≡ helds) × Worked
-    (λ k. done (action s c k) until (getD held₀ k nothing)) nothing held₀ held q
-
-abbrev μ-loop : tie.MeasureT-loop
-μ-loop s c until held₀ q₀ held q = helds - q
-
 pub helds-after-spec : {M : Type 1} → statement M
-unfolding upTo
+unfolding heldsAfter action says
 helds-after-spec =
     tie.close
     (tie.spec
-    Inv-loop μ-loop (λ c. (omega arith, search length-of, (refl, λ k b. refl))) (λ c. omega arith)
-    (λ c. omega arith) (λ c κs. search needs) (λ c κs. search needs) (λ c. omega arith) (λ c. omega arith)
-    (λ c. omega arith) (λ c. omega arith)
+    (λ c. search needs) (λ c κs. search needs) (λ c κs. search needs) (λ c κs. search needs) (λ c. search needs) (λ c κs. search needs)
+    (λ c κs. search needs) (λ c κs. search needs) (λ c. search needs) (λ c κs. search needs) (λ c κs. search needs) (λ c κs. search needs)
+    (λ c. search needs) (λ c κs. search needs) (λ c κs. search needs) (λ c κs. search needs) (λ c. search needs) (λ c κs. search needs)
+    (λ c. search needs) (λ c κs. search needs) (λ c. search needs)
     (λ c.
-    let at-loop = c .before .before .before .before .loop in
-    let at-args = c .before .before .before .before .before .args in (
-      omega arith,
-      simp length-set (at-loop .inv .1),
-      work-turn _ _ (at-args .old) _ (at-loop .q) _ (omega arith) (at-loop .inv .2)
-          (c .done .ensures ∙ rw (c .before .action .ensures, at-loop .inv .2 .1 (at-loop .q) (omega arith))),
-    ))
-    (λ c. fill-end _ _ (c .before .loop .q) helds (c .before .loop .inv .1) (omega arith) (omega arith) (c .before .loop .inv .2 .0)))
+    let at-limit-field = c .before .before .limit-field in
+    let at-c = c .before .before .before .before .c in
+    let at-args = c .before .before .before .before .before .before .args in
+    let whole : length (at-args .old) ≡ helds = search length-of in
+    rw (at-c .given .1) ((rw (at-limit-field .ensures, c .before .limit-field2 .ensures) at (c .with-two .ensures)) ∙ left-limits (at-args .s)
+    (at-args .until) (at-args .old) whole (limitField (at-c .given .0 .0))))
+    (λ c.
+    let at-aim-field = c .before .before .aim-field in
+    let at-c2 = c .before .before .before .before .c2 in
+    let at-args = c .before .before .before .before .before .before .args in
+    let whole : length (at-args .old) ≡ helds = search length-of in
+    rw (at-c2 .given .1) ((rw (at-aim-field .ensures, c .before .aim-field2 .ensures) at (c .with-two2 .ensures)) ∙ left-limits (at-args .s)
+    (at-args .until) (at-args .old) whole (aimField (at-c2 .given .0 .0))))
+    (λ c.
+    let at-setpoint-field = c .before .before .setpoint-field in
+    let at-c3 = c .before .before .before .before .c3 in
+    let at-args = c .before .before .before .before .before .before .args in
+    let whole : length (at-args .old) ≡ helds = search length-of in
+    rw (at-c3 .given .1) ((rw (at-setpoint-field .ensures, c .before .setpoint-field2 .ensures) at (c .with-two3 .ensures)) ∙ left-setpoints
+    (at-args .s) (at-args .until) (at-args .old) whole (setpointField (at-c3 .given .0 .0))))
+    (λ c.
+    let at-aim-field3 = c .before .before .aim-field3 in
+    let at-c4 = c .before .before .before .before .c4 in
+    let at-args = c .before .before .before .before .before .before .args in
+    let whole : length (at-args .old) ≡ helds = search length-of in
+    rw (at-c4 .given .1) ((rw (at-aim-field3 .ensures, c .before .aim-field4 .ensures) at (c .with-two4 .ensures)) ∙ left-setpoints (at-args .s)
+    (at-args .until) (at-args .old) whole (aimField (at-c4 .given .0 .0))))
+    (λ c.
+    let at-c5 = c .before .before .c5 in
+    rw (at-c5 .given .1) (c .with-map .ensures))
+    (λ c.
+    let at-c6 = c .before .before .c6 in
+    rw (at-c6 .given .1) (c .without-currents .ensures))
+    (λ c.
+    let at-args = c .before .before .args in
+    let whole : length (at-args .old) ≡ helds = search length-of in
+    rw (c .enum-told .given .1) (left-none (at-args .s) (at-args .until) (at-args .old) whole 0)))

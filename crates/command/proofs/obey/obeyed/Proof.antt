@@ -1,12 +1,13 @@
 -- The held values are replaced and nothing else.
 use Rattle.command.specs.Obeys.{obeyed}
+use Rattle.command.specs.Fields.{heldsAfter}
 use Rattle.store.specs.Zones.{heldOf}
 use borrow.Author.Needs.{needs}
 use Rattle.command.proofs.obey.obeyed.Statement.{statement}
 use Rattle.command.proofs.obey.obeyed.Tie as tie
 
 pub obeyed-spec : {M : Type 1} → statement M
-unfolding obeyed heldOf
+unfolding obeyed heldOf heldsAfter
 obeyed-spec =
     tie.close
     (tie.spec
