@@ -131,10 +131,7 @@ fn failsafe_holds(since: u64, duration: u64, t: u64) -> bool
 fn state_down(overridden: u64) -> i64
     ensures { λ r. ⌜ r ≡ stateDown overridden ⌝ }
 {
-    if overridden != 0 {
-        return 4;
-    }
-    0
+    if overridden != 0 { 4 } else { 0 }
 }
 
 // The last two rows: nothing holds.
