@@ -1,9 +1,9 @@
 -- The plain planner's rows are a plan, and there is only one: the first planner's walk is not looked at.
 use Prim.Native.Nat.{ℕ, zero, suc, _+_, _*_, _-_, _<_, _≤_}
-use mathlib.Core.Bool.{Bool, true, false, cond, not, _&&_}
+use mathlib.Core.Bool.{Bool, true, false, cond, _&&_}
 use mathlib.Core.Path.{_≡_, refl, sym, ap, _∙_, subst}
-use mathlib.Core.Logic.{_⊎_, inl, inr, ⊎-elim}
-use mathlib.Core.List.{List, [], _∷_, _++_, List·Memᴰ, List·Memᴰ·head, List·Memᴰ·tail, List·Memᴰ·cases-cons, List·Memᴰ·not-nil}
+use mathlib.Core.Logic.{⊎-elim}
+use mathlib.Core.List.{List, [], _∷_, List·Memᴰ, List·Memᴰ·head, List·Memᴰ·tail, List·Memᴰ·cases-cons, List·Memᴰ·not-nil}
 use native.Mathlib.Decide.{ℕ-discrete, decLt}
 use native.Mathlib.Omega.{arith}
 use lib.Dec.{ltb, eqb}
@@ -18,7 +18,6 @@ use Rattle.store.specs.Words.{clockOf}
 use Rattle.store.proofs.Lens.{zones-length}
 use Rattle.store.proofs.Tests.{never}
 use Rattle.holds.specs.Holds.{Situation, situationOf, valuesAt}
-use Rattle.holds.specs.Dues.{dues}
 use Rattle.holds.proofs.Steady.{values-steady}
 use Rattle.planner.specs.Rows.{last, rowsOf, plan, Changes, Ascending, IsPlan}
 use Rattle.planner.specs.Plan.{planOf, rowSize, numbersOf, planNumber, planAnswer}

@@ -1,17 +1,17 @@
 -- Every second at which what holds can change is a candidate.
 use Prim.Native.Nat.{ℕ, zero, suc, _+_, _*_, _/_, _%_, _<_, _≤_}
 use mathlib.Core.Bool.{Bool, true, false, cond, _||_}
-use mathlib.Core.Path.{_≡_, refl, sym, ap, _∙_}
-use mathlib.Core.Logic.{_⊎_, inl, inr, ⊎-elim}
+use mathlib.Core.Path.{_≡_, refl, ap, _∙_}
+use mathlib.Core.Logic.{⊎-elim}
 use mathlib.Core.List.{List, [], _∷_, _++_, List·Memᴰ, List·Memᴰ·cases-cons, List·Memᴰ·not-nil, List·Memᴰ·append-cases}
 use native.Mathlib.Decide.{ℕ-discrete}
 use native.Mathlib.Omega.{arith}
 use lib.Dec.{ltb, eqb}
-use lib.ListN.{length, getD}
-use borrow.Author.Tests.{lt-ltb, le-ltb, ltb-true, ltb-false, eq-eqb}
+use lib.ListN.{length}
+use borrow.Author.Tests.{lt-ltb, ltb-true, eq-eqb}
 use Rattle.quantities.specs.Quantities.{lows, leads, lowAt, leadAt}
 use Rattle.store.specs.Sizes.{end, slots, helds}
-use Rattle.store.specs.Zones.{upTo, any, freeZone, isJoined, heldOf, anyUp, anyJoined}
+use Rattle.store.specs.Zones.{upTo, any, isJoined, heldOf, anyUp, anyJoined}
 use Rattle.store.specs.declared.Zone.{Zone}
 use Rattle.holds.specs.Holds.{Situation}
 use Rattle.holds.specs.Dues.{zoneDues, heldDues, lowDues, leadDues, dues}

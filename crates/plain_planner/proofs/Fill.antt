@@ -1,7 +1,7 @@
 -- The writer: what is written and what is left to write make the plan's records, and the rest of the slice stays.
 use Prim.Native.Nat.{ℕ, zero, suc, _+_, _<_, _≤_}
 use mathlib.Core.Bool.{Bool, true, false, cond}
-use mathlib.Core.Path.{_≡_, refl, sym, ap, _∙_}
+use mathlib.Core.Path.{_≡_, refl, ap, _∙_}
 use mathlib.Core.List.{List, [], _∷_, _++_}
 use native.Mathlib.Decide.{decLt}
 use native.Mathlib.Nat.{zero-add}
@@ -11,14 +11,14 @@ use lib.Dec.{ltb}
 use lib.IntN.{ℤ}
 use lib.ListN.{length, drop, set, length-set}
 use lib.Seq.{sets, sets-eq}
-use borrow.Author.Tests.{lt-ltb, le-ltb, ltb-true, ltb-false}
+use borrow.Author.Tests.{lt-ltb, le-ltb, ltb-false}
 use Rattle.store.specs.Sizes.{end}
 use Rattle.store.specs.Words.{clockOf}
-use Rattle.holds.specs.Holds.{Situation, situationOf, valuesAt}
+use Rattle.holds.specs.Holds.{Situation, situationOf}
 use Rattle.plain_planner.specs.Plain.{plainSeconds, rowsAt, plainRows, nextRow}
-use Rattle.plain_planner.specs.Records.{rowOf, recordsOf, rowsNow, plainNumber, plainAnswer, plainSlice, recordAt, recordAfter, recordNo, written}
+use Rattle.plain_planner.specs.Records.{rowOf, recordsOf, plainNumber, plainAnswer, plainSlice, recordAt, recordAfter, recordNo, written}
 use Rattle.plain_planner.specs.declared.Row.{Row}
-use Rattle.plain_planner.proofs.Onward.{onward, onward-over, onward-more, onward-next, Counted, counted-start, counted-more, counted-end}
+use Rattle.plain_planner.proofs.Onward.{onward, onward-over, onward-more, onward-next, Counted, counted-start, counted-more}
 
 rows-length : (s : Situation) (ns : List ℕ) → length (rowsAt s ns) ≡ length ns
 unfolding rowsAt

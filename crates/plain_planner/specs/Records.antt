@@ -2,12 +2,12 @@
 use Prim.Native.Nat.{ℕ, zero, suc}
 use mathlib.Core.Bool.{cond}
 use mathlib.Core.List.{List, [], _∷_, _++_}
-use lib.Dec.{ltb, eqb}
+use lib.Dec.{ltb}
 use lib.IntN.{ℤ, pos}
 use lib.ListN.{length, drop, getD, set}
 use Rattle.store.specs.Words.{clockOf}
 use Rattle.holds.specs.Holds.{Situation, situationOf, valuesAt}
-use Rattle.plain_planner.specs.Plain.{plainSeconds, plainRows, nextRow}
+use Rattle.plain_planner.specs.Plain.{plainRows, nextRow}
 use Rattle.plain_planner.specs.declared.Row.{Row}
 use Rattle.plain_planner.specs.declared.Planned.{Planned}
 

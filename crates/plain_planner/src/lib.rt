@@ -34,7 +34,7 @@ pub struct Planned {
 }
 
 // The thin writer. How many rows fit is known before the first is written; past the count nothing is touched.
-pub fn plain_plan<'a, 'b>(rows: &'a mut [Row], d: &'b State) -> Planned
+pub fn plain_plan(d: &State, rows: &mut [Row]) -> Planned
     ensures { λ r. ⌜ (r ≡ plainAnswer (now (d .entry)) (length (now (rows .entry)))) × (now (rows .exit) ≡ plainSlice (now (d .entry)) (now (rows .entry))) ⌝ }
 {
     let p = records::planned(d, rows.len());

@@ -1,6 +1,6 @@
 -- Each turn meets one candidate more: what is met so far is the fold over those.
 use Prim.Native.Nat.{_-_, _≤_, _+_}
-use mathlib.Core.Path.{_≡_, refl, sym, _∙_}
+use mathlib.Core.Path.{_≡_, refl}
 use mathlib.Core.List.{foldl}
 use native.Mathlib.Omega.{arith}
 use borrow.Author.Needs.{needs}
@@ -27,8 +27,10 @@ next-after-spec =
     Inv-loop μ-loop
     (λ c. (omega arith, refl))
     (λ c κs. search needs) (λ c κs. search needs) (λ c. omega arith) (λ c. omega arith)
-    (λ c. (
+    (λ c.
+    let at-loop = c .before .before .before .loop in
+    let at-args = c .before .before .before .before .args in (
       omega arith,
-      met-more (situationOf (c .before .before .before .before .args .d .now)) (c .before .before .before .before .args .t) (c .before .before .before .loop .k) _ _ _ (c .before .before .before .loop .inv .1) (c .before .candidate .ensures) (c .nearer .ensures),
+      met-more (situationOf (at-args .d .now)) (at-args .t) (at-loop .k) _ _ _ (at-loop .inv .1) (c .before .candidate .ensures) (c .nearer .ensures),
     ))
     (λ c. let e : c .before .loop .k ≡ expiries + 1 = omega arith in rw e at (c .before .loop .inv .1)))

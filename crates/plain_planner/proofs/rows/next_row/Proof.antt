@@ -32,10 +32,15 @@ next-after-requires-2 : tie.Need-next-after-requires-2 Inv-loop μ-loop
 next-after-requires-2 c κs = search needs
 
 loop-less : tie.Need-loop-less Inv-loop μ-loop
-loop-less c = omega (arith, c .next-after2 .ensures, next-later (situationOf (c .before .before .before .before .before .before .args .d .now)) (c .before .before .before .before .loop .n) (omega arith))
+loop-less c =
+    let at-loop = c .before .before .before .before .loop in
+    let at-args = c .before .before .before .before .before .before .args in
+    omega (arith, c .next-after2 .ensures, next-later (situationOf (at-args .d .now)) (at-loop .n) (omega arith))
 
 loop-again : tie.Need-loop-again Inv-loop μ-loop
-loop-again c = looking-on _ _ _ (c .before .before .before .before .loop .inv) (omega arith) (via (c .before .before .unchanged .ensures) (not-false _ (c .before .if1 .left))) _ (c .next-after2 .ensures)
+loop-again c =
+    let at-loop = c .before .before .before .before .loop in
+    looking-on _ _ _ (at-loop .inv) (omega arith) (via (c .before .before .unchanged .ensures) (not-false _ (c .before .if1 .left))) _ (c .next-after2 .ensures)
 
 returns-2 : tie.Need-returns-2 Inv-loop μ-loop
 returns-2 c = looking-end _ _ _ (c .before .loop .inv) (omega arith)
