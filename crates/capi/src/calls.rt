@@ -3,12 +3,13 @@ use crate::words::INPUTS;
 use crate::words::SETTINGS;
 use crate::words::inputs_of;
 use crate::words::settings_of;
+use kernel::Row;
 use kernel::State;
 use kernel::VALUES;
 ghost use mathlib.Core.Path.{_≡_};
 ghost use mathlib.Core.Bool.{true, false};
 ghost use lib.ListN.{length};
-ghost use Rattle.kernel.specs.Door.{startNumber, startAfter, joinNumber, joinAfter, leaveNumber, leaveAfter, linkNumber, linkAfter, overrideNumber, overrideAfter, clearNumber, clearAfter, askAnswer, askAfter, planAnswer, planAfter, planSlice, reportOf, pairsAfter};
+ghost use Rattle.kernel.specs.Door.{startNumber, startAfter, joinNumber, joinAfter, leaveNumber, leaveAfter, linkNumber, linkAfter, overrideNumber, overrideAfter, clearNumber, clearAfter, askAnswer, askAfter, planAnswer, planAfter, planSlice, plainAnswer, plainSlice, reportOf, pairsAfter};
 ghost use Rattle.capi.specs.Words.{settingsOf, inputsOf};
 
 #[no_mangle]
@@ -98,6 +99,16 @@ pub extern "C" fn cekarum_raw_plan(
 {
     let planned = kernel::plan(device, time, rows);
     *count = planned.count;
+    planned.number
+}
+
+// The device is lent unchangeable: no time is taken, and nothing moves.
+#[no_mangle]
+pub extern "C" fn cekarum_raw_plain_plan(device: &State, rows: &mut [Row], count: &mut u64) -> u64
+    ensures { λ r. ⌜ (r ≡ plainAnswer (now (device .entry)) (length (now (rows .entry))) .number) × ((now (rows .exit) ≡ plainSlice (now (device .entry)) (now (rows .entry))) × (now (count .exit) ≡ plainAnswer (now (device .entry)) (length (now (rows .entry))) .count)) ⌝ }
+{
+    let planned = kernel::plain_plan(device, rows);
+    *count = planned.count as u64;
     planned.number
 }
 

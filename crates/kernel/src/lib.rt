@@ -13,7 +13,7 @@
 // ask(d, t)                             5; the control state and the ten values at t, -1 absent
 // frame(d, zone, t, bytes, out)         1, 2, 3, 4, 5, 9 to 15; the response frame from the front of `out`
 // plan(d, t, rows)                      5, 15; rows of twelve numbers from the front of `rows`
-// plain_plan(rows, d)                   15; the same rows as records at the device's last time, made the slow way
+// plain_plan(d, rows)                   15; the same rows as records at the device's last time, made the slow way
 // read_request, write_request           1, 2, 3, 4; 3, 4, 15; for the other side of the wire
 // read_response, write_response         4, 1, 2, 3; 4, 3, 15; likewise
 // report(inputs, attributes, pairs)     16, 17, 15; the conformance report, from the front of `pairs`
