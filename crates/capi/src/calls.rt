@@ -105,7 +105,9 @@ pub extern "C" fn cekarum_raw_plan(
 // The device is lent unchangeable: no time is taken, and nothing moves.
 #[no_mangle]
 pub extern "C" fn cekarum_raw_plain_plan(device: &State, rows: &mut [Row], count: &mut u64) -> u64
-    ensures { λ r. ⌜ (r ≡ plainAnswer (now (device .entry)) (length (now (rows .entry))) .number) × ((now (rows .exit) ≡ plainSlice (now (device .entry)) (now (rows .entry))) × (now (count .exit) ≡ plainAnswer (now (device .entry)) (length (now (rows .entry))) .count)) ⌝ }
+    ensures { λ r. ⌜ r ≡ plainAnswer (now (device .entry)) (length (now (rows .entry))) .number ⌝ }
+    ensures { λ _. ⌜ now (rows .exit) ≡ plainSlice (now (device .entry)) (now (rows .entry)) ⌝ }
+    ensures { λ _. ⌜ now (count .exit) ≡ plainAnswer (now (device .entry)) (length (now (rows .entry))) .count ⌝ }
 {
     let planned = kernel::plain_plan(device, rows);
     *count = planned.count as u64;
