@@ -2,7 +2,7 @@
 unfoldable pub use Rattle.device.specs.Start.{startNumber, startAfter}
 unfoldable pub use Rattle.device.specs.Calls.{joinNumber, joinAfter, leaveNumber, leaveAfter, linkNumber, linkAfter, overrideNumber, overrideAfter, clearNumber, clearAfter, askAnswer, askAfter}
 unfoldable pub use Rattle.planner.specs.Plan.{planAnswer, planAfter, planSlice}
-unfoldable pub use Rattle.plain_planner.specs.Records.{plainAnswer, plainSlice}
+unfoldable pub use Rattle.plain_planner.specs.Records.{plainAnswer, plainSlice, recordAfter}
 unfoldable pub use Rattle.frames.specs.Requests.{readRequest, requestNumber, requestItem}
 unfoldable pub use Rattle.frames.specs.Responses.{readResponse, responseNumber, responseItem}
 unfoldable pub use Rattle.frames.specs.Writing.{itemFrame, writtenOf, leftBy}

@@ -14,6 +14,8 @@
 // frame(d, zone, t, bytes, out)         1, 2, 3, 4, 5, 9 to 15; the response frame from the front of `out`
 // plan(d, t, rows)                      5, 15; rows of twelve numbers from the front of `rows`
 // plain_plan(d, rows)                   15; the same rows as records at the device's last time, made the slow way
+// plain_answer(d, room)                 15; its number and count alone, where there is room for so many records
+// first_record(d), next_record(d, last) its records one by one, for a caller who lends no slice
 // read_request, write_request           1, 2, 3, 4; 3, 4, 15; for the other side of the wire
 // read_response, write_response         4, 1, 2, 3; 4, 3, 15; likewise
 // report(inputs, attributes, pairs)     16, 17, 15; the conformance report, from the front of `pairs`
@@ -50,6 +52,9 @@ pub use frames::write_request;
 pub use frames::write_response;
 pub use plain_planner::Planned as PlainPlanned;
 pub use plain_planner::Row;
+pub use plain_planner::first_record;
+pub use plain_planner::next_record;
+pub use plain_planner::plain_answer;
 pub use plain_planner::plain_plan;
 pub use planner::PLAN;
 pub use planner::Planned;

@@ -49,7 +49,7 @@ plainAnswer ws room = record { number = plainNumber ws room; count = cond (ltb r
 unfoldable pub plainSlice : List ℕ → List Row → List Row
 plainSlice ws old = cond (ltb (length old) (length (rowsNow ws))) old (recordsOf (rowsNow ws) ++ drop (length (rowsNow ws)) old)
 
--- How the writer goes from record to record. The public contract cites none of this.
+-- How one goes from record to record, for a caller who lends no slice and for the writer.
 abbrev pub recordAt : Situation → ℕ → Row
 recordAt s t = rowOf t (valuesAt s t)
 

@@ -4,6 +4,9 @@ mod candidates;
 mod records;
 mod rows;
 
+pub use records::first_record;
+pub use records::next_record;
+pub use records::planned as plain_answer;
 use store::State;
 ghost use mathlib.Core.Path.{_≡_};
 ghost use lib.ListN.{length};
