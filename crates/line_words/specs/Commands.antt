@@ -7,14 +7,15 @@ use lib.ListN.{length, getD, take}
 use Rattle.words.specs.Spans.{sameBytes}
 use Rattle.line_words.specs.declared.commands.Command.{Command}
 
--- names of four letters: `join`, `lost`, `back`, `plan`, `conf`
+-- names of four letters: `join`, `lost`, `back`, `plan`, `conf`, `rows`
 unfoldable pub ofFour : List ℕ → Command
 ofFour s =
     cond (sameBytes s (106 ∷ 111 ∷ 105 ∷ 110 ∷ [])) Command.Join
     (cond (sameBytes s (108 ∷ 111 ∷ 115 ∷ 116 ∷ [])) Command.Lost
     (cond (sameBytes s (98 ∷ 97 ∷ 99 ∷ 107 ∷ [])) Command.Back
     (cond (sameBytes s (112 ∷ 108 ∷ 97 ∷ 110 ∷ [])) Command.Plan
-    (cond (sameBytes s (99 ∷ 111 ∷ 110 ∷ 102 ∷ [])) Command.Conf Command.Unknown))))
+    (cond (sameBytes s (99 ∷ 111 ∷ 110 ∷ 102 ∷ [])) Command.Conf
+    (cond (sameBytes s (114 ∷ 111 ∷ 119 ∷ 115 ∷ [])) Command.Rows Command.Unknown)))))
 
 -- of five: `frame`, `start`, `leave`, `clear`
 unfoldable pub ofFive : List ℕ → Command
@@ -51,6 +52,7 @@ wordsOf Command.Override = 4
 wordsOf Command.Clear = 2
 wordsOf Command.Ask = 2
 wordsOf Command.Plan = 3
+wordsOf Command.Rows = 2
 wordsOf Command.Frame = 5
 wordsOf Command.Request = 2
 wordsOf Command.Response = 3

@@ -16,6 +16,7 @@ pub enum Command {
     Clear,
     Ask,
     Plan,
+    Rows,
     Frame,
     Request,
     Response,
@@ -39,6 +40,9 @@ fn of_four(word: &[u8]) -> Command
     }
     if same(word, b"conf") {
         return Command::Conf;
+    }
+    if same(word, b"rows") {
+        return Command::Rows;
     }
     Command::Unknown
 }
@@ -117,6 +121,7 @@ pub fn words_of(c: Command) -> usize
         Command::Clear => 2,
         Command::Ask => 2,
         Command::Plan => 3,
+        Command::Rows => 2,
         Command::Frame => 5,
         Command::Request => 2,
         Command::Response => 3,
@@ -133,6 +138,7 @@ pub fn read_numbers(line: &[u8], ends: &[usize], c: Command, fields: &mut [u64])
         Command::Leave | Command::Lost | Command::Back => read(line, ends, b"nn", fields),
         Command::Clear | Command::Ask | Command::Response => read(line, ends, b"n", fields),
         Command::Plan => read(line, ends, b"nr", fields),
+        Command::Rows => read(line, ends, b"r", fields),
         Command::Frame => read(line, ends, b"nnr", fields),
         Command::Request => true,
         Command::Conf => read(line, ends, b"nnnnffffr", fields),

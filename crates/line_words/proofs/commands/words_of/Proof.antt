@@ -12,7 +12,7 @@ words-of-spec =
     (tie.spec
     (λ c. search needs) (λ c. search needs) (λ c. search needs) (λ c. search needs) (λ c. search needs)
     (λ c. search needs) (λ c. search needs) (λ c. search needs) (λ c. search needs) (λ c. search needs)
-    (λ c. search needs) (λ c. search needs) (λ c. search needs) (λ c. search needs)
+    (λ c. search needs) (λ c. search needs) (λ c. search needs) (λ c. search needs) (λ c. search needs)
     (λ c. rw (c .enum-told .given .1) refl)
     (λ c. rw (c .enum-told2 .given .1) refl)
     (λ c. rw (c .enum-told3 .given .1) refl)
@@ -26,4 +26,5 @@ words-of-spec =
     (λ c. rw (c .enum-told11 .given .1) refl)
     (λ c. rw (c .enum-told12 .given .1) refl)
     (λ c. rw (c .enum-told13 .given .1) refl)
-    (λ c. rw (c .enum-told14 .given .1) refl))
+    (λ c. rw (c .enum-told14 .given .1) refl)
+    (λ c. rw (c .enum-told15 .given .1) refl))
