@@ -54,7 +54,13 @@ of-four-spec =
     let at-same4 = c .before .before .before .before .same4 in
     let at-if5 = c .if5 in
     let at-same5 = c .before .same5 in
-    rw (sym (at-same .ensures) ∙ at-if1 .left, sym (at-same2 .ensures) ∙ at-if2 .left, sym (at-same3 .ensures) ∙ at-if3 .left, sym (at-same4 .ensures) ∙ at-if4 .left, sym (at-same5 .ensures) ∙ at-if5 .taken) refl)
+    rw (
+      sym (at-same .ensures) ∙ at-if1 .left,
+      sym (at-same2 .ensures) ∙ at-if2 .left,
+      sym (at-same3 .ensures) ∙ at-if3 .left,
+      sym (at-same4 .ensures) ∙ at-if4 .left,
+      sym (at-same5 .ensures) ∙ at-if5 .taken,
+    ) refl)
     (λ c. search needs) (λ c κs. search needs)
     (λ c.
     let at-if1 = c .before .before .before .before .before .before .before .before .before .before .before .before .before .before .before .if1 in
@@ -69,8 +75,14 @@ of-four-spec =
     let at-same5 = c .before .before .before .before .same5 in
     let at-if6 = c .if6 in
     let at-same6 = c .before .same6 in
-    rw (sym (at-same .ensures) ∙ at-if1 .left, sym (at-same2 .ensures) ∙ at-if2 .left, sym (at-same3 .ensures) ∙ at-if3 .left,
-    sym (at-same4 .ensures) ∙ at-if4 .left, sym (at-same5 .ensures) ∙ at-if5 .left, sym (at-same6 .ensures) ∙ at-if6 .taken) refl)
+    rw (
+      sym (at-same .ensures) ∙ at-if1 .left,
+      sym (at-same2 .ensures) ∙ at-if2 .left,
+      sym (at-same3 .ensures) ∙ at-if3 .left,
+      sym (at-same4 .ensures) ∙ at-if4 .left,
+      sym (at-same5 .ensures) ∙ at-if5 .left,
+      sym (at-same6 .ensures) ∙ at-if6 .taken,
+    ) refl)
     (λ c.
     let at-if1 = c .before .before .before .before .before .before .before .before .before .before .before .before .before .before .before .if1 in
     let at-same = c .before .before .before .before .before .before .before .before .before .before .before .before .before .before .before .before .same in
@@ -84,5 +96,11 @@ of-four-spec =
     let at-same5 = c .before .before .before .before .same5 in
     let at-if6 = c .if6 in
     let at-same6 = c .before .same6 in
-    rw (sym (at-same .ensures) ∙ at-if1 .left, sym (at-same2 .ensures) ∙ at-if2 .left, sym (at-same3 .ensures) ∙ at-if3 .left,
-    sym (at-same4 .ensures) ∙ at-if4 .left, sym (at-same5 .ensures) ∙ at-if5 .left, sym (at-same6 .ensures) ∙ at-if6 .left) refl))
+    rw (
+      sym (at-same .ensures) ∙ at-if1 .left,
+      sym (at-same2 .ensures) ∙ at-if2 .left,
+      sym (at-same3 .ensures) ∙ at-if3 .left,
+      sym (at-same4 .ensures) ∙ at-if4 .left,
+      sym (at-same5 .ensures) ∙ at-if5 .left,
+      sym (at-same6 .ensures) ∙ at-if6 .left,
+    ) refl))
