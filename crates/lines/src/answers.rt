@@ -12,6 +12,7 @@ use line_words::read_numbers;
 use line_words::smaller;
 use line_words::words_of;
 use receiver::RECORD;
+use row_lines::rows;
 use scrap_lines::is_scrap;
 use scrap_lines::scrap;
 use words::put_bad;
@@ -113,6 +114,7 @@ fn run(
     match c {
         Command::Ask => ask(d, f[0], out, at),
         Command::Plan => plan(d, f[0], f[1], out, at),
+        Command::Rows => rows(d, f[0], out, at),
         Command::Frame | Command::Request | Command::Response => with_bytes(
             d,
             c,
