@@ -1,5 +1,5 @@
 /* A small driver of a three-phase box: two zones join, set limits of power and of current by frames that come in scraps, and the
-   plan says what will change. */
+   plan says what will change, as numbers and as records. */
 #include "cekarum.h"
 #include <stdio.h>
 
@@ -101,6 +101,26 @@ static void print_plan(uint64_t *device, uint64_t time)
         printf("%lld%c", (long long)rows[i], i % ROW == ROW - 1 ? '\n' : ' ');
 }
 
+static void print_row(const struct cekarum_row *row)
+{
+    printf("second %llu: state %lld\n", (unsigned long long)row->second, (long long)row->state);
+    printf("  limits %lld %lld mW, setpoints %lld %lld mW\n", (long long)row->limit_consumption, (long long)row->limit_production,
+           (long long)row->setpoint_consumption, (long long)row->setpoint_production);
+    printf("  phase A %lld %lld mA, B %lld %lld mA, C %lld %lld mA\n", (long long)row->a_consumption, (long long)row->a_production,
+           (long long)row->b_consumption, (long long)row->b_production, (long long)row->c_consumption, (long long)row->c_production);
+}
+
+/* The same rows as records at the second of the last call: a debugger that stops here shows rows[0] to rows[plan.length - 1] by
+   name, and the device is as it was. */
+static void print_rows(const uint64_t *device)
+{
+    struct cekarum_row rows[CEKARUM_ROWS_MAX];
+    struct cekarum_written plan = cekarum_plain_plan(device, rows, CEKARUM_ROWS_MAX);
+    say("plain plan", plan.number);
+    for (uint64_t i = 0; i < plan.length; i++)
+        print_row(&rows[i]);
+}
+
 int main(void)
 {
     static uint64_t device[CEKARUM_WORDS];
@@ -120,5 +140,6 @@ int main(void)
     stream(device, &nine, 100, sent, n);
     print_currents(device, 110);
     print_plan(device, 110);
+    print_rows(device);
     return 0;
 }

@@ -55,6 +55,7 @@ uint64_t cekarum_raw_report(const uint64_t *inputs, const uint16_t *attributes, 
 #define CEKARUM_RESPONSE_MAX 49  /* bytes of the longest response frame */
 #define CEKARUM_REQUEST_MAX 62   /* bytes of the longest request frame that is written */
 #define CEKARUM_PLAN_MAX 960     /* numbers of the longest plan: 80 rows of 12 */
+#define CEKARUM_ROWS_MAX 80      /* records of the longest plan */
 #define CEKARUM_REPORT_MAX 96    /* numbers of the longest report: 48 pairs */
 
 /* The last second the clock can show. */
@@ -196,6 +197,35 @@ static inline struct cekarum_written cekarum_plan(uint64_t *device, uint64_t tim
 {
     struct cekarum_written plan;
     plan.number = cekarum_raw_plan(device, time, rows, room, &plan.length);
+    return plan;
+}
+
+/* A row of the plan as a record, so that a debugger shows names: the second, the control state from then on, then limits and
+ * setpoints in mW and current limits in mA by phase; -1 is absent. */
+struct cekarum_row {
+    uint64_t second;
+    int64_t state;
+    int64_t limit_consumption;
+    int64_t limit_production;
+    int64_t setpoint_consumption;
+    int64_t setpoint_production;
+    int64_t a_consumption;
+    int64_t a_production;
+    int64_t b_consumption;
+    int64_t b_production;
+    int64_t c_consumption;
+    int64_t c_production;
+};
+
+/* The export beneath cekarum_plain_plan; nothing else calls it. */
+uint64_t cekarum_raw_plain_plan(const uint64_t *device, struct cekarum_row *rows, uint64_t room, uint64_t *count);
+
+/* The rows of cekarum_plan at the device's last second, made the slow way for a test bench: takes no time and moves nothing.
+ * room and length are in records; CEKARUM_ROWS_MAX is always enough. Refuses: 15. */
+static inline struct cekarum_written cekarum_plain_plan(const uint64_t *device, struct cekarum_row *rows, uint64_t room)
+{
+    struct cekarum_written plan;
+    plan.number = cekarum_raw_plain_plan(device, rows, room, &plan.length);
     return plan;
 }
 

@@ -12,7 +12,7 @@
 #define U(n) ((unsigned long long)(n))
 #define S(n) ((long long)(n))
 
-enum { OUT = 128, ROWS = PLAIN_ROW * PLAIN_ROWS + 16, PAIRS = 2 * PLAIN_PAIRS + 16, CALLS = 16, NUMBERS = 19 };
+enum { OUT = 128, ROWS = PLAIN_ROW * PLAIN_ROWS + 16, PAIRS = 2 * PLAIN_PAIRS + 16, CALLS = 17, NUMBERS = 19 };
 
 enum call {
     START,
@@ -25,6 +25,7 @@ enum call {
     ASK,
     FRAME,
     PLAN,
+    PLAIN_PLAN,
     READ_REQUEST,
     WRITE_REQUEST,
     READ_RESPONSE,
@@ -44,6 +45,7 @@ static const char *const call_names[CALLS] = {
     [ASK] = "ask",
     [FRAME] = "frame",
     [PLAN] = "plan",
+    [PLAIN_PLAN] = "plain_plan",
     [READ_REQUEST] = "read_request",
     [WRITE_REQUEST] = "write_request",
     [READ_RESPONSE] = "read_response",
@@ -60,6 +62,7 @@ struct side {
     int64_t value[PLAIN_VALUES];
     uint8_t out[OUT];
     int64_t rows[ROWS];
+    struct plain_row records[PLAIN_RECORDS];
     uint64_t pairs[PAIRS];
     struct plain_request request;
     struct plain_response response;
@@ -121,6 +124,9 @@ static uint64_t call_one(struct side *s, const struct ask *q)
     case PLAN:
         w = k->plan(s->device, q->time, s->rows, q->room);
         break;
+    case PLAIN_PLAN:
+        w = k->records(s->device, s->records, q->room);
+        break;
     case READ_REQUEST:
         return k->read_request(q->in.at, q->in.n, &s->request);
     case WRITE_REQUEST:
@@ -181,6 +187,8 @@ static const char *difference(const struct side *x, const struct side *y, const 
         return "output bytes";
     if (memcmp(x->rows, y->rows, sizeof x->rows) != 0)
         return "rows";
+    if (memcmp(x->records, y->records, sizeof x->records) != 0)
+        return "records";
     if (memcmp(x->pairs, y->pairs, sizeof x->pairs) != 0)
         return "pairs";
     if (q->call == RECEIVE && (x->taken != y->taken || memcmp(&x->receiver, &y->receiver, sizeof x->receiver) != 0))
@@ -218,18 +226,18 @@ static void complain(const char *what)
         printf("  %s: number %llu, length %llu, values", s->k->name, U(s->number), U(s->length));
         for (unsigned j = 0; j < PLAIN_VALUES; j++)
             printf(" %lld%s", S(s->value[j]), j == PLAIN_VALUES - 1 ? "\n" : "");
-        if (s->length > 0 && s->length <= OUT && ask.call != PLAN && ask.call != REPORT)
+        if (s->length > 0 && s->length <= OUT && ask.call != PLAN && ask.call != PLAIN_PLAN && ask.call != REPORT)
             print_bytes("out", s->out, s->length);
     }
 }
 
-/* Beside an answer: no number outside the table, and a refusal leaves the device as it was. */
+/* Beside an answer: no number outside the table, and a refusal and the plain plan leave the device as it was. */
 static void judge_one(const struct side *s)
 {
     if (s->number >= NUMBERS)
         complain("a number outside the table");
-    if (s->number != 0 && ask.call != START && memcmp(s->device, s->before, s->k->size) != 0)
-        complain("a refusal changed the device");
+    if (((s->number != 0 && ask.call != START) || ask.call == PLAIN_PLAN) && memcmp(s->device, s->before, s->k->size) != 0)
+        complain("the device changed");
 }
 
 static void tally(const struct side *s)
@@ -258,6 +266,8 @@ static uint64_t both(void)
         memset(s->out, fill, sizeof s->out);
         if (ask.call == PLAN)
             memset(s->rows, fill, sizeof s->rows);
+        if (ask.call == PLAIN_PLAN)
+            memset(s->records, fill, sizeof s->records);
         if (ask.call == REPORT)
             memset(s->pairs, fill, sizeof s->pairs);
         memcpy(s->before, s->device, s->k->size);
@@ -322,9 +332,9 @@ static size_t some_room(size_t enough)
 
 static void mix_call(void)
 {
-    static const enum call often[] = {FRAME, FRAME, FRAME, FRAME, FRAME, FRAME, FRAME,    FRAME, FRAME, FRAME, PLAN, PLAN,
-                                      ASK,   ASK,   JOIN,  JOIN,  JOIN,  JOIN,  LEAVE,    LOST,  BACK,  BACK,  BACK, OVERRIDE,
-                                      CLEAR, CLEAR, CLEAR};
+    static const enum call often[] = {FRAME, FRAME, FRAME, FRAME, FRAME, FRAME, FRAME, FRAME,    FRAME, FRAME,
+                                      PLAN,  PLAN,  ASK,   ASK,   JOIN,  JOIN,  JOIN,  JOIN,     LEAVE, LOST,
+                                      BACK,  BACK,  BACK,  CLEAR, CLEAR, CLEAR, OVERRIDE, PLAIN_PLAN};
     ask.call = mix_chance(900) ? often[mix_below(sizeof often / sizeof *often)] : READ_REQUEST + mix_below(5);
     ask.zone = some_zone();
     ask.time = some_time();
@@ -339,6 +349,9 @@ static void mix_call(void)
         break;
     case PLAN:
         ask.room = mix_chance(200) ? mix_below(80) : some_room(ROWS);
+        break;
+    case PLAIN_PLAN:
+        ask.room = mix_chance(200) ? mix_below(4) : some_room(PLAIN_RECORDS);
         break;
     case FRAME:
     case READ_REQUEST:
@@ -476,13 +489,28 @@ static void set_frame(unsigned quantity, uint64_t value, uint64_t lasts)
     ask.in.n = first_kernel.write_request(&r, ask.in.at, MIX_MOST).length;
 }
 
+static bool same_rows(const struct side *s, uint64_t rows)
+{
+    for (uint64_t i = 0; i < rows; i++)
+        if ((uint64_t)s->rows[PLAIN_ROW * i] != s->records[i].second ||
+            memcmp(&s->rows[PLAIN_ROW * i + 1], s->records[i].value, sizeof s->records[i].value) != 0)
+            return false;
+    return true;
+}
+
+/* Both planners at one second, over random room: their rows are the same. */
 static void crowd_plans(void)
 {
     for (unsigned i = 0; i < 6; i++) {
         ask.call = PLAN;
         ask.time = clock_now + mix_below(2);
         ask.room = i == 5 ? PLAIN_ROW * PLAIN_ROWS : mix_below(PLAIN_ROW * PLAIN_ROWS + 2);
-        both();
+        bool planned = both() == 0;
+        uint64_t rows = sides[0].length;
+        ask.call = PLAIN_PLAN;
+        ask.room = i == 5 ? PLAIN_ROWS : mix_below(PLAIN_RECORDS + 1);
+        if (both() == 0 && planned && (sides[0].length != rows || !same_rows(&sides[0], rows)))
+            complain("not the first planner's rows");
     }
 }
 

@@ -194,6 +194,23 @@ static bool do_plan(char **w)
     return true;
 }
 
+static bool do_rows(char **w)
+{
+    static struct plain_row rows[PLAIN_ROWS];
+    size_t room;
+    if (!room_of(w[1], PLAIN_ROWS, &room))
+        return false;
+    struct plain_written r = plain_plain_plan(&device, rows, room);
+    printf("%llu", (unsigned long long)r.number);
+    for (size_t i = 0; i < r.length; i++) {
+        printf(" %llu", (unsigned long long)rows[i].second);
+        for (unsigned j = 0; j < PLAIN_VALUES; j++)
+            printf(" %lld", (long long)rows[i].value[j]);
+    }
+    putchar('\n');
+    return true;
+}
+
 static bool do_frame(char **w)
 {
     uint8_t out[PLAIN_FRAME_MAX];
@@ -281,7 +298,7 @@ static const struct {
     {"lost", 3, do_zone},      {"back", 3, do_zone},         {"override", 4, do_override},
     {"clear", 2, do_clear},    {"ask", 2, do_ask},           {"plan", 3, do_plan},
     {"frame", 5, do_frame},    {"request", 2, do_request},   {"response", 3, do_response},
-    {"conf", 11, do_conf},     {"scrap", 4, do_scrap},
+    {"conf", 11, do_conf},     {"scrap", 4, do_scrap},       {"rows", 2, do_rows},
 };
 
 /* Words parted by one space: their count, or -1 where there are too many. */

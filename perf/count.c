@@ -12,11 +12,13 @@
 static uint64_t device[CEKARUM_WORDS];
 #define DEVICE device
 static struct cekarum_receiver receiver;
+static struct cekarum_row records[CEKARUM_ROWS_MAX];
 #else
 #define CALL(name) plain_##name
 static struct plain device;
 #define DEVICE &device
 static struct plain_receiver receiver;
+static struct plain_row records[PLAIN_ROWS];
 #endif
 
 static uint8_t in[PLAIN_FRAME_MAX], out[PLAIN_FRAME_MAX], room[PLAIN_FRAME_MAX];
@@ -296,6 +298,12 @@ static void plans(uint64_t times)
         kept = CALL(plan)(DEVICE, NOW, rows, PLAIN_ROW * PLAIN_ROWS).number;
 }
 
+static void plain_plans(uint64_t times)
+{
+    for (uint64_t i = 0; i < times; i++)
+        kept = CALL(plain_plan)(DEVICE, records, PLAIN_ROWS).number;
+}
+
 static void joins_and_leaves(uint64_t times)
 {
     for (uint64_t i = 0; i < times; i++) {
@@ -396,6 +404,7 @@ static const struct {
     {"plan8", "plan, 8 rows", 0, rows_8, plans},
     {"plan80", "plan, 80 rows", 0, rows_all, plans},
     {"planlost", "plan, 57 rows, all links lost", 0, rows_lost, plans},
+    {"plain80", "plain plan, 80 rows", 0, rows_all, plain_plans},
     {"join0", "join and leave, alone", 0, no_zone, joins_and_leaves},
     {"join7", "join and leave, 7 others", 0, seven_zones, joins_and_leaves},
     {"lost", "lost and back, 2 zones", 0, two_zones, losts_and_backs},

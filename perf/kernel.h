@@ -3,6 +3,9 @@
 #define KERNEL_H
 #include "plain.h"
 
+/* Records that are behind rows in records, of which room are lent. */
+enum { PLAIN_RECORDS = PLAIN_ROWS + 4 };
+
 struct kernel {
     const char *name;
     size_t size; /* bytes of a device */
@@ -16,6 +19,7 @@ struct kernel {
     struct plain_answer (*ask)(void *d, uint64_t time);
     struct plain_written (*frame)(void *d, uint64_t zone, uint64_t time, const uint8_t *in, size_t n, uint8_t *out, size_t room);
     struct plain_written (*plan)(void *d, uint64_t time, int64_t *rows, size_t room);
+    struct plain_written (*records)(const void *d, struct plain_row *rows, size_t room);
     uint64_t (*read_request)(const uint8_t *in, size_t n, struct plain_request *r);
     struct plain_written (*write_request)(const struct plain_request *r, uint8_t *out, size_t room);
     uint64_t (*read_response)(uint64_t command, const uint8_t *in, size_t n, struct plain_response *r);

@@ -29,6 +29,11 @@ static struct plain_written plan(void *d, uint64_t time, int64_t *rows, size_t r
     return plain_plan(d, time, rows, room);
 }
 
+static struct plain_written records(const void *d, struct plain_row *rows, size_t room)
+{
+    return plain_plain_plan(d, rows, room);
+}
+
 const struct kernel KERNEL = {
     .name = KERNEL_NAME,
     .size = sizeof(struct plain),
@@ -42,6 +47,7 @@ const struct kernel KERNEL = {
     .ask = ask,
     .frame = frame,
     .plan = plan,
+    .records = records,
     .read_request = plain_read_request,
     .write_request = plain_write_request,
     .read_response = plain_read_response,

@@ -55,6 +55,44 @@ static struct plain_written plan(void *d, uint64_t time, int64_t *rows, size_t r
     return written(cekarum_plan(d, time, rows, room));
 }
 
+/* Field by field, so that a field under another's name shows. */
+static struct cekarum_row named(const struct plain_row *r)
+{
+    const int64_t *v = r->value;
+    return (struct cekarum_row){.second = r->second,
+                                .state = v[0],
+                                .limit_consumption = v[1],
+                                .limit_production = v[2],
+                                .setpoint_consumption = v[3],
+                                .setpoint_production = v[4],
+                                .a_consumption = v[5],
+                                .a_production = v[6],
+                                .b_consumption = v[7],
+                                .b_production = v[8],
+                                .c_consumption = v[9],
+                                .c_production = v[10]};
+}
+
+static struct plain_row numbered(const struct cekarum_row *r)
+{
+    return (struct plain_row){r->second,
+                              {r->state, r->limit_consumption, r->limit_production, r->setpoint_consumption, r->setpoint_production,
+                               r->a_consumption, r->a_production, r->b_consumption, r->b_production, r->c_consumption,
+                               r->c_production}};
+}
+
+/* The records past the room are lent too, and must come back as they were. */
+static struct plain_written records(const void *d, struct plain_row *rows, size_t room)
+{
+    struct cekarum_row lent[PLAIN_RECORDS];
+    for (size_t i = 0; i < PLAIN_RECORDS; i++)
+        lent[i] = named(&rows[i]);
+    struct plain_written w = written(cekarum_plain_plan(d, lent, room));
+    for (size_t i = 0; i < PLAIN_RECORDS; i++)
+        rows[i] = numbered(&lent[i]);
+    return w;
+}
+
 static uint64_t read_request(const uint8_t *in, size_t n, struct plain_request *r)
 {
     struct cekarum_request_read got = cekarum_read_request(in, n);
@@ -148,6 +186,7 @@ const struct kernel second_kernel = {
     .ask = ask,
     .frame = frame,
     .plan = plan,
+    .records = records,
     .read_request = read_request,
     .write_request = write_request,
     .read_response = read_response,

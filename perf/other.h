@@ -11,6 +11,7 @@
 #define plain_ask other_ask
 #define plain_frame other_frame
 #define plain_plan other_plan
+#define plain_plain_plan other_plain_plan
 #define plain_read_request other_read_request
 #define plain_write_request other_write_request
 #define plain_read_response other_read_response

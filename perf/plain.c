@@ -857,6 +857,48 @@ struct plain_written plain_plan(struct plain *d, uint64_t time, int64_t *rows, s
     return (struct plain_written){0, count};
 }
 
+/* The nearest second after one at which a held value or the failsafe ends, past the last where there is none: every end is looked
+   at, whether it counts or not. */
+static uint64_t next_end(const struct plain *d, uint64_t after)
+{
+    uint64_t next = FOREVER, end = d->since + d->settings.duration;
+    for (const struct plain_zone *z = d->zones; z < d->zones + PLAIN_ZONES; z++)
+        for (unsigned i = 0; z->id != 0 && i < PLAIN_HELDS; i++)
+            if (z->held[i].until > after)
+                next = least(next, z->held[i].until);
+    return end > after ? least(next, end) : next;
+}
+
+/* The slow way to the row after a second: all values at each end, and at the second before it. */
+static bool next_row(const struct plain *d, uint64_t after, struct plain_row *row)
+{
+    int64_t before[PLAIN_VALUES];
+    for (uint64_t at = next_end(d, after); at <= PLAIN_LAST_SECOND; at = next_end(d, at)) {
+        row->second = at;
+        values(d, at, row->value);
+        values(d, at - 1, before);
+        if (!same(before, row->value))
+            return true;
+    }
+    return false;
+}
+
+struct plain_written plain_plain_plan(const struct plain *d, struct plain_row *rows, size_t room)
+{
+    struct plain_row row = {.second = d->clock};
+    size_t count = 0;
+    while (next_row(d, row.second, &row))
+        count++;
+    if (count > room)
+        return (struct plain_written){15, 0};
+    row.second = d->clock;
+    for (size_t i = 0; i < count; i++) {
+        next_row(d, row.second, &row);
+        rows[i] = row;
+    }
+    return (struct plain_written){0, count};
+}
+
 /* ---- commands ---- */
 
 static bool names(const struct plain_request *r, unsigned direction)

@@ -103,6 +103,15 @@ struct plain_written plain_frame(struct plain *d, uint64_t zone, uint64_t time, 
                                  size_t room);
 struct plain_written plain_plan(struct plain *d, uint64_t time, int64_t *rows, size_t room);
 
+/* A row of a plan as a record; value: as an answer's. */
+struct plain_row {
+    uint64_t second;
+    int64_t value[PLAIN_VALUES];
+};
+
+/* The plan made the slow way at the device's own second; room in records. */
+struct plain_written plain_plain_plan(const struct plain *d, struct plain_row *rows, size_t room);
+
 uint64_t plain_read_request(const uint8_t *in, size_t n, struct plain_request *r);
 struct plain_written plain_write_request(const struct plain_request *r, uint8_t *out, size_t room);
 uint64_t plain_read_response(uint64_t command, const uint8_t *in, size_t n, struct plain_response *r);
