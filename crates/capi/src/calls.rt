@@ -9,7 +9,8 @@ use kernel::VALUES;
 ghost use mathlib.Core.Path.{_≡_};
 ghost use mathlib.Core.Bool.{true, false};
 ghost use lib.ListN.{length};
-ghost use Rattle.kernel.specs.Door.{startNumber, startAfter, joinNumber, joinAfter, leaveNumber, leaveAfter, linkNumber, linkAfter, overrideNumber, overrideAfter, clearNumber, clearAfter, askAnswer, askAfter, planAnswer, planAfter, planSlice, plainAnswer, plainSlice, reportOf, pairsAfter};
+ghost use Rattle.kernel.specs.Door.{startNumber, startAfter, joinNumber, joinAfter, leaveNumber, leaveAfter, linkNumber, linkAfter, overrideNumber, overrideAfter, clearNumber, clearAfter};
+ghost use Rattle.kernel.specs.Door.{askAnswer, askAfter, planAnswer, planAfter, planSlice, plainAnswer, plainSlice, reportOf, pairsAfter};
 ghost use Rattle.capi.specs.Words.{settingsOf, inputsOf};
 
 #[no_mangle]

@@ -1,6 +1,6 @@
 -- The call is the kernel's; its answer goes out as a number and a count. A walk of its MIR, by hand, since it takes a slice of records: the slice goes to the call at its own lifetime, share and name,
--- and the borrow of the count is opened for the one store. Nothing here names a field of the record. Assumes nothing.
-use mathlib.Core.Path.{_≡_, refl, ap, subst}
+-- for good, and the borrow of the count is opened for the one store. Nothing here names a field of the record. Assumes nothing.
+use mathlib.Core.Path.{_≡_, refl, ap}
 use Prim.Native.Nat.{ℕ, _<_, _^_}
 use mathlib.Core.List.{List, [], _∷_}
 use lib.ListN.{length}
@@ -14,11 +14,12 @@ use base.Fml.{Lft, GName, Share, Fml, ftrue, fat, flft, fobs, fbor}
 use prog.Memory.{Memory}
 use prog.Routine.{Routine}
 use prog.Wp.{Heap, Calls, Loops, WpFn, Tables}
-use ghost.Atoms.{Atoms, sem}
+use ghost.Atoms.{Atoms}
 use contract.Monad.{Fun, fact, factI}
 use contract.Running.{givenOf, tables, tablesOf}
 use sound.WpLaws.{FmC, fmOf, WpFn-mono}
-use types.Kit.{Given, Item, ‵, raw, some, later, _⊛_, ⋆, _$_, _∵_, !, qed, by, move, keep, drop, use1, use3, split, join, pick, rewrite, fsplit, fsplit3, fjoin, fjoin3, feqL, feqI, fltL, fltI, suffices, frame, await, done}
+use types.Kit.{Given, Item, ‵, raw, some, later, _⊛_, ⋆, _$_, _∵_, !, qed, by}
+use types.Kit.{move, keep, drop, use1, use3, split, join, pick, rewrite, fsplit, fsplit3, fjoin, fjoin3, feqL, feqI, fltL, fltI, suffices, frame, await, done}
 use types.Part.{agg, whole, sub, look-in}
 use types.Run.{look, store, init, forget, stop, hop, fld, from, load, addr, of-opd, and-then, no-more, assigns, land, returns, enter, alloc1, alloc0, params1, pass1, pass0, free1, free0}
 use types.SemTy.{Body}
