@@ -1,4 +1,4 @@
-// One question asked of what a command says of each quantity: one way for them all.
+// One question asked of what a command says: of all quantities only those that its own fields are of can answer it.
 use crate::obey::top_of;
 use field_rules::field_above;
 use field_rules::field_names;

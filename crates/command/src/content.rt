@@ -1,4 +1,4 @@
-// What is asked of a command itself, whatever zone it comes from: its tests go over the quantities, not over the commands.
+// What is asked of a command itself, whatever zone it comes from: one test for each number.
 use crate::asked::Question;
 use crate::asked::some_is;
 use crate::said::Kind;

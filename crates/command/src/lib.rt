@@ -1,5 +1,5 @@
 // A command by itself, over values alone: what it says of each quantity, what is asked of it, what it leaves held, and its answer.
-mod asked; // asked.rt: one question asked of every quantity
+mod asked; // asked.rt: one question asked of every field
 mod content; // content.rt: the tests of a command's content
 mod obey; // obey.rt: what a command leaves held by its zone
 mod outcomes; // outcomes.rt: the result that its response has

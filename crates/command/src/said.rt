@@ -1,4 +1,4 @@
-// A command seen by quantity: what it says of each, and its kind, aim and duration. All else that is asked of a command goes by these.
+// A command seen by quantity: what it says of each, and its kind, aim and duration.
 use field_rules::aim_field;
 use field_rules::limit_field;
 use field_rules::phase_field;

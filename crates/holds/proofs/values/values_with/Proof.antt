@@ -35,5 +35,5 @@ values-with-spec =
     let at-link-row-with = c .before .before .before .before .link-row-with in
     let at-if1 = c .before .before .before .if1 in
     let down : (anyUp (s .zones) ≡ false) × (anyJoined (s .zones) ≡ true) =
-        down-else s (rw (← at-link-row-with .ensures) (at-if1 .left)) (rw (← at-link-row-with .ensures) (c .before .if2 .left)) in
+    down-else s (rw (← at-link-row-with .ensures) (at-if1 .left)) (rw (← at-link-row-with .ensures) (c .before .if2 .left)) in
     c .values-down .ensures (λ q. winner (at-args .t) q (s .zones)) (c .before .before .lows-with .ensures) ∙ values-down s (at-args .t) (down .0) (down .1)))
