@@ -15,7 +15,8 @@ use Rattle.store.specs.Sizes.{most}
 use Rattle.store.specs.Zones.{upTo, seatOf, idOf, rankOf, freeZone, isJoined, heldOf}
 use Rattle.holds.specs.Holds.{Claim, noClaim, claimOf, goesBefore, better, winner}
 use Rattle.holds.specs.Dues.{zoneDues, heldDues, nearer}
-use Rattle.holds.specs.Pass.{lesser, takes, numberOf, placeOf, turns, lowStep, leadStep, lowsWith, leadsWith, Bounded, Stands, LowsMet, LeadsMet, Adds}
+use Rattle.table_rules.specs.Leaves.{lesser}
+use Rattle.holds.specs.Pass.{takes, numberOf, placeOf, turns, lowStep, leadStep, lowsWith, leadsWith, Bounded, Stands, LowsMet, LeadsMet, Adds}
 use Rattle.store.specs.declared.Held.{Held}
 use Rattle.store.specs.declared.Zone.{Zone}
 use Rattle.holds.specs.declared.tops.Lows.{Lows}

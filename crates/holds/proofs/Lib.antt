@@ -2,7 +2,6 @@
 pub mod Since
 pub mod LinkRow
 pub mod Placed
-pub mod Ends
 pub mod Places
 pub mod Claims
 pub mod Shows

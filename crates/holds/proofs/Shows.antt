@@ -4,40 +4,33 @@ use mathlib.Core.Bool.{Bool, true, false, cond, not, _&&_, _||_}
 use mathlib.Core.Path.{_≡_, refl, sym, ap, _∙_}
 use mathlib.Core.List.{List, [], _∷_, foldl, foldl-append}
 use native.Mathlib.Omega.{arith}
-use native.Mathlib.Decide.{decLt, ℕ-discrete}
+use native.Mathlib.Decide.{decLt}
 use native.Mathlib.Numerals.{add-one}
-use borrow.Author.Tests.{le-leb, lt-ltb, le-ltb, ltb-true, ltb-false}
+use borrow.Author.Tests.{lt-ltb, le-ltb, ltb-true, ltb-false}
 use Rattle.store.proofs.Runs.{upTo-list, upTo-cong}
 use lib.Dec.{ltb, eqb}
 use lib.IntN.{ℤ, pos, negsuc}
 use lib.ListN.{length, getD, set, length-set}
 use lib.Seq.{getD-set-same, getD-set-other}
-use lib.Signed.{leZ, nonNeg}
+use lib.Signed.{nonNeg}
 use Rattle.messages.specs.Numbers.{AUTONOMOUS, CONTROLLED, LIMITED, FAILSAFE, OVERRIDE}
 use Rattle.messages.specs.declared.Amount.{Amount}
 use Rattle.messages.specs.declared.Amount.the-variants.{Absent, Is}
-use Rattle.quantities.specs.Quantities.{helds, isLimit, isSetpoint, lowAt, leadAt, directionOf, supports}
+use Rattle.quantities.specs.Quantities.{helds, isLimit, isSetpoint, directionOf, supports}
 use Rattle.store.specs.Sizes.{most, end, valueEnd}
 use Rattle.store.specs.Zones.{upTo, anyJoined, anyUp}
 use Rattle.holds.specs.Links.{linkRow}
 use Rattle.holds.specs.Holds.{Claim, winner, amountOf, Situation, inFailsafe, smallestWith, failsafeValue, valueAt, present, stateAt, shown, valuesAt}
 use Rattle.holds.specs.Dues.{lowDues, leadDues, dues, nearer, nearest}
-use Rattle.holds.specs.Pass.{lesser, numberOf, LowsMet, LeadsMet, topOf, shownBelow, numberIn, shownIn, Filled, stateUp, stateDown, valuesUp, valuesNone, safeNumber, shownSafe, valuesDown}
+use Rattle.holds.specs.Pass.{numberOf, LowsMet, LeadsMet, valuesUp, valuesNone, safeNumber, shownSafe, valuesDown}
+use Rattle.table_rules.specs.Leaves.{lesser, topOf, shownBelow, numberIn, shownIn, Filled, stateUp, stateDown}
 use Rattle.store.specs.declared.Settings.{Settings}
 use Rattle.holds.specs.declared.tops.Lows.{Lows}
 use Rattle.holds.specs.declared.tops.Leads.{Leads}
-use Rattle.store.proofs.Tests.{never}
-use Rattle.holds.proofs.Ends.{lesser-swap}
-use Rattle.holds.proofs.Places.{setpoint-place, setpoint-no-limit, no-setpoint, limit-at, current-at}
+use Rattle.table_rules.proofs.Ends.{lesser-swap}
+use Rattle.holds.proofs.Places.{setpoint-place, no-setpoint, limit-at, current-at}
 
 -- an array filled behind its first place, which is stored last
-pub fill-more : (f : ℕ → ℤ) (v : List ℤ) (q : ℕ) (a : ℤ) → q + 1 < length v → Filled f v q → a ≡ f q → Filled f (set v (q + 1) a) (q + 1)
-fill-more f v q a h inv e k l =
-    elim (ℕ-discrete k q) [
-      | yes p ↦ rw p (getD-set-same v (q + 1) a (pos 0) h ∙ e)
-      | no p ↦ getD-set-other v (q + 1) (k + 1) a (pos 0) (λ x. p (omega arith)) ∙ inv k (omega arith)
-    ]
-
 pub filled : (n : ℕ) (f : ℕ → ℤ) (v : List ℤ) (a : ℤ) → length v ≡ 1 + n → Filled f v n → set v 0 a ≡ a ∷ upTo f n
 filled n f [] a e each = absurd (omega arith)
 filled n f (b ∷ v) a e each =
@@ -48,21 +41,6 @@ pub up-filled : (has o : ℕ) (low lead : List ℕ) (v : List ℤ) (st a b : ℤ
     → a ≡ getD v 1 (pos 0) → b ≡ getD v 2 (pos 0) → set v 0 st ≡ valuesUp has o low lead
 unfolding valuesUp
 up-filled has o low lead v st a b e fl p q r = filled helds (shownIn has low lead) v st e fl ∙ rw (p, q, r, fl 0 (omega arith), fl 1 (omega arith))
-
--- a bound for each direction: where it is not supported nothing lies below
-pub top-small : (has d : ℕ) → topOf has d ≤ valueEnd
-unfolding topOf
-top-small has d = go (supports has d)
-  where
-    go : (b : Bool) → cond b valueEnd 0 ≤ valueEnd
-    go true = omega arith
-    go false = omega arith
-
--- one bound for each direction, by its number
-pub top-at : (has m : ℕ) → m < 2 → getD (topOf has 0 ∷ topOf has 1 ∷ []) m 0 ≡ topOf has m
-top-at has zero h = refl
-top-at has (suc zero) h = refl
-top-at has (suc (suc m)) h = absurd (omega arith)
 
 below-shown : (has d v : ℕ) → shownBelow (topOf has d) v ≡ cond (supports has d) (shown (Is v)) (negsuc 0)
 unfolding shownBelow topOf shown
@@ -96,11 +74,6 @@ low-safe safe a h = go (a .there)
           | yes k ↦ rw (lt-ltb safe most k)
           | no k ↦ rw (le-ltb safe most (omega arith)) (omega arith)
         ]
-
--- a number at least 0
-pub is-natural : (z : ℤ) → leZ (pos 0) z ≡ nonNeg z
-is-natural (pos n) = le-leb 0 n (omega arith)
-is-natural (negsuc n) = refl
 
 -- what is present is what is not shown as absent
 present-shown : (a : Amount) → nonNeg (shown a) ≡ present a

@@ -1,14 +1,14 @@
 -- The seconds at which what holds can change, and the next of them.
 use Prim.Native.Nat.{ℕ, _+_}
-use mathlib.Core.Bool.{cond, _&&_}
+use mathlib.Core.Bool.{cond}
 use mathlib.Core.List.{List, [], _∷_, _++_, foldl}
-use lib.Dec.{ltb}
 use Rattle.quantities.specs.Quantities.{lows, leads, lowAt, leadAt}
 use Rattle.store.specs.Sizes.{end}
 use Rattle.store.specs.Zones.{upTo, heldOf, isJoined, anyJoined, anyUp}
 use Rattle.holds.specs.Holds.{Situation, valuesAt}
 use Rattle.store.specs.declared.Zone.{Zone}
 use Rattle.holds.specs.declared.View.{View}
+unfoldable pub use Rattle.table_rules.specs.Edges.{nearer}
 
 -- the seconds at which the quantities at 0, at 1, .. at (n - 1) of a joined zone end
 unfoldable pub zoneDues : (ℕ → ℕ) → ℕ → Zone → List ℕ
@@ -30,10 +30,6 @@ unfoldable pub dues : Situation → List ℕ
 dues s =
     cond (anyUp (s .zones)) (lowDues (s .zones) ++ leadDues (s .zones))
     (cond (anyJoined (s .zones)) ((s .since + s .settings .duration) ∷ lowDues (s .zones)) [])
-
--- the nearer of r and, where it lies past cur, e
-unfoldable pub nearer : ℕ → ℕ → ℕ → ℕ
-nearer cur r e = cond (ltb cur e && ltb e r) e r
 
 -- the next due second past cur, or the end where there is none before it
 unfoldable pub nearest : ℕ → List ℕ → ℕ

@@ -4,7 +4,7 @@ use mathlib.Core.Bool.{Bool, true, false, cond, not, _&&_, _||_}
 use mathlib.Core.List.{List, _∷_, foldl}
 use lib.Dec.{ltb, eqb}
 use lib.ListN.{getD, set}
-use lib.IntN.{ℤ, pos, negsuc}
+use lib.IntN.{ℤ, pos}
 use Rattle.messages.specs.Numbers.{AUTONOMOUS, CONTROLLED, LIMITED, FAILSAFE, OVERRIDE}
 use Rattle.messages.specs.declared.Amount.{Amount}
 use Rattle.messages.specs.declared.Amount.the-variants.{Absent, Is}
@@ -14,6 +14,7 @@ use Rattle.store.specs.Zones.{upTo, idOf, rankOf, isJoined, anyJoined, anyUp, h
 use Rattle.store.specs.Words.{settingsOf, zonesOf, sinceOf, overrideOf}
 use Rattle.store.specs.declared.Zone.{Zone}
 use Rattle.store.specs.declared.Settings.{Settings}
+unfoldable pub use Rattle.table_rules.specs.Edges.{shown}
 
 -- what a zone claims for a quantity at a second
 pub record Claim : Type 0 where
@@ -97,11 +98,6 @@ stateAt s t =
     (cond (not (eqb (s .override) 0)) OVERRIDE
     (cond (present (valueAt s t 0) || present (valueAt s t 1)) LIMITED
     (cond (anyUp (s .zones)) CONTROLLED AUTONOMOUS)))
-
--- "-1 is absent"; what is not present shows as absent
-unfoldable pub shown : Amount → ℤ
-shown Absent = negsuc 0
-shown (Is v) = cond (ltb v valueEnd) (pos v) (negsuc 0)
 
 -- the values of a plan's row: control state, then each quantity
 unfoldable pub valuesAt : Situation → ℕ → List ℤ

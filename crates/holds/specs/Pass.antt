@@ -1,15 +1,14 @@
 -- What the numbers of a pass over the zones stand for. The public contracts cite none of this: it parts the work of `tops` and `values`.
-use Prim.Native.Nat.{ℕ, zero, suc, _+_, _-_, _<_, _≤_}
-use mathlib.Core.Bool.{Bool, cond, not, _&&_, _||_}
+use Prim.Native.Nat.{ℕ, zero, suc, _+_, _<_, _≤_}
+use mathlib.Core.Bool.{Bool, cond, _&&_}
 use mathlib.Core.Path.{_≡_}
 use mathlib.Core.List.{List, _∷_}
-use lib.Dec.{ltb, leb, eqb}
+use lib.Dec.{ltb, leb}
 use lib.IntN.{ℤ, pos, negsuc}
 use lib.ListN.{length, getD, set}
-use lib.Signed.{nonNeg}
-use Rattle.messages.specs.Numbers.{AUTONOMOUS, CONTROLLED, LIMITED, FAILSAFE, OVERRIDE}
-use Rattle.quantities.specs.Quantities.{helds, limits, setpoints, lows, leads, isLimit, isSetpoint, lowAt, leadAt, directionOf, supports}
-use Rattle.store.specs.Sizes.{ids, most, valueEnd}
+use Rattle.messages.specs.Numbers.{FAILSAFE}
+use Rattle.quantities.specs.Quantities.{helds, lows, leads, isLimit, isSetpoint, lowAt, leadAt, directionOf}
+use Rattle.store.specs.Sizes.{ids, most}
 use Rattle.store.specs.Zones.{upTo, seatOf, heldOf}
 use Rattle.store.specs.Words.{settingsOf, sinceOf, overrideOf}
 use Rattle.holds.specs.Holds.{Claim, claimOf, better, smallestWith}
@@ -19,10 +18,7 @@ use Rattle.store.specs.declared.Zone.{Zone}
 use Rattle.store.specs.declared.Settings.{Settings}
 use Rattle.holds.specs.declared.tops.Lows.{Lows}
 use Rattle.holds.specs.declared.tops.Leads.{Leads}
-
--- the smaller of two numbers
-unfoldable pub lesser : ℕ → ℕ → ℕ
-lesser a b = cond (ltb a b) a b
+use Rattle.table_rules.specs.Leaves.{lesser, topOf, shownBelow, shownIn, stateUp, stateDown}
 
 -- a value that ends at `until` takes the place of one whose seat is no smaller
 unfoldable pub takes : ℕ → ℕ → ℕ → ℕ → Bool
@@ -86,31 +82,6 @@ pub record LeadsMet (g : Leads) (f : ℕ → Claim) : Type 0 where
 -- one zone more: the numbers r stand for the better of what g stood for and what the zone claims
 abbrev pub Adds : {A : Type 0} → (A → (ℕ → Claim) → Type 0) → ℕ → Zone → A → A → Type 0
 Adds P t x g r = (f : ℕ → Claim) → P g f → P r (λ q. better q (f q) (claimOf t q x))
-
--- the first number that is not shown in a direction: 0 where it is not supported
-unfoldable pub topOf : ℕ → ℕ → ℕ
-topOf has d = cond (supports has d) valueEnd 0
-
-unfoldable pub shownBelow : ℕ → ℕ → ℤ
-shownBelow top v = cond (ltb v top) (pos v) (negsuc 0)
-
--- the number met for quantity q
-unfoldable pub numberIn : List ℕ → List ℕ → ℕ → ℕ
-numberIn low lead q = cond (isLimit q) (getD low q 0) (cond (isSetpoint q) (getD lead (q - limits) 0) (getD low (q - setpoints) 0))
-
--- what is shown of quantity q, with the numbers met; a row has it behind its first place
-unfoldable pub shownIn : ℕ → List ℕ → List ℕ → ℕ → ℤ
-shownIn has low lead q = shownBelow (topOf has (directionOf q)) (numberIn low lead q)
-
-abbrev pub Filled : (ℕ → ℤ) → List ℤ → ℕ → Type 0
-Filled f v n = (k : ℕ) → k < n → getD v (k + 1) (pos 0) ≡ f k
-
--- the control state beside the limits a and b that are shown, some zone up; and with no value, no zone up
-unfoldable pub stateUp : ℕ → ℤ → ℤ → ℤ
-stateUp o a b = cond (not (eqb o 0)) (pos OVERRIDE) (cond (nonNeg a || nonNeg b) (pos LIMITED) (pos CONTROLLED))
-
-unfoldable pub stateDown : ℕ → ℤ
-stateDown o = cond (not (eqb o 0)) (pos OVERRIDE) (pos AUTONOMOUS)
 
 -- the values of the first row
 unfoldable pub valuesUp : ℕ → ℕ → List ℕ → List ℕ → List ℤ

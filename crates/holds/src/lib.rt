@@ -5,7 +5,7 @@ mod values;
 
 pub use links::since_without;
 use store::VALUES;
-pub use values::shown;
+pub use table_rules::shown;
 pub use values::values_at;
 pub use values::values_with;
 pub use values::view_at;

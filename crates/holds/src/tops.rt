@@ -14,6 +14,7 @@ use store::Zone;
 use store::held_at;
 use store::id_at;
 use store::seat_at;
+use table_rules::least;
 ghost use mathlib.Core.Path.{_≡_};
 ghost use Prim.Native.Nat.{_<_, _≤_};
 ghost use mathlib.Core.List.{foldl};
@@ -24,7 +25,7 @@ ghost use Rattle.store.specs.Zones.{freeZone};
 ghost use Rattle.store.specs.Words.{zonesOf};
 ghost use Rattle.holds.specs.Holds.{noClaim, winner};
 ghost use Rattle.holds.specs.Dues.{zoneDues, lowDues, leadDues, nearer};
-ghost use Rattle.holds.specs.Pass.{lesser, lowStep, leadStep, LowsMet, LeadsMet, Adds};
+ghost use Rattle.holds.specs.Pass.{lowStep, leadStep, LowsMet, LeadsMet, Adds};
 
 // The smallest value of each quantity that goes by it, met so far. MOST is none.
 pub struct Lows {
@@ -37,13 +38,6 @@ pub struct Leads {
     pub seat: [u64; LEADS],
     pub lead: [u64; LEADS],
     pub next: u64,
-}
-
-// The smaller of two numbers.
-pub fn least(a: u64, b: u64) -> u64
-    ensures { λ r. ⌜ r ≡ lesser a b ⌝ }
-{
-    if a < b { a } else { b }
 }
 
 // The k-th quantity that goes by the smallest: the setpoints stand between.

@@ -4,8 +4,9 @@ use native.Mathlib.Omega.{arith}
 use borrow.Author.Needs.{needs}
 use borrow.Author.Tests.{lt-ltb, le-ltb, le-leb, lt-leb}
 use Rattle.holds.specs.Dues.{nearer}
-use Rattle.holds.specs.Pass.{lesser, takes, leadStep}
-use Rattle.holds.proofs.Ends.{lesser-swap}
+use Rattle.table_rules.specs.Leaves.{lesser}
+use Rattle.holds.specs.Pass.{takes, leadStep}
+use Rattle.table_rules.proofs.Ends.{lesser-swap}
 use Rattle.holds.proofs.tops.lead_with.Statement.{statement}
 use Rattle.holds.proofs.tops.lead_with.Tie as tie
 

@@ -4,8 +4,9 @@ use native.Mathlib.Omega.{arith}
 use borrow.Author.Needs.{needs}
 use borrow.Author.Tests.{lt-ltb, le-ltb}
 use Rattle.holds.specs.Dues.{nearer}
-use Rattle.holds.specs.Pass.{lesser, lowStep}
-use Rattle.holds.proofs.Ends.{lesser-swap}
+use Rattle.table_rules.specs.Leaves.{lesser}
+use Rattle.holds.specs.Pass.{lowStep}
+use Rattle.table_rules.proofs.Ends.{lesser-swap}
 use Rattle.holds.proofs.tops.low_with.Statement.{statement}
 use Rattle.holds.proofs.tops.low_with.Tie as tie
 

@@ -2,7 +2,7 @@
 use Prim.Native.Nat.{ℕ}
 use mathlib.Core.Path.{_∙_, ap}
 use native.Mathlib.Omega.{arith}
-use Rattle.holds.specs.Pass.{lesser}
+use Rattle.table_rules.specs.Leaves.{lesser}
 use Rattle.holds.proofs.Shows.{low-safe}
 use Rattle.holds.proofs.values.safe_low.Statement.{statement}
 use Rattle.holds.proofs.values.safe_low.Tie as tie

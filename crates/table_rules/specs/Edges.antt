@@ -1,0 +1,17 @@
+-- What is shown of a value, and the nearer of two seconds.
+use Prim.Native.Nat.{ℕ}
+use mathlib.Core.Bool.{cond, _&&_}
+use lib.Dec.{ltb}
+use lib.IntN.{ℤ, pos, negsuc}
+use Rattle.messages.specs.declared.Amount.{Amount}
+use Rattle.messages.specs.declared.Amount.the-variants.{Absent, Is}
+use Rattle.store.specs.Sizes.{valueEnd}
+
+-- "-1 is absent"; a number past the largest value, which no history stores, shows as absent
+unfoldable pub shown : Amount → ℤ
+shown Absent = negsuc 0
+shown (Is v) = cond (ltb v valueEnd) (pos v) (negsuc 0)
+
+-- the nearer of r and, where it lies past cur, e
+unfoldable pub nearer : ℕ → ℕ → ℕ → ℕ
+nearer cur r e = cond (ltb cur e && ltb e r) e r

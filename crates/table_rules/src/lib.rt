@@ -1,0 +1,141 @@
+// The leaves of the table of links, over plain numbers: what is shown of a number, the row of all quantities, the control
+// state beside it, the end of the failsafe.
+use messages::Amount;
+use quantities::CURRENTS;
+use quantities::HELDS;
+use quantities::LEADS;
+use quantities::LIMITS;
+use quantities::LOWS;
+use quantities::SETPOINTS;
+use quantities::supports;
+use store::END;
+use store::VALUE_END;
+use store::VALUES;
+ghost use mathlib.Core.Path.{_≡_};
+ghost use Prim.Native.Nat.{_+_, _<_, _≤_};
+ghost use lib.Dec.{ltb};
+ghost use lib.ListN.{length};
+ghost use Rattle.quantities.specs.Quantities.{helds};
+ghost use Rattle.store.specs.Sizes.{end, valueEnd};
+ghost use Rattle.table_rules.specs.Edges.{shown, nearer};
+ghost use Rattle.table_rules.specs.Leaves.{lesser, topOf, shownBelow, numberIn, shownIn, Filled, stateUp, stateDown};
+
+// The smaller of two numbers.
+pub fn least(a: u64, b: u64) -> u64
+    ensures { λ r. ⌜ r ≡ lesser a b ⌝ }
+{
+    if a < b { a } else { b }
+}
+
+// A value at the edges: -1 where it is absent, or too large to be one.
+pub fn shown(a: Amount) -> i64
+    ensures { λ r. ⌜ r ≡ shown a ⌝ }
+{
+    match a {
+        Amount::Absent => -1,
+        Amount::Is(v) => if v < VALUE_END { v as i64 } else { -1 },
+    }
+}
+
+// The first number that is not shown in a direction: 0 where it is not supported.
+fn top_of(has: u64, d: u64) -> u64
+    ensures { λ r. ⌜ r ≡ topOf has d ⌝ }
+{
+    if supports(has, d) {
+        return VALUE_END;
+    }
+    0
+}
+
+fn shown_below(top: u64, v: u64) -> i64
+    requires { ⌜ top ≤ valueEnd ⌝ }
+    ensures { λ r. ⌜ r ≡ shownBelow top v ⌝ }
+{
+    if v < top { v as i64 } else { -1 }
+}
+
+// What the passes have met for quantity q.
+fn number_of(low: [u64; LOWS], lead: [u64; LEADS], q: usize) -> u64
+    requires { ⌜ q < helds ⌝ }
+    ensures { λ r. ⌜ r ≡ numberIn low lead q ⌝ }
+{
+    if q < LIMITS {
+        return low[q];
+    }
+    if q < CURRENTS {
+        return lead[q - LIMITS];
+    }
+    low[q - SETPOINTS]
+}
+
+// A row behind its first place. A bound for each direction stands for a test for each value.
+pub fn row(has: u64, low: [u64; LOWS], lead: [u64; LEADS]) -> [i64; VALUES]
+    ensures { λ r. ⌜ (length r ≡ 1 + helds) × Filled (shownIn has low lead) r helds ⌝ }
+{
+    let tops = [top_of(has, 0), top_of(has, 1)];
+    let mut v = [-1; VALUES];
+    let mut q = 0;
+    while q < HELDS {
+        v[q + 1] = shown_below(tops[q % 2], number_of(low, lead, q));
+        q += 1;
+    }
+    v
+}
+
+// The control state beside the two power limits that are shown, some zone up.
+pub fn state_up(overridden: u64, a: i64, b: i64) -> i64
+    ensures { λ r. ⌜ r ≡ stateUp overridden a b ⌝ }
+{
+    if overridden != 0 {
+        return 4;
+    }
+    if 0 <= a {
+        return 2;
+    }
+    if 0 <= b {
+        return 2;
+    }
+    1
+}
+
+// With no value, no zone up.
+pub fn state_down(overridden: u64) -> i64
+    ensures { λ r. ⌜ r ≡ stateDown overridden ⌝ }
+{
+    if overridden != 0 { 4 } else { 0 }
+}
+
+// The end is tested by a difference: a sum could pass the largest word.
+pub fn failsafe_holds(since: u64, duration: u64, t: u64) -> bool
+    ensures { λ r. ⌜ r ≡ ltb t (since + duration) ⌝ }
+{
+    if t < since {
+        return true;
+    }
+    t - since < duration
+}
+
+fn nearer(cur: u64, r: u64, e: u64) -> u64
+    ensures { λ x. ⌜ x ≡ nearer cur r e ⌝ }
+{
+    if cur < e {
+        if e < r {
+            return e;
+        }
+        return r;
+    }
+    r
+}
+
+// A failsafe that ends past the end of time does not end. The sum of any two words could pass the largest.
+pub fn failsafe_end(since: u64, duration: u64, cur: u64) -> u64
+    ensures { λ r. ⌜ r ≡ nearer cur end (since + duration) ⌝ }
+{
+    if since < END {
+        if duration < END - since {
+            return nearer(cur, END, since + duration);
+        }
+        return END;
+    }
+    END
+}
