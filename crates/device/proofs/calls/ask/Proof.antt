@@ -13,15 +13,19 @@ ask-spec =
     (tie.spec
     (λ c κs. tt) (λ c κs. tt)
     (λ c.
-    let at-clock = c .before .before .clock in
-    (rw (timed _ _ _ _ _ (at-clock .ensures) (c .before .is-late .ensures) (c .if1 .taken)), refused _ 5 _ _
-    (rw (timed _ _ _ _ _ (at-clock .ensures) (c .before .is-late .ensures) (c .if1 .taken))) (λ e. omega arith) .1))
+    let at-clock = c .before .before .clock in (
+      rw (timed _ _ _ _ _ (at-clock .ensures) (c .before .is-late .ensures) (c .if1 .taken)),
+      refused _ 5 _ _
+          (rw (timed _ _ _ _ _ (at-clock .ensures) (c .before .is-late .ensures) (c .if1 .taken))) (λ e. omega arith) .1,
+    ))
     (λ c κs. tt) (λ c κs. tt) (λ c κs. tt)
     (λ c.
     let at-overridden = c .before .before .overridden in
     let at-values-at = c .before .before .before .before .values-at in
     let at-if1 = c .before .before .before .before .before .before .if1 in
     let at-is-late = c .before .before .before .before .before .before .before .is-late in
-    let at-clock = c .before .before .before .before .before .before .before .before .clock in
-    (rw (timed _ _ _ _ _ (at-clock .ensures) (at-is-late .ensures) (at-if1 .left)) (rw (at-values-at .ensures)), accepted _ _ _ _ _
-    (rw (timed _ _ _ _ _ (at-clock .ensures) (at-is-late .ensures) (at-if1 .left))) (c .apply-head .ensures) (rw (at-overridden .ensures)) .1)))
+    let at-clock = c .before .before .before .before .before .before .before .before .clock in (
+      rw (timed _ _ _ _ _ (at-clock .ensures) (at-is-late .ensures) (at-if1 .left)) (rw (at-values-at .ensures)),
+      accepted _ _ _ _ _
+          (rw (timed _ _ _ _ _ (at-clock .ensures) (at-is-late .ensures) (at-if1 .left))) (c .apply-head .ensures) (rw (at-overridden .ensures)) .1,
+    )))

@@ -22,8 +22,11 @@ clear-override-spec =
     let at-if1 = c .before .before .before .if1 in
     let at-is-late = c .before .before .before .before .is-late in
     let at-clock = c .before .before .before .before .before .clock in
-    refused _ 7 _ _ (rw (timed _ _ _ _ _ (at-clock .ensures) (at-is-late .ensures) (at-if1 .left), eq-eqb _ _
-    (sym (c .before .overridden .ensures) ∙ c .if2 .taken))) (λ e. omega arith))
+    refused _ 7 _ _ (rw (
+      timed _ _ _ _ _ (at-clock .ensures) (at-is-late .ensures) (at-if1 .left),
+      eq-eqb _ _
+          (sym (c .before .overridden .ensures) ∙ c .if2 .taken),
+    )) (λ e. omega arith))
     (λ c κs. tt)
     (λ c.
     let at-if2 = c .before .before .if2 in
@@ -31,5 +34,8 @@ clear-override-spec =
     let at-if1 = c .before .before .before .before .before .if1 in
     let at-is-late = c .before .before .before .before .before .before .is-late in
     let at-clock = c .before .before .before .before .before .before .before .clock in
-    accepted _ _ _ _ _ (rw (timed _ _ _ _ _ (at-clock .ensures) (at-is-late .ensures) (at-if1 .left), ne-eqb _ _
-    (λ e. at-if2 .left (at-overridden .ensures ∙ e)))) (c .apply-head .ensures) refl))
+    accepted _ _ _ _ _ (rw (
+      timed _ _ _ _ _ (at-clock .ensures) (at-is-late .ensures) (at-if1 .left),
+      ne-eqb _ _
+          (λ e. at-if2 .left (at-overridden .ensures ∙ e)),
+    )) (c .apply-head .ensures) refl))

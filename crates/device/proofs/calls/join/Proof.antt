@@ -25,8 +25,11 @@ join-spec =
     let at-if1 = c .before .before .if1 in
     let at-is-late = c .before .before .before .is-late in
     let at-clock = c .before .before .before .before .clock in
-    refused _ 6 _ _ (rw (timed _ _ _ _ _ (at-clock .ensures) (at-is-late .ensures) (at-if1 .left), via (c .before .is-bad-join .ensures)
-    (c .if2 .taken))) (λ e. omega arith))
+    refused _ 6 _ _ (rw (
+      timed _ _ _ _ _ (at-clock .ensures) (at-is-late .ensures) (at-if1 .left),
+      via (c .before .is-bad-join .ensures)
+          (c .if2 .taken),
+    )) (λ e. omega arith))
     (λ c κs. tt)
     (λ c.
     let at-if2 = c .before .before .before .if2 in
@@ -34,8 +37,12 @@ join-spec =
     let at-if1 = c .before .before .before .before .before .if1 in
     let at-is-late = c .before .before .before .before .before .before .is-late in
     let at-clock = c .before .before .before .before .before .before .before .clock in
-    refused _ 7 _ _ (rw (timed _ _ _ _ _ (at-clock .ensures) (at-is-late .ensures) (at-if1 .left), via (at-is-bad-join .ensures) (at-if2 .left), via
-    (c .before .is-joined .ensures) (c .if3 .taken))) (λ e. omega arith))
+    refused _ 7 _ _ (rw (
+      timed _ _ _ _ _ (at-clock .ensures) (at-is-late .ensures) (at-if1 .left),
+      via (at-is-bad-join .ensures) (at-if2 .left),
+      via
+          (c .before .is-joined .ensures) (c .if3 .taken),
+    )) (λ e. omega arith))
     (λ c κs. tt)
     (λ c.
     let at-if3 = c .before .before .before .if3 in
@@ -46,8 +53,13 @@ join-spec =
     let back-8 = c .before .before .before .before .before .before .before .before in
     let at-is-late = back-8 .before .is-late in
     let at-clock = back-8 .before .before .clock in
-    refused _ 8 _ _ (rw (timed _ _ _ _ _ (at-clock .ensures) (at-is-late .ensures) (at-if1 .left), via (at-is-bad-join .ensures) (at-if2 .left), via
-    (at-is-joined .ensures) (at-if3 .left), le-leb _ _ (rw (c .before .slot-of .ensures) at (c .if4 .taken)))) (λ e. omega arith))
+    refused _ 8 _ _ (rw (
+      timed _ _ _ _ _ (at-clock .ensures) (at-is-late .ensures) (at-if1 .left),
+      via (at-is-bad-join .ensures) (at-if2 .left),
+      via
+          (at-is-joined .ensures) (at-if3 .left),
+      le-leb _ _ (rw (c .before .slot-of .ensures) at (c .if4 .taken)),
+    )) (λ e. omega arith))
     (λ c κs.
     let at-if2 = c .before .before .before .before .before .before .if2 in
     let at-is-bad-join = c .before .before .before .before .before .before .before .is-bad-join in
@@ -68,7 +80,11 @@ join-spec =
     let at-is-late = back-8 .before .before .before .before .before .before .before .before .is-late in
     let back-16 = back-8 .before .before .before .before .before .before .before .before in
     let at-clock = back-16 .before .clock in
-    accepted _ _ _ _ _ (rw (timed _ _ _ _ _ (at-clock .ensures) (at-is-late .ensures) (at-if1 .left), via (at-is-bad-join .ensures) (at-if2 .left),
-    via (at-is-joined .ensures) (at-if3 .left), lt-leb _ _ (rw (at-slot-of .ensures) at (at-if4 .left)))) (c .apply .ensures)
+    accepted _ _ _ _ _ (rw (
+      timed _ _ _ _ _ (at-clock .ensures) (at-is-late .ensures) (at-if1 .left),
+      via (at-is-bad-join .ensures) (at-if2 .left),
+      via (at-is-joined .ensures) (at-if3 .left),
+      lt-leb _ _ (rw (at-slot-of .ensures) at (at-if4 .left)),
+    )) (c .apply .ensures)
     (rw (at-new-zone .ensures, at-since .ensures, at-overridden .ensures, at-slot-of .ensures)
     (sym (up-change _ _ _ _ (join-up _ _ (via (at-is-bad-join .ensures) (at-if2 .left))))))))

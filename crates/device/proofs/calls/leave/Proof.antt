@@ -22,8 +22,11 @@ leave-spec =
     let at-if1 = c .before .before .before .if1 in
     let at-is-late = c .before .before .before .before .is-late in
     let at-clock = c .before .before .before .before .before .clock in
-    refused _ 9 _ _ (rw (timed _ _ _ _ _ (at-clock .ensures) (at-is-late .ensures) (at-if1 .left), not-found _ _ _
-    (c .before .slot-of-joined .ensures) (c .if2 .taken))) (λ e. omega arith))
+    refused _ 9 _ _ (rw (
+      timed _ _ _ _ _ (at-clock .ensures) (at-is-late .ensures) (at-if1 .left),
+      not-found _ _ _
+          (c .before .slot-of-joined .ensures) (c .if2 .taken),
+    )) (λ e. omega arith))
     (λ c κs. tt) (λ c κs. tt) (λ c κs. tt) (λ c κs. tt)
     (λ c.
     let at-overridden = c .before .before .overridden in
@@ -36,6 +39,14 @@ leave-spec =
     let at-is-late = back-8 .before .before .before .is-late in
     let at-clock = back-8 .before .before .before .before .clock in
     let at-args = back-8 .before .before .before .before .before .before .args in
-    accepted _ _ _ _ _ (rw (timed _ _ _ _ _ (at-clock .ensures) (at-is-late .ensures) (at-if1 .left), found _ _ _ (at-slot-of-joined .ensures)
-    (at-if2 .left))) (c .apply .ensures) (rw (at-free-zone .ensures, at-since-without .ensures, at-overridden .ensures, found-slot
-    (zonesOf (at-args .d .now)) (at-args .zone) _ (at-slot-of-joined .ensures) (at-if2 .left)))))
+    accepted _ _ _ _ _ (rw (
+      timed _ _ _ _ _ (at-clock .ensures) (at-is-late .ensures) (at-if1 .left),
+      found _ _ _ (at-slot-of-joined .ensures)
+          (at-if2 .left),
+    )) (c .apply .ensures) (rw (
+      at-free-zone .ensures,
+      at-since-without .ensures,
+      at-overridden .ensures,
+      found-slot
+          (zonesOf (at-args .d .now)) (at-args .zone) _ (at-slot-of-joined .ensures) (at-if2 .left),
+    ))))

@@ -26,8 +26,11 @@ link-spec =
     let at-if1 = c .before .before .before .if1 in
     let at-is-late = c .before .before .before .before .is-late in
     let at-clock = c .before .before .before .before .before .clock in
-    refused _ 9 _ _ (rw (timed _ _ _ _ _ (at-clock .ensures) (at-is-late .ensures) (at-if1 .left), not-found _ _ _
-    (c .before .slot-of-joined .ensures) (c .if2 .taken))) (λ e. omega arith))
+    refused _ 9 _ _ (rw (
+      timed _ _ _ _ _ (at-clock .ensures) (at-is-late .ensures) (at-if1 .left),
+      not-found _ _ _
+          (c .before .slot-of-joined .ensures) (c .if2 .taken),
+    )) (λ e. omega arith))
     (λ c κs. tt) (λ c κs. tt)
     (λ c.
     let at-up-at = c .before .before .up-at in
@@ -37,9 +40,15 @@ link-spec =
     let at-is-late = c .before .before .before .before .before .before .before .before .is-late in
     let back-8 = c .before .before .before .before .before .before .before .before in
     let at-clock = back-8 .before .clock in
-    refused _ 7 _ _ (rw (timed _ _ _ _ _ (at-clock .ensures) (at-is-late .ensures) (at-if1 .left), found _ _ _ (at-slot-of-joined .ensures)
-    (at-if2 .left), ← found-slot _ _ _ (at-slot-of-joined .ensures) (at-if2 .left), ← at-up-at .ensures, via (c .before .is-same .ensures)
-    (c .if3 .taken))) (λ e. omega arith))
+    refused _ 7 _ _ (rw (
+      timed _ _ _ _ _ (at-clock .ensures) (at-is-late .ensures) (at-if1 .left),
+      found _ _ _ (at-slot-of-joined .ensures)
+          (at-if2 .left),
+      ← found-slot _ _ _ (at-slot-of-joined .ensures) (at-if2 .left),
+      ← at-up-at .ensures,
+      via (c .before .is-same .ensures)
+          (c .if3 .taken),
+    )) (λ e. omega arith))
     (λ c κs. tt) (λ c κs. tt) (λ c κs. tt) (λ c κs. tt)
     (λ c.
     let at-overridden = c .before .before .overridden in
@@ -56,8 +65,19 @@ link-spec =
     let back-16 = back-8 .before .before .before .before .before .before .before .before in
     let at-clock = back-16 .before .clock in
     let at-args = back-16 .before .before .before .args in
-    accepted _ _ _ _ _ (rw (timed _ _ _ _ _ (at-clock .ensures) (at-is-late .ensures) (at-if1 .left), found _ _ _ (at-slot-of-joined .ensures)
-    (at-if2 .left), ← found-slot _ _ _ (at-slot-of-joined .ensures) (at-if2 .left), ← at-up-at .ensures, via (at-is-same .ensures) (at-if3 .left)))
-    (c .apply .ensures) (rw (at-told .ensures, at-since-told .ensures, at-overridden .ensures, found-slot (zonesOf (at-args .d .now))
-    (at-args .zone) _ (at-slot-of-joined .ensures) (at-if2 .left))
+    accepted _ _ _ _ _ (rw (
+      timed _ _ _ _ _ (at-clock .ensures) (at-is-late .ensures) (at-if1 .left),
+      found _ _ _ (at-slot-of-joined .ensures)
+          (at-if2 .left),
+      ← found-slot _ _ _ (at-slot-of-joined .ensures) (at-if2 .left),
+      ← at-up-at .ensures,
+      via (at-is-same .ensures) (at-if3 .left),
+    ))
+    (c .apply .ensures) (rw (
+      at-told .ensures,
+      at-since-told .ensures,
+      at-overridden .ensures,
+      found-slot (zonesOf (at-args .d .now))
+          (at-args .zone) _ (at-slot-of-joined .ensures) (at-if2 .left),
+    )
     (sym (link-change _ _ _ _ (joined-there _ _ (found _ _ _ (at-slot-of-joined .ensures) (at-if2 .left))) _)))))

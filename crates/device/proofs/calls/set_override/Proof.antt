@@ -17,11 +17,17 @@ use Rattle.device.proofs.calls.set_override.Tie as tie
 together-small : (m : Bool) (r d : ℕ) → goTogether m r d ≡ true → (r < 5) × (d < 2)
 unfolding goTogether
 together-small m r d e = (
-  elim (decLt r 5) [ yes h ↦ h | no h ↦ absurd
-    (never (rw (le-ltb r 2 (omega arith), ne-eqb r 2 (λ q. omega arith), ne-eqb r 3 (λ q. omega arith), ne-eqb r 4 (λ q. omega arith))
-    (and-false m)) e) ],
-  elim (decLt d 2) [ yes h ↦ h | no h ↦ absurd
-    (never (rw (ne-eqb d 0 (λ q. omega arith), le-ltb d 2 (omega arith), ne-eqb d 1 (λ q. omega arith)) (simp and-false)) e) ],
+  elim (decLt r 5) [
+    | yes h ↦ h
+    | no h ↦ absurd
+        (never (rw (le-ltb r 2 (omega arith), ne-eqb r 2 (λ q. omega arith), ne-eqb r 3 (λ q. omega arith), ne-eqb r 4 (λ q. omega arith))
+        (and-false m)) e)
+  ],
+  elim (decLt d 2) [
+    | yes h ↦ h
+    | no h ↦ absurd
+        (never (rw (ne-eqb d 0 (λ q. omega arith), le-ltb d 2 (omega arith), ne-eqb d 1 (λ q. omega arith)) (simp and-false)) e)
+  ],
 )
   where
     and-false : (b : Bool) → (b && false) ≡ false
@@ -53,12 +59,18 @@ set-override-spec =
     let at-is-late = c .before .before .before .before .before .before .before .before .is-late in
     let back-8 = c .before .before .before .before .before .before .before .before in
     let at-clock = back-8 .before .clock in
-    accepted _ _ _ _ _ (rw (timed _ _ _ _ _ (at-clock .ensures) (at-is-late .ensures) (at-if1 .left), via
-    (rw (at-is-manager .ensures) at (at-go-together .ensures)) (at-if2 .taken))) (c .apply-head .ensures) (rw (c .before .override-word .ensures)))
+    accepted _ _ _ _ _ (rw (
+      timed _ _ _ _ _ (at-clock .ensures) (at-is-late .ensures) (at-if1 .left),
+      via
+          (rw (at-is-manager .ensures) at (at-go-together .ensures)) (at-if2 .taken),
+    )) (c .apply-head .ensures) (rw (c .before .override-word .ensures)))
     (λ c.
     let at-is-manager = c .before .before .is-manager in
     let at-if1 = c .before .before .before .before .if1 in
     let at-is-late = c .before .before .before .before .before .is-late in
     let at-clock = c .before .before .before .before .before .before .clock in
-    refused _ 18 _ _ (rw (timed _ _ _ _ _ (at-clock .ensures) (at-is-late .ensures) (at-if1 .left), via
-    (rw (at-is-manager .ensures) at (c .before .go-together .ensures)) (c .if2 .left))) (λ e. omega arith)))
+    refused _ 18 _ _ (rw (
+      timed _ _ _ _ _ (at-clock .ensures) (at-is-late .ensures) (at-if1 .left),
+      via
+          (rw (at-is-manager .ensures) at (c .before .go-together .ensures)) (c .if2 .left),
+    )) (λ e. omega arith)))

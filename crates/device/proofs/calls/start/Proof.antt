@@ -13,9 +13,11 @@ start-spec =
     (λ c κs. tt) (λ c κs. tt) (λ c κs. tt)
     (λ c.
     let at-if1 = c .before .before .before .if1 in
-    let at-is-bad-settings = c .before .before .before .before .is-bad-settings in
-    (rw (via (at-is-bad-settings .ensures) (at-if1 .taken)), rw
-    (via (at-is-bad-settings .ensures) (at-if1 .taken), c .fresh .ensures, c .before .refused-settings .ensures)))
+    let at-is-bad-settings = c .before .before .before .before .is-bad-settings in (
+      rw (via (at-is-bad-settings .ensures) (at-if1 .taken)),
+      rw
+          (via (at-is-bad-settings .ensures) (at-if1 .taken), c .fresh .ensures, c .before .refused-settings .ensures),
+    ))
     (λ c κs. tt)
     (λ c.
     let at-if1 = c .before .before .if1 in

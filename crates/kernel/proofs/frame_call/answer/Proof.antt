@@ -42,10 +42,14 @@ answer-spec =
     let y = ready (at-args .d .now) (at-args .zone) (at-args .t) (at-args .r) (at-decide .result) (at-outcome-of .result) (at-frame-response .result)
     (at-args .out .now) _ (sym (ap length (at-all .ensures)) ∙ l) (at-decide .ensures) (at-outcome-of .ensures) (at-frame-response .ensures .0)
     (at-frame-response .ensures .1) in
-    let n = sym (y .number) ∙ at-if1 .left in
-    (accepted-answer (at-args .d .now) (at-args .zone) (at-args .t) (at-args .r) (at-args .out .now) (at-frame-response .result) n (y .written),
-    (c .enact .ensures ∙ rw (at-decide .ensures) (decision-enacted _ _ _ _) ∙ accepted-after (at-args .d .now) (at-args .zone) (at-args .t)
-    (at-args .r) (at-args .out .now) (at-frame-response .result) n (y .written) (at-if2 .taken), y .output)))
+    let n = sym (y .number) ∙ at-if1 .left in (
+      accepted-answer (at-args .d .now) (at-args .zone) (at-args .t) (at-args .r) (at-args .out .now) (at-frame-response .result) n (y .written),
+      (
+        c .enact .ensures ∙ rw (at-decide .ensures) (decision-enacted _ _ _ _) ∙ accepted-after (at-args .d .now) (at-args .zone) (at-args .t)
+            (at-args .r) (at-args .out .now) (at-frame-response .result) n (y .written) (at-if2 .taken),
+        y .output,
+      ),
+    ))
     (λ c. search needs)
     (λ c.
     let at-if1 = c .before .before .if1 in
@@ -59,7 +63,11 @@ answer-spec =
     let y = ready (at-args .d .now) (at-args .zone) (at-args .t) (at-args .r) (at-decide .result) (at-outcome-of .result) (at-frame-response .result)
     (at-args .out .now) _ (sym (ap length (at-all .ensures)) ∙ l) (at-decide .ensures) (at-outcome-of .ensures) (at-frame-response .ensures .0)
     (at-frame-response .ensures .1) in
-    let n = sym (y .number) ∙ at-if1 .left in
-    (accepted-answer (at-args .d .now) (at-args .zone) (at-args .t) (at-args .r) (at-args .out .now) (at-frame-response .result) n (y .written),
-    (crowded-after (at-args .d .now) (at-args .zone) (at-args .t) (at-args .r) (at-args .out .now) (at-frame-response .result) n (y .written)
-    (c .if2 .left), y .output))))
+    let n = sym (y .number) ∙ at-if1 .left in (
+      accepted-answer (at-args .d .now) (at-args .zone) (at-args .t) (at-args .r) (at-args .out .now) (at-frame-response .result) n (y .written),
+      (
+        crowded-after (at-args .d .now) (at-args .zone) (at-args .t) (at-args .r) (at-args .out .now) (at-frame-response .result) n (y .written)
+            (c .if2 .left),
+        y .output,
+      ),
+    )))
