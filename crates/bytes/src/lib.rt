@@ -14,3 +14,4 @@ pub use puts::put_u16;
 pub use puts::put_u32;
 pub use puts::put_u64;
 pub use room::has_room;
+pub use room::smaller;

@@ -1,9 +1,10 @@
 // Bytes and numbers written where all of them fit. Each writer says the position past what it wrote; where there is no
 // room it writes nothing, and says the position that it was given.
 use crate::room::has_room;
+use crate::room::smaller;
 ghost use mathlib.Core.Path.{_≡_};
 ghost use mathlib.Core.List.{[], _∷_};
-ghost use Prim.Native.Nat.{_+_, _≤_, min};
+ghost use Prim.Native.Nat.{_+_, _≤_};
 ghost use lib.ListN.{length, take};
 ghost use lib.Seq.{paste};
 ghost use Rattle.bytes.specs.Bytes.{bytesOf, put, putWhole, pastWhole};
@@ -91,15 +92,6 @@ fn copy(out: &mut [u8], at: usize, from: &[u8], n: usize)
         out[at + i] = from[i];
         i += 1;
     }
-}
-
-fn smaller(a: usize, b: usize) -> usize
-    ensures { λ r. ⌜ r ≡ min a b ⌝ }
-{
-    if a < b {
-        return a;
-    }
-    b
 }
 
 // Writes the first `n` bytes of `from`, or all of it where it is shorter.

@@ -1,6 +1,6 @@
 // Whether bytes fit.
 ghost use mathlib.Core.Path.{_≡_};
-ghost use Prim.Native.Nat.{_+_};
+ghost use Prim.Native.Nat.{_+_, min};
 ghost use lib.Dec.{leb};
 
 // Whether `n` bytes fit at `at` into `len`. A sum could pass the largest number.
@@ -11,4 +11,14 @@ pub fn has_room(len: usize, at: usize, n: usize) -> bool
         return false;
     }
     n <= len - at
+}
+
+// The smaller of two counts.
+pub fn smaller(a: usize, b: usize) -> usize
+    ensures { λ r. ⌜ r ≡ min a b ⌝ }
+{
+    if a < b {
+        return a;
+    }
+    b
 }

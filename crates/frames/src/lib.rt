@@ -2,7 +2,6 @@
 mod requests; // requests.rt: requests, read
 mod responses; // responses.rt: responses, read
 mod settings; // settings.rt: the parameters of a Set command
-mod sender; // sender.rt: a payload written behind its length
 mod sizes; // sizes.rt: how many bytes frames have
 mod write_requests; // write_requests.rt: requests, written
 mod write_responses; // write_responses.rt: responses, written

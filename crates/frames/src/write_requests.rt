@@ -1,9 +1,6 @@
 // Requests, written.
 use crate::requests::MOST32;
 use crate::requests::is_served;
-use crate::sender::Written;
-use crate::sender::refused;
-use crate::sender::send;
 use crate::settings::Setting;
 use crate::settings::duration_amount;
 use crate::settings::setting_of_limits;
@@ -23,6 +20,9 @@ use messages::Amount;
 use messages::Command;
 use messages::CurrentLimits;
 use messages::Request;
+use sender::Written;
+use sender::refused;
+use sender::send;
 ghost use mathlib.Core.Path.{_≡_};
 ghost use Prim.Native.Nat.{_+_, _≤_};
 ghost use lib.ListN.{length, take};

@@ -12,5 +12,5 @@ pub use Rattle.store.specs.declared.Settings.{Settings}
 pub use Rattle.device.specs.declared.Asked.{Asked}
 pub use Rattle.frames.specs.declared.requests.Reading.{Reading}
 pub use Rattle.frames.specs.declared.responses.Answer.{Answer}
-pub use Rattle.frames.specs.declared.sender.Written.{Written}
+pub use Rattle.sender.specs.declared.Written.{Written}
 pub use Rattle.conformance.specs.declared.Inputs.{Inputs}

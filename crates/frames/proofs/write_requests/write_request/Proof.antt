@@ -1,7 +1,7 @@
 -- Refused, or written whole into a local that has the room, and sent.
 use Rattle.frames.specs.Requests.{requestNumber, requestItem}
 use Rattle.frames.specs.Writing.{itemFrame}
-use Rattle.frames.proofs.Sends.{send-room, send-item, no-refusal, a-refusal}
+use Rattle.frames.proofs.Sends.{send-item, no-refusal, a-refusal}
 use Rattle.map_fields.proofs.Added.{puts-fit}
 use borrow.Author.Needs.{needs}
 use Rattle.frames.proofs.write_requests.write_request.Statement.{statement}
@@ -18,9 +18,7 @@ write-request-spec =
     a-refusal _ (requestNumber (at-args .r)) (itemFrame (requestItem (at-args .r))) (at-args .out .now) _ (at-request-number .ensures)
     (c .before .if1 .taken) (c .refused .ensures))
     (λ c. search needs) (λ c κs. search needs) (λ c. search needs)
-    (λ c κs.
-    let at-put-request = c .before .before .before .put-request in
-    send-room (search needs) (at-put-request .ensures)) (λ c. search needs)
+    (λ c κs. search needs) (λ c. search needs)
     (λ c.
     let at-send = c .before .before .send in
     let at-put-request = c .before .before .before .before .before .before .put-request in

@@ -1,6 +1,6 @@
 -- The payload is written whole into a local that has the room, and sent.
 use Rattle.frames.specs.Responses.{responseItem}
-use Rattle.frames.proofs.Sends.{send-room, send-item}
+use Rattle.frames.proofs.Sends.{send-item}
 use Rattle.map_fields.proofs.Added.{puts-fit}
 use borrow.Author.Needs.{needs}
 use Rattle.frames.proofs.write_responses.frame_response.Statement.{statement}
@@ -11,9 +11,7 @@ frame-response-spec =
     tie.close
     (tie.spec
     (λ c. search needs) (λ c κs. search needs) (λ c. search needs)
-    (λ c κs.
-    let at-put-response = c .before .before .before .put-response in
-    send-room (search needs) (at-put-response .ensures)) (λ c. search needs)
+    (λ c κs. search needs) (λ c. search needs)
     (λ c.
     let at-send = c .before .before .send in
     let at-put-response = c .before .before .before .before .before .before .put-response in

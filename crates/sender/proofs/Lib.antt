@@ -1,0 +1,2 @@
+-- What callers cite of a writer's answer.
+pub mod Sends
