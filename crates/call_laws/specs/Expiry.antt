@@ -11,7 +11,7 @@ use Rattle.store.specs.declared.Settings.{Settings}
 use Rattle.holds.specs.Holds.{noClaim, claimOf}
 use Rattle.command.specs.Obeys.{action, obeyed}
 use Rattle.command.specs.Says.{durationOf}
-use Rattle.command.specs.declared.Action.{Action}
+use Rattle.command_obeys.specs.declared.Action.{Action}
 
 -- "A value set at second n with duration d > 0 holds while t < n + d"; without a duration, at every second below the largest word
 abbrev pub endOf : ℕ → ℕ → ℕ

@@ -15,7 +15,7 @@ use Rattle.messages.specs.declared.Request.{Request}
 use Rattle.messages.specs.Refusals.{firstOf}
 use Rattle.frames.specs.Requests.{isServed, servedAt, readRequest, requestItem, requestWide, requestUnserved, requestNumber}
 use Rattle.frames.specs.Writing.{itemFrame}
-use Rattle.frames.specs.declared.requests.Reading.{Reading}
+use Rattle.request_reader.specs.declared.requests.Reading.{Reading}
 use Rattle.frame_laws.proofs.RequestBack.{request-reads-back}
 use Rattle.frame_laws.proofs.RequestAgain.{request-writable}
 use Rattle.flat.specs.Requests.{fieldOf, targetOf, aimOf, limitsOf, setpointsOf, phasesOf, currentsOf, limitKind, setpointKind, currentCommand, commandOf, requestOf}

@@ -16,7 +16,7 @@ use Rattle.map_fields.specs.Fields.{mostValue}
 use Rattle.frames.specs.Requests.{servedCommand}
 use Rattle.frames.specs.Responses.{isStatus, stands, readResponse, responseItem, amountUpTo, limitInRange, setpointInRange, currentInRange, goesWith, isNothing, fits, responseFits, responseNumber}
 use Rattle.frames.specs.Writing.{itemFrame}
-use Rattle.frames.specs.declared.responses.Answer.{Answer}
+use Rattle.response_reader.specs.declared.responses.Answer.{Answer}
 use Rattle.frame_laws.proofs.ResponseBack.{response-reads-back}
 use Rattle.frame_laws.proofs.ResponseAgain.{response-writable}
 use Rattle.holds.specs.Holds.{shown}

@@ -11,8 +11,8 @@ use Rattle.frames.specs.Requests.{isServed, readRequest, requestItem, requestNu
 use Rattle.frames.specs.Responses.{readResponse, responseItem, responseNumber}
 use Rattle.frame_laws.specs.RoundTrips.{Command64}
 use Rattle.frames.specs.Writing.{itemFrame}
-use Rattle.frames.specs.declared.requests.Reading.{Reading}
-use Rattle.frames.specs.declared.responses.Answer.{Answer}
+use Rattle.request_reader.specs.declared.requests.Reading.{Reading}
+use Rattle.response_reader.specs.declared.responses.Answer.{Answer}
 use Rattle.holds.specs.Holds.{shown}
 use Rattle.flat.specs.Amounts.{flatAmount}
 use Rattle.flat.specs.Requests.{requestOf, flatRequest}

@@ -2,5 +2,3 @@ pub mod Says
 pub mod Content
 pub mod Obeys
 pub mod Outcomes
-pub mod Asked
-pub mod Fields

@@ -9,17 +9,10 @@ use Rattle.messages.specs.declared.Command.{Command}
 use Rattle.messages.specs.declared.Amount.{Amount}
 use Rattle.messages.specs.declared.Outcome.{Outcome}
 use Rattle.quantities.specs.Quantities.{currentAt}
-use Rattle.store.specs.Sizes.{helds}
-use Rattle.store.specs.declared.Settings.{Settings}
 unfoldable pub use Rattle.field_rules.specs.Fields.{reasonOf}
+unfoldable pub use Rattle.command_tests.specs.Content.{isCapped}
 pub use Rattle.field_rules.specs.Fields.{stated, fieldAbove}
-use Rattle.command.specs.Says.{says, someOf, natural}
-use Rattle.command.specs.Obeys.{topOf}
-
--- WHAT IS ANSWERED
--- "above contractual 1 (status 0)"
-unfoldable pub isCapped : Settings → Command → Bool
-isCapped s c = someOf (λ q. fieldAbove (topOf s q) (says c q)) helds
+use Rattle.command_says.specs.Says.{natural}
 
 -- the results: "applied is false at 11 to 14"; the values are control state, limits, setpoints, currents
 abbrev pub limitOutcome : ℕ → Bool → List ℤ → Outcome

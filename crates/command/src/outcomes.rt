@@ -1,31 +1,20 @@
 // The result that stands in the response to a command.
-use crate::asked::Question;
-use crate::asked::some_is;
 use field_rules::natural_of;
 use field_rules::reason_of;
 use field_rules::stated;
 use messages::Amount;
-use messages::Command;
 use messages::CurrentResult;
 use messages::LimitResult;
 use messages::Outcome;
 use messages::SetpointResult;
 use quantities::CURRENTS;
-use store::Settings;
 use store::VALUES;
 ghost use Prim.Native.Nat.{_<_};
 ghost use mathlib.Core.Path.{_≡_};
 ghost use mathlib.Core.Bool.{_&&_, _||_};
 ghost use lib.Dec.{leb, eqb};
 ghost use Rattle.quantities.specs.Quantities.{phases};
-ghost use Rattle.command.specs.Outcomes.{isCapped, limitOutcome, setpointOutcome, currentIn, currentOutcome};
-
-// Some quantity's number is above its top.
-pub fn is_capped(s: Settings, c: Command) -> bool
-    ensures { λ r. ⌜ r ≡ isCapped s c ⌝ }
-{
-    some_is(Question::Above, s, c)
-}
+ghost use Rattle.command.specs.Outcomes.{limitOutcome, setpointOutcome, currentIn, currentOutcome};
 
 // SetLimit has a result where it is accepted and at refusals 11 to 14.
 pub fn has_result(n: u64) -> bool

@@ -12,7 +12,7 @@ use Rattle.messages.specs.Refusals
 use Rattle.messages.specs.declared.Request.{Request}
 use Rattle.frames.specs.Requests.{readRequest, readingNumber}
 use Rattle.frames.specs.Writing.{writingNumber}
-use Rattle.frames.specs.declared.requests.Reading.{Reading}
+use Rattle.request_reader.specs.declared.requests.Reading.{Reading}
 use Rattle.store.specs.declared.Change.{Change}
 use Rattle.store.specs.Zones.{any, joined, zoneOf}
 use Rattle.store.specs.Sizes.{words}

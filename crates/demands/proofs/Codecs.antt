@@ -17,8 +17,8 @@ use Rattle.map_fields.specs.Fields.{mapIn}
 use Rattle.frames.specs.Requests.{Envelope, envelopeIn, servedAt, servedCommand, withCommand, fromEnvelope, fromPayload, readRequest, readingNumber, requestItem, requestWide, requestUnserved, requestNumber}
 use Rattle.frames.specs.Responses.{responseIn, answerOf, answerIn, answerFrom, readResponse, answerNumber, responseItem, responseFits, responseNumber}
 use Rattle.frames.specs.Writing.{itemFrame, writingNumber}
-use Rattle.frames.specs.declared.requests.Reading.{Reading}
-use Rattle.frames.specs.declared.responses.Answer.{Answer}
+use Rattle.request_reader.specs.declared.requests.Reading.{Reading}
+use Rattle.response_reader.specs.declared.responses.Answer.{Answer}
 use Rattle.store.specs.Zones.{any}
 use Rattle.conformance.specs.declared.Inputs.{Inputs}
 use Rattle.conformance.specs.Report.{numberOf}

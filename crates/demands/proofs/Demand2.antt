@@ -9,7 +9,7 @@ use Rattle.messages.specs.declared.Response.{Response}
 use Rattle.frames.specs.Requests.{readRequest}
 use Rattle.frames.specs.Responses.{statusAlone}
 use Rattle.frames.specs.Writing.{writingNumber, writtenOf}
-use Rattle.frames.specs.declared.requests.Reading.{Reading}
+use Rattle.request_reader.specs.declared.requests.Reading.{Reading}
 use Rattle.frame_laws.proofs.Trips.{framed-exact, frame-stands}
 use Rattle.frame_laws.proofs.RequestBack.{request-reads-back}
 use Rattle.frame_laws.proofs.RequestAgain.{request-writable, request-writes-again}

@@ -18,4 +18,3 @@ pub mod Slots
 pub mod Demand1
 pub mod Demand2
 pub mod Demand3
-pub mod Marked

@@ -10,7 +10,7 @@ use borrow.Author.Tests.{eqb-true}
 use Rattle.messages.specs.declared.Command.{Command}
 use Rattle.store.specs.declared.Held.{Held}
 use Rattle.store.specs.declared.Settings.{Settings}
-use Rattle.command.specs.declared.Action.{Action}
+use Rattle.command_obeys.specs.declared.Action.{Action}
 use Rattle.store.specs.Sizes.{helds}
 use Rattle.store.specs.Zones.{nothing, seatOf}
 use Rattle.command.specs.Obeys.{action, untilOf}

@@ -13,7 +13,7 @@ use Rattle.frames.specs.Prefix.{framed, payloadIn}
 use Rattle.map_fields.specs.Fields.{mapIn}
 use Rattle.frames.specs.Requests.{Envelope, envelopeIn, servedAt, servedCommand, commandIn, withCommand, fromEnvelope, fromPayload, readRequest}
 use Rattle.frames.specs.Writing.{writingNumber}
-use Rattle.frames.specs.declared.requests.Reading.{Reading}
+use Rattle.request_reader.specs.declared.requests.Reading.{Reading}
 
 pub writes : (n : ℕ) (bytes : List ℕ) (room : ℕ) → writingNumber n bytes room ≡ 0 → n ≡ 0
 unfolding writingNumber

@@ -14,7 +14,7 @@ use Rattle.messages.specs.declared.Request.{Request}
 use Rattle.frames.specs.Requests.{readRequest}
 use Rattle.frames.specs.Responses.{isStatus, statusAlone}
 use Rattle.frames.specs.Writing.{writingNumber}
-use Rattle.frames.specs.declared.requests.Reading.{Reading}
+use Rattle.request_reader.specs.declared.requests.Reading.{Reading}
 use Rattle.store.specs.Zones.{joined, zoneOf}
 use Rattle.store.specs.Words.{clockOf, overrideOf, settingsOf, zonesOf}
 use Rattle.device.specs.Commands.{commandTests, commandNumber}

@@ -9,7 +9,7 @@ use borrow.Author.Tests.{eq-eqb}
 use Rattle.messages.specs.declared.Command.{Command}
 use Rattle.store.specs.declared.Held.{Held}
 use Rattle.store.specs.declared.Settings.{Settings}
-use Rattle.command.specs.declared.Action.{Action}
+use Rattle.command_obeys.specs.declared.Action.{Action}
 use Rattle.store.specs.Sizes.{helds}
 use Rattle.store.specs.Zones.{upTo, nothing, seatOf, newZone, linked, heldOf}
 use Rattle.command.specs.Obeys.{action, untilOf, done, obeyed}

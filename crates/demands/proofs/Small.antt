@@ -21,15 +21,16 @@ use Rattle.frames.specs.Prefix.{framed, payloadIn}
 use Rattle.map_fields.specs.Fields.{mapIn, upTo, needed, optional, inRange, signed, most32, valueIn, amountIn, aimIn}
 use Rattle.map_fields.specs.ByPhase.{onlyPhases, eachPhase, byPhase, phasesFrom, phasesIn}
 use Rattle.frames.specs.Settings.{settingIn, targetOf, limitsFrom, setpointsFrom, currentLimitsIn}
-use Rattle.frames.specs.declared.settings.Setting.{Setting}
+use Rattle.request_reader.specs.declared.settings.Setting.{Setting}
 use Rattle.frames.specs.Requests.{Envelope, envelopeIn, servedAt, servedCommand, commandIn, withCommand, fromEnvelope, fromPayload, readRequest}
-use Rattle.frames.specs.declared.requests.Reading.{Reading}
+use Rattle.request_reader.specs.declared.requests.Reading.{Reading}
 use Rattle.store.specs.declared.Settings.{Settings}
-use Rattle.command.specs.declared.Action.{Action}
+use Rattle.command_obeys.specs.declared.Action.{Action}
 use Rattle.store.specs.Sizes.{valueEnd}
 use Rattle.quantities.specs.Quantities.{directionOf, phaseOf}
 use Rattle.command.specs.Says.{limitField, targetField, setpointField, phaseField, currentField, aimField, kindOf, isOf, fieldAt, says, natural}
-use Rattle.command.specs.Obeys.{fieldAction, topOf, action}
+use Rattle.command.specs.Obeys.{fieldAction, action}
+use Rattle.command.specs.Says.{topOf}
 
 -- SMALL: a number below 2^63, or no number
 abbrev pub SmallField : Field → Type 0

@@ -21,7 +21,7 @@ use Rattle.planner.specs.Plan.{planTests, planOf}
 use Rattle.frames.specs.Requests.{readRequest}
 use Rattle.frames.specs.Responses.{responseItem, statusAlone}
 use Rattle.frames.specs.Writing.{itemFrame, writingNumber}
-use Rattle.frames.specs.declared.requests.Reading.{Reading}
+use Rattle.request_reader.specs.declared.requests.Reading.{Reading}
 use Rattle.demands.specs.Run.{Call, join, leave, lost, back, override, clear, ask, plan, frame}
 use Rattle.demands.specs.History.{Told, joins, leaves, links, commands, overrides, passes, Entry, Log, clockBy, overrideBy, joinedBy, upBy, zonesBy, situationBy}
 

@@ -17,7 +17,7 @@ use Rattle.frames.specs.Requests.{Envelope, readRequest, readingNumber, request
 use Rattle.frames.specs.Responses.{readResponse, answerNumber, responseItem, responseNumber, statusAlone}
 use Rattle.frame_laws.specs.RoundTrips.{FramedExact, FrameStands, RequestReadsBack, ResponseReadsBack, StatusReadsBack, RequestWritable, ResponseWritable, RequestWritesAgain, ResponseWritesAgain}
 use Rattle.frames.specs.Writing.{itemFrame, writingNumber, writtenOf, leftBy}
-use Rattle.frames.specs.declared.requests.Reading.{Reading}
+use Rattle.request_reader.specs.declared.requests.Reading.{Reading}
 use Rattle.store.specs.declared.Settings.{Settings}
 use Rattle.store.specs.declared.Zone.{Zone}
 use Rattle.store.specs.Sizes.{helds}

@@ -8,7 +8,7 @@ use Rattle.messages.specs.declared.Command.{Command}
 use Rattle.store.specs.declared.Held.{Held}
 use Rattle.store.specs.declared.Zone.{Zone}
 use Rattle.store.specs.declared.Settings.{Settings}
-use Rattle.command.specs.declared.Action.{Action}
+use Rattle.command_obeys.specs.declared.Action.{Action}
 use Rattle.store.specs.Sizes.{helds}
 use Rattle.store.specs.Zones.{upTo, nothing, seatOf}
 use Rattle.holds.specs.Holds.{Situation}

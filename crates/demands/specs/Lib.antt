@@ -5,4 +5,3 @@ pub mod Tests
 pub mod Answers
 pub mod ReleasedSlot
 pub mod Demands
-pub mod Examples

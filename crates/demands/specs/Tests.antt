@@ -15,7 +15,7 @@ use Rattle.map_fields.specs.Fields.{mapIn}
 use Rattle.frames.specs.Requests.{Envelope, envelopeIn, servedAt, servedCommand, commandIn, readRequest, requestItem, requestWide, requestUnserved}
 use Rattle.frames.specs.Responses.{responseIn, responseItem, responseFits}
 use Rattle.frames.specs.Writing.{itemFrame}
-use Rattle.frames.specs.declared.requests.Reading.{Reading}
+use Rattle.request_reader.specs.declared.requests.Reading.{Reading}
 use Rattle.store.specs.Sizes.{slots}
 use Rattle.store.specs.Zones.{slotOf, joined, zoneOf}
 use Rattle.store.specs.Words.{clockOf, overrideOf, settingsOf, zonesOf}

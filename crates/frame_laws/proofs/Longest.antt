@@ -26,7 +26,7 @@ use Rattle.messages.specs.declared.Outcome.{Outcome}
 use Rattle.messages.specs.declared.Response.{Response}
 use Rattle.messages.specs.Numbers.{wireNumber}
 use Rattle.messages.specs.Refusals.{firstOf}
-use Rattle.map_fields.specs.Fields.{Fields, present, most32, valueItem, aimItem, amountItem, truthItem}
+use Rattle.map_fields.specs.Fields.{mapItem, Fields, present, most32, valueItem, aimItem, amountItem, truthItem}
 use Rattle.map_fields.specs.ByPhase.{phaseFields, phaseMap, phasesItem, currentsItem}
 use Rattle.map_fields.specs.Puts.{fieldBytes}
 use Rattle.map_fields.proofs.Added.{map-bytes, fields-none, fields-more}
@@ -36,7 +36,7 @@ use Rattle.frames.specs.Writing.{itemFrame}
 use Rattle.frames.specs.Sizes.{longestResponse}
 use Rattle.frames.specs.Settings.{fieldOf, durationAmount, settingOfLimits, settingOfSetpoints, settingFields, currentLimitFields}
 use Rattle.frames.specs.Requests.{commandFields, requestFields, requestItem, requestNumber, requestWide, requestUnserved, commandWide, aimWide, isServed, servedAt, servedCommand}
-use Rattle.frames.specs.Responses.{limitFields, setpointFields, currentFields, clearFields, mapItem, outcomeItem, responseFields, responseItem, responseNumber, responseFits, fits, stands, goesWith, limitInRange, currentInRange, amountUpTo, isStatus, isNothing, statusAlone, statusFits, statusNumber}
+use Rattle.frames.specs.Responses.{limitFields, setpointFields, currentFields, clearFields, outcomeItem, responseFields, responseItem, responseNumber, responseFits, fits, stands, goesWith, limitInRange, currentInRange, amountUpTo, isStatus, isNothing, statusAlone, statusFits, statusNumber}
 use Rattle.frame_laws.specs.Longest.{RequestLongest, RequestReached, ResponseLongest, ResponseReached, StatusLongest}
 use Rattle.frame_laws.proofs.Maps.{count-fields}
 use Rattle.frame_laws.proofs.RequestBack.{request-ranges, request-served, is-served, wire-served, command-few, wide-parts, wide-currents}

@@ -23,12 +23,12 @@ use Rattle.map_fields.specs.Fields.{present, upTo, mapIn, needed, most32, value
 use Rattle.map_fields.specs.ByPhase.{phasesIn}
 use Rattle.frames.specs.Settings.{settingIn, durationOf, durationAmount, targetOf, fieldOf, limitsFrom, setpointsFrom, settingOfLimits, settingOfSetpoints, settingFields}
 use Rattle.frames.specs.Settings.{currentLimitsIn, currentLimitFields}
-use Rattle.frames.specs.declared.settings.Setting.{Setting}
+use Rattle.request_reader.specs.declared.settings.Setting.{Setting}
 use Rattle.frames.specs.Responses.{amountUpTo}
 use Rattle.frames.specs.Requests.{Envelope, envelopeIn, commandIn, servedAt, servedCommand, withCommand, fromEnvelope, fromPayload, readRequest, commandFields, requestFields, requestItem, commandWide, aimWide, isServed, requestWide, requestUnserved, requestNumber}
 use Rattle.frames.specs.Writing.{itemFrame}
 use Rattle.frame_laws.specs.RoundTrips.{Field64, Target64, Command64, KeysTo, parameterKeys, PlainRequest, RequestWritable, RequestWritesAgain}
-use Rattle.frames.specs.declared.requests.Reading.{Reading}
+use Rattle.request_reader.specs.declared.requests.Reading.{Reading}
 use Rattle.map_fields.proofs.Joined.{no-both, and-left, and-right}
 use Rattle.frame_laws.proofs.Maps.{OkFields, same-map, no-known}
 use Rattle.frame_laws.proofs.FieldsBack.{Allowed, ok-aim}

@@ -23,17 +23,17 @@ use Rattle.messages.specs.declared.Request.{Request}
 use Rattle.map_fields.specs.Fields.{present, mapIn, needed, most32, aimItem}
 use Rattle.frames.specs.Settings.{settingIn, durationOf, durationAmount, targetOf, fieldOf, limitsFrom, setpointsFrom, settingOfLimits, settingOfSetpoints, settingFields}
 use Rattle.frames.specs.Settings.{currentLimitsIn, currentLimitFields}
-use Rattle.frames.specs.declared.settings.Setting.{Setting}
+use Rattle.request_reader.specs.declared.settings.Setting.{Setting}
 use Rattle.frames.specs.Responses.{amountUpTo}
 use Rattle.frames.specs.Requests.{envelopeIn, commandIn, servedAt, servedCommand, fromEnvelope, readRequest, commandFields, requestFields, requestItem, commandWide, isServed, requestWide, requestUnserved, requestNumber}
 use Rattle.map_fields.specs.Puts.{fieldBytes}
 use Rattle.frames.specs.Writing.{itemFrame}
 use Rattle.frame_laws.specs.RoundTrips.{Field64, Target64, Phases64, Command64, RequestReadsBack, OneRequest}
-use Rattle.frames.specs.declared.requests.Reading.{Reading}
+use Rattle.request_reader.specs.declared.requests.Reading.{Reading}
 use Rattle.map_fields.proofs.Joined.{no-both, and-left, and-right, or-left, or-right, not-is-false}
 use Rattle.frame_laws.proofs.Maps.{Ascending, values, OkFields, ShortFields, ok-map, map-short}
 use Rattle.frame_laws.proofs.FieldsBack.{Allowed, uint-back, aim-back, amount-back, value-back, ok-uint, ok-aim, ok-amount, ok-value, short-uint, short-aim, short-amount, short-value}
-use Rattle.frames.proofs.Requested.{read-map-of}
+use Rattle.request_reader.proofs.Requested.{read-map-of}
 use Rattle.frame_laws.proofs.Trips.{frame-payload, frame-framed}
 use Rattle.frame_laws.proofs.PhaseTrips.{few-short, short-numbers, ok-numbers, numbers-back}
 

@@ -23,7 +23,7 @@ use Rattle.frames.specs.Requests.{servedCommand}
 use Rattle.frames.specs.Responses.{isStatus, onlyStatus, stands, statusIn, limitResultIn, setpointResultIn, currentResultIn, clearResultIn, outcomeIn, noResult, resultIn, responseIn, answerOf, answerIn, answerFrom, readResponse, limitFields, setpointFields, currentFields, clearFields, outcomeItem, responseFields, responseItem, limitInRange, setpointInRange, currentInRange, goesWith, fits, responseFits, responseNumber}
 use Rattle.frames.specs.Writing.{itemFrame}
 use Rattle.frame_laws.specs.RoundTrips.{KeysTo, resultKeys, PlainResponse, ResponseWritable, ResponseWritesAgain}
-use Rattle.frames.specs.declared.responses.Answer.{Answer}
+use Rattle.response_reader.specs.declared.responses.Answer.{Answer}
 use Rattle.map_fields.proofs.Joined.{and-left, and-right}
 use Rattle.frame_laws.proofs.Maps.{same-map, no-known}
 use Rattle.frame_laws.proofs.FieldsAgain.{no-value, same-inside, bind-parts, map-part, uint-again, map-again, truth-again, success-again, amount-again}

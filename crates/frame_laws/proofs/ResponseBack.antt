@@ -16,17 +16,17 @@ use Rattle.messages.specs.declared.SetpointResult.{SetpointResult}
 use Rattle.messages.specs.declared.CurrentResult.{CurrentResult}
 use Rattle.messages.specs.declared.Outcome.{Outcome}
 use Rattle.messages.specs.declared.Response.{Response}
-use Rattle.map_fields.specs.Fields.{Fields, present, mapIn, needed, most32, mostValue, successIn}
+use Rattle.map_fields.specs.Fields.{mapItem, Fields, present, mapIn, needed, most32, mostValue, successIn}
 use Rattle.frames.specs.Requests.{servedCommand}
-use Rattle.frames.specs.Responses.{isStatus, stands, statusIn, limitResultIn, setpointResultIn, currentResultIn, outcomeIn, noResult, resultIn, responseIn, answerOf, readResponse, mapItem, limitFields, setpointFields, currentFields, clearFields, outcomeItem, responseFields, responseItem, amountUpTo, limitInRange, setpointInRange, currentInRange, goesWith, isNothing, fits, responseFits, responseNumber, statusAlone, statusFits, statusNumber}
+use Rattle.frames.specs.Responses.{isStatus, stands, statusIn, limitResultIn, setpointResultIn, currentResultIn, outcomeIn, noResult, resultIn, responseIn, answerOf, readResponse, limitFields, setpointFields, currentFields, clearFields, outcomeItem, responseFields, responseItem, amountUpTo, limitInRange, setpointInRange, currentInRange, goesWith, isNothing, fits, responseFits, responseNumber, statusAlone, statusFits, statusNumber}
 use Rattle.map_fields.specs.Puts.{fieldBytes}
 use Rattle.frames.specs.Writing.{itemFrame}
 use Rattle.frame_laws.specs.RoundTrips.{ResponseReadsBack, StatusReadsBack, OneResponse}
-use Rattle.frames.specs.declared.responses.Answer.{Answer}
+use Rattle.response_reader.specs.declared.responses.Answer.{Answer}
 use Rattle.map_fields.proofs.Joined.{no-both, and-left, and-right}
 use Rattle.frame_laws.proofs.Maps.{Ascending, fieldAt, values, OkField, OkFields, ShortFields, ok-map, map-short}
 use Rattle.frame_laws.proofs.FieldsBack.{uint-back, truth-back, success-back, amount-back, ok-uint, ok-truth, ok-amount, short-uint, short-truth, short-amount}
-use Rattle.frames.proofs.Answered.{all-parts, answer-map-of}
+use Rattle.response_reader.proofs.Answered.{all-parts, answer-map-of}
 use Rattle.frame_laws.proofs.Trips.{frame-payload, frame-framed}
 use Rattle.frame_laws.proofs.PhaseTrips.{few-short, AmountsTo, short-amounts, ok-amounts, amounts-back}
 

@@ -22,8 +22,8 @@ use Rattle.frames.specs.Prefix.{frameOf, framed, payloadIn, mostPayload}
 use Rattle.frames.specs.Requests.{servedCommand, readRequest, requestItem, requestNumber}
 use Rattle.frames.specs.Responses.{stands, readResponse, responseItem, responseNumber, statusAlone, statusNumber}
 use Rattle.frames.specs.Writing.{itemFrame, writingNumber, leftBy}
-use Rattle.frames.specs.declared.requests.Reading.{Reading}
-use Rattle.frames.specs.declared.responses.Answer.{Answer}
+use Rattle.request_reader.specs.declared.requests.Reading.{Reading}
+use Rattle.response_reader.specs.declared.responses.Answer.{Answer}
 
 -- THE PREFIX
 -- 1 is refused exactly where the bytes are no payload of 1 to 2,048 bytes behind its length

@@ -4,4 +4,3 @@ pub mod Requests
 pub mod Responses
 pub mod Writing
 pub mod Sizes
-pub mod Sights

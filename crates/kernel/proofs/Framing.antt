@@ -21,7 +21,7 @@ use Rattle.frames.specs.Requests.{fromPayload, readRequest}
 use Rattle.frames.specs.Responses.{responseItem, statusAlone}
 use Rattle.frames.specs.Writing.{itemFrame, writingNumber, writtenOf, leftBy}
 use Rattle.sender.specs.declared.Written.{Written}
-use Rattle.frames.specs.declared.requests.Reading.{Reading}
+use Rattle.request_reader.specs.declared.requests.Reading.{Reading}
 use Rattle.store.specs.Sizes.{words}
 use Rattle.device.specs.Commands.{commandNumber, commandAfter, commandAnswer, decisionOf, outcomeFor, enacted}
 use Rattle.device.specs.declared.Answer.{Answer}

@@ -9,7 +9,7 @@ use Rattle.messages.specs.Numbers.{wireNumber}
 use Rattle.frames.specs.Requests.{readRequest}
 use Rattle.frames.specs.Responses.{stands}
 use Rattle.frames.specs.Sizes.{longestResponse}
-use Rattle.frames.specs.declared.requests.Reading.{Reading}
+use Rattle.request_reader.specs.declared.requests.Reading.{Reading}
 use Rattle.frame_laws.proofs.RequestAgain.{request-writable}
 use Rattle.frame_laws.proofs.ResponseBack.{response-reads-back, status-reads-back}
 use Rattle.frame_laws.proofs.Longest.{response-longest, status-longest}

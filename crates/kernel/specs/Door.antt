@@ -10,7 +10,7 @@ unfoldable pub use Rattle.conformance.specs.Report.{reportOf, pairsAfter}
 pub use Rattle.planner.specs.Plan.{rowSize}
 pub use Rattle.store.specs.declared.Settings.{Settings}
 pub use Rattle.device.specs.declared.Asked.{Asked}
-pub use Rattle.frames.specs.declared.requests.Reading.{Reading}
-pub use Rattle.frames.specs.declared.responses.Answer.{Answer}
+pub use Rattle.request_reader.specs.declared.requests.Reading.{Reading}
+pub use Rattle.response_reader.specs.declared.responses.Answer.{Answer}
 pub use Rattle.sender.specs.declared.Written.{Written}
 pub use Rattle.conformance.specs.declared.Inputs.{Inputs}

@@ -10,7 +10,7 @@ use Rattle.messages.specs.declared.Response.{Response}
 use Rattle.frames.specs.Requests.{readRequest, readingNumber}
 use Rattle.frames.specs.Responses.{responseItem, statusAlone}
 use Rattle.frames.specs.Writing.{itemFrame, writingNumber}
-use Rattle.frames.specs.declared.requests.Reading.{Reading}
+use Rattle.request_reader.specs.declared.requests.Reading.{Reading}
 use Rattle.device.specs.Commands.{commandNumber, commandAfter, commandAnswer}
 use Rattle.kernel.specs.declared.frame_call.Framed.{Framed}
 

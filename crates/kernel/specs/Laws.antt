@@ -10,8 +10,8 @@ use Rattle.messages.specs.declared.Request.{Request}
 use Rattle.frames.specs.Requests.{servedCommand, readRequest}
 use Rattle.frames.specs.Responses.{statusAlone, readResponse}
 use Rattle.frames.specs.Sizes.{longestResponse}
-use Rattle.frames.specs.declared.requests.Reading.{Reading}
-use Rattle.frames.specs.declared.responses.Answer.{Answer}
+use Rattle.request_reader.specs.declared.requests.Reading.{Reading}
+use Rattle.response_reader.specs.declared.responses.Answer.{Answer}
 use Rattle.kernel.specs.Frame.{responseTo, responseFrame}
 
 -- the response to a request reads back as that response, for every content of the words

@@ -12,7 +12,7 @@ ghost use mathlib.Core.Path.{_≡_};
 ghost use lib.ListN.{length};
 ghost use Rattle.cbor.specs.Item.{payloadOf};
 ghost use Rattle.frames.specs.Requests.{fromPayload};
-ghost use Rattle.frames.specs.declared.requests.Reading.{Reading};
+ghost use Rattle.request_reader.specs.declared.requests.Reading.{Reading};
 ghost use Rattle.kernel.specs.Frame.{answerFrom, afterFrom, outFrom, frameAnswer, frameAfter, frameOut};
 
 // The answer to a frame: its number, and the length of the response frame that was written.

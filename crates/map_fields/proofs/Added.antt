@@ -12,7 +12,7 @@ use Rattle.cbor.specs.Head.{headBytes, headOf}
 use Rattle.cbor.specs.Item.{Item, encode, encodePairs, countPairs}
 use Rattle.cbor.proofs.Widths.{head-length, head-short}
 use Rattle.bytes.proofs.PutLaws.{put-whole, length-put}
-use Rattle.map_fields.specs.Fields.{Fields, present}
+use Rattle.map_fields.specs.Fields.{Fields, present, mapItem}
 use Rattle.map_fields.specs.Puts.{Adds, Puts, pairBytes, fieldBytes, pairsOf, pairRoom, putEach, pastEach, pairPieces, PutsField}
 
 adds-none : (s : List ℕ) (p n : ℕ) → Adds s p [] n s p
@@ -123,3 +123,12 @@ pairs-small none = omega arith
 
 pub fields-one : (k : ℕ) (o : Option Item) → encodePairs (present ((k, o) ∷ [])) ≡ fieldBytes k o
 fields-one k o = fields-more k o [] ∙ rw fields-none (append-nil (fieldBytes k o))
+
+-- a map under a key: the key and the head, then the pairs
+pub under-key : (k n : ℕ) (fs : Fields) → n ≡ countPairs (present fs) → pairBytes k 5 n ++ encodePairs (present fs) ≡ fieldBytes k (mapItem fs)
+unfolding pairBytes fieldBytes
+under-key k n fs e = rw (e, map-bytes fs) (append-assoc (headBytes 0 k) (headBytes 5 (countPairs (present fs))) (encodePairs (present fs)))
+
+-- one field
+pub one-count : (k n : ℕ) (o : Option Item) → n ≡ pairsOf o → n ≡ countPairs (present ((k, o) ∷ []))
+one-count k n o e = rw (count-more, count-none) (omega arith)

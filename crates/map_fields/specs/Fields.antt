@@ -128,3 +128,7 @@ withField k none ps = ps
 unfoldable pub present : Fields → Pairs
 present [] = Pairs.empty
 present (f ∷ fs) = withField (f .0) (f .1) (present fs)
+
+-- a map of the fields that are there
+abbrev pub mapItem : Fields → Option Item
+mapItem fs = some (Item.map (present fs))

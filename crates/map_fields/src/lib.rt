@@ -29,3 +29,8 @@ pub use truths::all4;
 pub use truths::all5;
 pub use truths::both;
 pub use truths::either;
+
+// The largest number of 32 bits, and the largest limit or setpoint.
+pub const MOST32: u64 = 4294967295;
+
+pub const MOST_VALUE: u64 = 9223372036854775807;

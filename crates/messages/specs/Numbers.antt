@@ -1,6 +1,7 @@
 -- Document 01's numbers for the cases of the messages' types.
 use Prim.Native.Nat.{ℕ}
-use mathlib.Core.Bool.{Bool, true, false}
+use mathlib.Core.Bool.{Bool, true, false, _&&_}
+use lib.Dec.{leb, eqb}
 use Rattle.messages.specs.declared.Command.{Command}
 use Rattle.messages.specs.declared.Command.the-variants.{SetLimit, ClearLimit, SetSetpoint, ClearSetpoint, SetCurrentLimits, ClearCurrentLimits, Unserved}
 
@@ -20,6 +21,16 @@ ENDPOINT = 1
 
 abbrev pub FEATURE : ℕ
 FEATURE = 5
+
+unfoldable pub servedAt : ℕ → ℕ → Bool
+servedAt endpoint feature = eqb endpoint ENDPOINT && eqb feature FEATURE
+
+-- "commands 1 to 6"
+abbrev pub commands : ℕ
+commands = 6
+
+unfoldable pub servedCommand : ℕ → Bool
+servedCommand c = leb 1 c && leb c commands
 
 -- the control states
 abbrev pub AUTONOMOUS : ℕ

@@ -1,12 +1,29 @@
 // Requests and responses as values: no bytes, no state.
 // Numbers are wider here than on the wire, so that what is out of range can be handed to a writer and refused by it.
 ghost use mathlib.Core.Path.{_≡_};
-ghost use Rattle.messages.specs.Numbers.{wireNumber};
+ghost use Rattle.messages.specs.Numbers.{wireNumber, servedCommand, servedAt};
 
 // The one endpoint and feature that are served.
 pub const ENDPOINT: u64 = 1;
 
 pub const FEATURE: u64 = 5;
+
+// The last of the commands that are served, from 1 on.
+pub const COMMANDS: u64 = 6;
+
+// Whether a command's number is served.
+pub fn is_command(c: u64) -> bool
+    ensures { λ r. ⌜ r ≡ servedCommand c ⌝ }
+{
+    1 <= c && c <= COMMANDS
+}
+
+// Whether it is the served endpoint and feature.
+pub fn is_served(endpoint: u64, feature: u64) -> bool
+    ensures { λ r. ⌜ r ≡ servedAt endpoint feature ⌝ }
+{
+    endpoint == ENDPOINT && feature == FEATURE
+}
 
 // A limit field: absent leaves that direction, null removes this zone's limit, a value sets it.
 pub enum Field {

@@ -15,7 +15,7 @@ use Rattle.device.specs.Calls.{joinNumber, joinAfter, leaveNumber, leaveAfter, 
 use Rattle.device.specs.Start.{startAfter}
 use Rattle.store.specs.declared.Settings.{Settings}
 use Rattle.frames.specs.Requests.{readRequest}
-use Rattle.frames.specs.Sizes.{payloadRoom}
+use Rattle.frames.specs.Sizes.{longestResponse}
 use Rattle.planner.specs.Plan.{planOf, rowSize, numbersOf, planNumber, planAfter}
 use Rattle.kernel.specs.Frame.{responseFrame, frameNumber, frameAfter}
 use Rattle.records.specs.Records.{recordAt}
@@ -124,9 +124,9 @@ unfoldable pub benchText : List ℕ → List ℕ
 benchText s = joined (script (startAfter benchSettings) s .pieces)
 
 -- ONE PIECE OF A SCRIPT, its answers on a page
--- room for the prefix and payload of every response, and for the rows of every plan
+-- room for every response, and for the rows of every plan
 abbrev pub frameRoom : ℕ
-frameRoom = 4 + payloadRoom
+frameRoom = longestResponse
 
 abbrev pub rowsRoom : ℕ
 rowsRoom = slots * helds * rowSize

@@ -26,7 +26,7 @@ use Rattle.map_fields.specs.Fields.{truth, mapIn, signed, needed, optional, amo
 use Rattle.frames.specs.Requests.{envelopeIn, servedCommand, servedAt, commandIn, fromEnvelope, fromPayload, readRequest}
 use Rattle.frames.specs.Settings.{settingIn, limitsFrom}
 use Rattle.frames.specs.Writing.{writingNumber}
-use Rattle.frames.specs.declared.requests.Reading.{Reading}
+use Rattle.request_reader.specs.declared.requests.Reading.{Reading}
 use Rattle.kernel.specs.Frame.{responseFrame, numberFrom, obeyedBy, frameNumber, frameAfter}
 use Rattle.store.specs.Zones.{upTo, first, any, idOf, rankOf, isJoined, isUp, slotOf, zoneOf, heldOf, anyJoined, anyUp}
 use Rattle.store.specs.Zones.{joined as joinedIn}

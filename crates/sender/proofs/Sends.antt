@@ -13,9 +13,11 @@ use borrow.Author.Tests.{le-leb, lt-leb, ne-eqb, leb-true, leb-false}
 use Rattle.bytes.specs.Bytes.{bytesOf, put, putWhole}
 use Rattle.bytes.proofs.NumberLaws.{bytes-length}
 use Rattle.bytes.proofs.PutLaws.{put-whole, put-put, length-put}
+use Rattle.cbor.specs.Item.{Item, encode}
+use Rattle.map_fields.specs.Puts.{Adds}
 use Rattle.messages.specs.Refusals.{firstOf}
 use Rattle.prefix.specs.Prefix.{frameOf}
-use Rattle.sender.specs.Writing.{writingNumber, refusedWith, writtenOf, leftBy}
+use Rattle.sender.specs.Writing.{itemFrame, writingNumber, refusedWith, writtenOf, leftBy}
 use Rattle.sender.specs.declared.Written.{Written}
 
 -- what a writer answers and leaves, as its contract says it
@@ -85,3 +87,9 @@ no-refusal m n bytes out left w e z h = subst (λ (k : ℕ). Writes k bytes out 
 
 pub a-refusal : (m n : ℕ) (bytes out : List ℕ) (w : Written) → m ≡ n → (m ≡ 0 → ⊥) → w ≡ refusedWith m → Writes n bytes out w out
 a-refusal m n bytes out w e z h = writes-refused bytes out n (λ q. z (e ∙ q)) w (h ∙ ap refusedWith e)
+
+-- a payload that was written from the front of a local buffer
+pub send-item : (i : Item) (room : ℕ) (buf local out left : List ℕ) (n : ℕ) (w : Written) → Adds buf 0 (encode i) room local n → Writes 0 (frameOf (take n local)) out w left
+    → Writes 0 (itemFrame i) out w left
+unfolding itemFrame
+send-item i room buf local out left n w a h = rw (← a .grows) h

@@ -1,0 +1,15 @@
+-- Field by field.
+use Rattle.request_reader.specs.Settings.{setpointsFrom}
+use borrow.Author.Needs.{needs}
+use Rattle.request_reader.proofs.settings.setpoints_from.Statement.{statement}
+use Rattle.request_reader.proofs.settings.setpoints_from.Tie as tie
+
+pub setpoints-from-spec : {M : Type 1} → statement M
+unfolding setpointsFrom
+setpoints-from-spec =
+    tie.close
+    (tie.spec
+    (λ c κs. search needs) (λ c κs. search needs) (λ c κs. search needs)
+    (λ c.
+    let at-target-of = c .before .before .target-of in
+    rw (at-target-of .ensures, c .before .target-of2 .ensures, c .duration-of .ensures)))

@@ -1,0 +1,66 @@
+// The parameters of a Set command as one shape, which SetLimit and SetSetpoint alike are read into.
+use messages::Amount;
+use messages::Field;
+use messages::Limits;
+use messages::Setpoints;
+use messages::Target;
+ghost use mathlib.Core.Path.{_≡_};
+ghost use Rattle.request_reader.specs.Settings.{durationOf, targetOf, limitsFrom, setpointsFrom};
+
+// The values, and apart from them the duration as it stands on the wire: what an omitted one means is the command's to say.
+pub struct Setting {
+    pub consumption: Field,
+    pub production: Field,
+    pub duration: Amount,
+    pub cause: u64,
+}
+
+// An omitted duration is 0.
+pub fn duration_of(a: Amount) -> u64
+    ensures { λ r. ⌜ r ≡ durationOf a ⌝ }
+{
+    match a {
+        Amount::Absent => 0,
+        Amount::Is(d) => d,
+    }
+}
+
+fn target_of(f: Field) -> Target
+    ensures { λ r. ⌜ r ≡ targetOf f ⌝ }
+{
+    match f {
+        Field::Absent => Target::Absent,
+        Field::Null => Target::Absent,
+        Field::Value(v) => Target::Value(v),
+    }
+}
+
+// What SetLimit makes of its parameters.
+pub fn limits_from(s: Setting) -> Limits
+    ensures { λ r. ⌜ r ≡ limitsFrom s ⌝ }
+{
+    let c = s.consumption;
+    let p = s.production;
+    let d = s.duration;
+    Limits {
+        consumption: c,
+        production: p,
+        duration: duration_of(d),
+        cause: s.cause,
+    }
+}
+
+// What SetSetpoint makes of its parameters, which have no null.
+pub fn setpoints_from(s: Setting) -> Setpoints
+    ensures { λ r. ⌜ r ≡ setpointsFrom s ⌝ }
+{
+    let c = s.consumption;
+    let p = s.production;
+    let d = s.duration;
+    Setpoints {
+        consumption: target_of(c),
+        production: target_of(p),
+        duration: duration_of(d),
+        cause: s.cause,
+    }
+}
