@@ -3,9 +3,9 @@ use Prim.Native.Nat.{ℕ, _+_, _*_}
 use mathlib.Core.Bool.{Bool, cond, not, _&&_, _||_}
 use mathlib.Core.List.{List, [], _∷_}
 use lib.Dec.{ltb, leb, eqb}
-use lib.ListN.{set, replicate}
-use lib.IntN.{negsuc}
-use Rattle.store.specs.Sizes.{slots, values}
+use lib.ListN.{set}
+use lib.IntN.{ℤ}
+use Rattle.store.specs.Sizes.{slots}
 use Rattle.store.specs.Zones.{freeZone, newZone, linked, slotOf, joined, zoneOf}
 use Rattle.store.specs.Words.{clockOf, sinceOf, overrideOf, settingsOf, zonesOf, headChange, after}
 use Rattle.holds.specs.Links.{sinceAfter}
@@ -14,7 +14,6 @@ use Rattle.rules.specs.Rules.{badJoin, goTogether}
 use Rattle.device.specs.Refusals.{firstOf, late}
 use Rattle.store.specs.declared.Zone.{Zone}
 use Rattle.store.specs.declared.Change.{Change}
-use Rattle.device.specs.declared.Asked.{Asked}
 
 -- a change of slot i alone, at t
 unfoldable pub zoneChange : List ℕ → ℕ → ℕ → Zone → Change
@@ -80,17 +79,16 @@ clearNumber ws t = firstOf (clearTests (clockOf ws) (overrideOf ws) t)
 unfoldable pub clearAfter : List ℕ → ℕ → List ℕ
 clearAfter ws t = after ws (clearNumber ws t) (headChange ws t 0)
 
--- ask at t: the eleven values at t; "Beside a refusal, values are -1"
-abbrev pub askTests : ℕ → ℕ → List (Bool × ℕ)
-askTests clock t = (late clock t, 5) ∷ []
+-- "one call answers the values at the device's own last time and takes no time at all": the control state and the ten quantities
+unfoldable pub askAnswer : List ℕ → List ℤ
+askAnswer ws = valuesAt (situationOf ws) (clockOf ws)
 
-unfoldable pub askNumber : List ℕ → ℕ → ℕ
-askNumber ws t = firstOf (askTests (clockOf ws) t)
+-- "another only moves the clock to a given second"
+abbrev pub moveTests : ℕ → ℕ → List (Bool × ℕ)
+moveTests clock t = (late clock t, 5) ∷ []
 
-unfoldable pub askAnswer : List ℕ → ℕ → Asked
-askAnswer ws t =
-    record { number = askNumber ws t; values = cond (eqb (askNumber ws t) 0) (valuesAt (situationOf ws) t) (replicate values (negsuc 0)) }
+unfoldable pub moveNumber : List ℕ → ℕ → ℕ
+moveNumber ws t = firstOf (moveTests (clockOf ws) t)
 
--- "Every accepted call moves the clock to its time, asking included"
-unfoldable pub askAfter : List ℕ → ℕ → List ℕ
-askAfter ws t = after ws (askNumber ws t) (headChange ws t (overrideOf ws))
+unfoldable pub moveAfter : List ℕ → ℕ → List ℕ
+moveAfter ws t = after ws (moveNumber ws t) (headChange ws t (overrideOf ws))

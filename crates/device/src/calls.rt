@@ -1,4 +1,4 @@
-// The calls without a frame: start, join, leave, lost, back, override, clear, ask.
+// The calls without a frame: start, join, leave, lost, back, override, clear, ask, and the clock moved.
 ghost use mathlib.Core.Path.{_≡_};
 ghost use mathlib.Core.Bool.{true, false, cond};
 ghost use Prim.Native.Nat.{_<_};
@@ -7,9 +7,8 @@ ghost use Rattle.store.specs.Sizes.{ids};
 ghost use Rattle.store.specs.Zones.{freeZone, newZone, linked};
 ghost use Rattle.store.specs.Words.{sinceOf, zonesOf};
 ghost use Rattle.holds.specs.Links.{sinceAfter};
-ghost use Rattle.device.specs.Calls.{joinNumber, joinAfter, leaveNumber, leaveAfter, same, linkNumber, linkAfter, overrideWord, overrideNumber, overrideAfter, clearNumber, clearAfter, askAnswer, askAfter};
+ghost use Rattle.device.specs.Calls.{joinNumber, joinAfter, leaveNumber, leaveAfter, same, linkNumber, linkAfter, overrideWord, overrideNumber, overrideAfter, clearNumber, clearAfter, askAnswer, moveNumber, moveAfter};
 ghost use Rattle.device.specs.Start.{refusedSettings, startNumber, startAfter};
-use crate::Asked;
 use crate::Change;
 use crate::HELDS;
 use crate::Held;
@@ -222,22 +221,22 @@ pub fn clear_override(d: &mut State, t: u64) -> u64
     0
 }
 
-// What holds at t, without a frame: the clock moves, and nothing else.
-pub fn ask(d: &mut State, t: u64) -> Asked
-    ensures { λ r. ⌜ r ≡ askAnswer (now (d .entry)) t ⌝ }
-    ensures { λ _. ⌜ now (d .exit) ≡ askAfter (now (d .entry)) t ⌝ }
+// What holds at the device's own last time. The device is lent without the right to change it: nothing moves.
+pub fn ask(d: &State) -> [i64; VALUES]
+    ensures { λ r. ⌜ r ≡ askAnswer (now (d .entry)) ⌝ }
+{
+    holds::values_at(d, store::clock(d))
+}
+
+// Moves the clock to a second, and nothing else.
+pub fn move_clock(d: &mut State, t: u64) -> u64
+    ensures { λ r. ⌜ r ≡ moveNumber (now (d .entry)) t ⌝ }
+    ensures { λ _. ⌜ now (d .exit) ≡ moveAfter (now (d .entry)) t ⌝ }
 {
     if store::is_late(store::clock(d), t) {
-        return Asked {
-            number: 5,
-            values: [-1; VALUES],
-        };
+        return 5;
     }
-    let values = holds::values_at(d, t);
     let o = store::overridden(d);
     store::apply_head(d, t, o);
-    Asked {
-        number: 0,
-        values: values,
-    }
+    0
 }

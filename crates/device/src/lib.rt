@@ -14,13 +14,6 @@ pub use store::VALUES;
 pub use store::WORDS;
 pub use store::Zone;
 
-// The answer to an ask: the control state, then each quantity, -1 absent.
-#[repr(C)]
-pub struct Asked {
-    pub number: u64,
-    pub values: [i64; VALUES],
-}
-
 // A command's number, and the record that its zone would then have.
 pub struct Decision {
     pub number: u64,

@@ -1,4 +1,5 @@
 // The calls that a driver makes. It lends the device's words, a frame, room for the response and room for a plan's rows.
+// An ask and a plan are lent the words without the right to change them.
 //
 // Every call ends with an answer, for every content of what is lent, every zone number and every time. The answer
 // has a number: 0 where the call is accepted, else document 01's refusal. A refusal leaves the words as they were,
@@ -10,10 +11,11 @@
 // lost(d, zone, t), back(d, zone, t)    5, 9, 7
 // set_override(d, reason, direction, t) 5, 18
 // clear_override(d, t)                  5, 7
-// ask(d, t)                             5; the control state and the ten values at t, -1 absent
+// move_clock(d, t)                      5; the clock alone moves
+// ask(d)                                no refusal; the control state and the ten values at the device's last time, -1 absent
 // frame(d, zone, t, bytes, out)         1, 2, 3, 4, 5, 9 to 15; the response frame from the front of `out`
-// plan(d, t, rows)                      5, 15; rows of twelve numbers from the front of `rows`
-// plain_plan(d, rows)                   15; the same rows as records at the device's last time, made the slow way
+// plan(d, rows)                         15; rows of twelve numbers from the device's last time on, at the front of `rows`
+// plain_plan(d, rows)                   15; the same rows as records, made the slow way
 // plain_answer(d, room)                 15; its number and count alone, where there is room for so many records
 // first_record(d), next_record(d, last) its records one by one, for a caller who lends no slice
 // read_request, write_request           1, 2, 3, 4; 3, 4, 15; for the other side of the wire
@@ -24,7 +26,6 @@ mod frame_call; // frame_call.rt: bytes in, the device, bytes out
 pub use conformance::Answer as Reported;
 pub use conformance::Inputs;
 pub use conformance::report;
-pub use device::Asked;
 pub use device::MOST;
 pub use device::Settings;
 pub use device::State;
@@ -37,6 +38,7 @@ pub use device::calls::clear_override;
 pub use device::calls::join;
 pub use device::calls::leave;
 pub use device::calls::lost;
+pub use device::calls::move_clock;
 pub use device::calls::set_override;
 pub use device::calls::start;
 pub use frame_call::Framed;

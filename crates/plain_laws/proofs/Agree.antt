@@ -9,9 +9,8 @@ use native.Mathlib.Omega.{arith}
 use lib.Dec.{ltb, eqb}
 use lib.IntN.{ℤ, pos}
 use lib.ListN.{length}
-use borrow.Author.Tests.{lt-ltb, le-ltb, lt-leb}
+use borrow.Author.Tests.{lt-ltb, le-ltb}
 use Rattle.messages.specs.Refusals.{firstOf}
-use Rattle.store.specs.Times.{late}
 use Rattle.store.specs.Sizes.{end, slots}
 use Rattle.store.specs.Zones.{upTo}
 use Rattle.store.specs.Words.{clockOf}
@@ -20,7 +19,7 @@ use Rattle.store.proofs.Tests.{never}
 use Rattle.holds.specs.Holds.{Situation, situationOf, valuesAt}
 use Rattle.holds.proofs.Steady.{values-steady}
 use Rattle.planner.specs.Rows.{last, rowsOf, plan, Changes, Ascending, IsPlan}
-use Rattle.planner.specs.Plan.{planOf, rowSize, numbersOf, planNumber, planAnswer}
+use Rattle.planner.specs.Plan.{planOf, rowSize, numbersOf, rowsFrom, planNumber, planAnswer}
 use Rattle.planner.proofs.IsPlan.{planOf-only}
 use Rattle.planner.proofs.Answers.{numbers-length}
 use Rattle.plain_planner.specs.Same.{same}
@@ -128,8 +127,12 @@ module _ (s : Situation) (few : length (s .zones) ≤ slots) where
       ]
 
 -- THE LAWS
+plain-rows : (ws : List ℕ) → rowsNow ws ≡ planOf (situationOf ws) (clockOf ws)
+plain-rows ws = plain-plan (situationOf ws) (omega (arith, zones-length ws)) (clockOf ws)
+
 pub same-rows : SameRows
-same-rows ws = plain-plan (situationOf ws) (omega (arith, zones-length ws)) (clockOf ws)
+unfolding rowsFrom
+same-rows ws = plain-rows ws
 
 -- a record's fields are the row's numbers
 fields-values : (s : Situation) (t : ℕ) → fieldsOf (rowOf t (valuesAt s t)) ≡ pos t ∷ valuesAt s t
@@ -153,17 +156,13 @@ same-test room n =
       | no h ↦ le-ltb (room * rowSize) (n * rowSize) (omega arith) ∙ sym (le-ltb room n (omega arith))
     ]
 
-not-late : (t : ℕ) → t < end → late t t ≡ false
-unfolding late
-not-late t h = rw (le-ltb t t (omega arith), lt-leb end t h)
-
-number-is : (ws : List ℕ) (room : ℕ) → clockOf ws < end → planNumber ws (clockOf ws) (room * rowSize) ≡ cond (ltb room (length (rowsNow ws))) 15 0
-unfolding planNumber firstOf
-number-is ws room h = rw (not-late (clockOf ws) h, numbers-length (situationOf ws) (clockOf ws), same-test room (length (planOf (situationOf ws) (clockOf ws))), same-rows ws)
+number-is : (ws : List ℕ) (room : ℕ) → planNumber ws (room * rowSize) ≡ cond (ltb room (length (rowsNow ws))) 15 0
+unfolding planNumber firstOf rowsFrom
+number-is ws room = rw (numbers-length (situationOf ws) (clockOf ws), same-test room (length (planOf (situationOf ws) (clockOf ws))), plain-rows ws)
 
 pub same-answer : SameAnswer
-unfolding plainNumber plainAnswer planAnswer
-same-answer ws room h = (sym (number-is ws room h), rw (number-is ws room h, same-rows ws) (go (ltb room (length (planOf (situationOf ws) (clockOf ws))))))
+unfolding plainNumber plainAnswer planAnswer rowsFrom
+same-answer ws room = (sym (number-is ws room), rw (number-is ws room, plain-rows ws) (go (ltb room (length (planOf (situationOf ws) (clockOf ws))))))
   where
     go : (b : Bool) → cond b 0 (length (planOf (situationOf ws) (clockOf ws))) ≡ cond (eqb (cond b 15 0) 0) (length (planOf (situationOf ws) (clockOf ws))) 0
     go true = refl

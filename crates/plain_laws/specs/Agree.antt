@@ -1,18 +1,15 @@
 -- "Prove that its rows and the first planner's at that second are equal, field by field, in every state": of any content of the words.
-use Prim.Native.Nat.{ℕ, _*_, _<_}
+use Prim.Native.Nat.{ℕ, _*_}
 use mathlib.Core.Path.{_≡_}
 use mathlib.Core.List.{List, [], _∷_, _++_}
 use lib.IntN.{ℤ, pos}
-use Rattle.store.specs.Sizes.{end}
-use Rattle.store.specs.Words.{clockOf}
-use Rattle.holds.specs.Holds.{situationOf}
-use Rattle.planner.specs.Plan.{planOf, rowSize, numbersOf, planNumber, planAnswer}
+use Rattle.planner.specs.Plan.{rowSize, numbersOf, rowsFrom, planNumber, planAnswer}
 use Rattle.plain_planner.specs.Records.{rowsNow, recordsOf, plainNumber, plainAnswer}
 use Rattle.plain_planner.specs.declared.Row.{Row}
 
--- the rows are the first planner's at the device's last time
+-- the rows are the first planner's, from the device's last time on
 abbrev pub SameRows : Type 0
-SameRows = (ws : List ℕ) → rowsNow ws ≡ planOf (situationOf ws) (clockOf ws)
+SameRows = (ws : List ℕ) → rowsNow ws ≡ rowsFrom ws
 
 -- the twelve fields of a record, in the order of a row's numbers
 unfoldable pub fieldsOf : Row → List ℤ
@@ -26,10 +23,10 @@ allFields (r ∷ rs) = fieldsOf r ++ allFields rs
 
 -- and field by field each record is the row's numbers
 abbrev pub SameFields : Type 0
-SameFields = (ws : List ℕ) → allFields (recordsOf (rowsNow ws)) ≡ numbersOf (planOf (situationOf ws) (clockOf ws))
+SameFields = (ws : List ℕ) → allFields (recordsOf (rowsNow ws)) ≡ numbersOf (rowsFrom ws)
 
--- with as much room both refuse, or neither, and count the same; a clock past the end of time, which no history makes, is late for the first
+-- with as much room both refuse, or neither, and count the same
 abbrev pub SameAnswer : Type 0
 SameAnswer =
-    (ws : List ℕ) (room : ℕ) → clockOf ws < end
-    → (plainNumber ws room ≡ planNumber ws (clockOf ws) (room * rowSize)) × (plainAnswer ws room .count ≡ planAnswer ws (clockOf ws) (room * rowSize) .count)
+    (ws : List ℕ) (room : ℕ)
+    → (plainNumber ws room ≡ planNumber ws (room * rowSize)) × (plainAnswer ws room .count ≡ planAnswer ws (room * rowSize) .count)

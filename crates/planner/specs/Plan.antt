@@ -1,4 +1,4 @@
--- The call `plan`: its number, its answer, and what it leaves in the device and in the lent slice.
+-- The call `plan`: its number, its answer, and what it leaves in the lent slice. The device is lent without the right to change it.
 use Prim.Native.Nat.{ℕ, _+_}
 use mathlib.Core.Bool.{Bool, cond}
 use mathlib.Core.List.{List, [], _∷_, _++_}
@@ -6,11 +6,9 @@ use lib.Dec.{ltb, eqb}
 use lib.IntN.{ℤ, pos}
 use lib.ListN.{length, drop}
 use Rattle.store.specs.Sizes.{values}
-use Rattle.store.specs.Words.{clockOf, overrideOf, after}
+use Rattle.store.specs.Words.{clockOf}
 use Rattle.holds.specs.Holds.{Situation, situationOf, valuesAt}
 use Rattle.messages.specs.Refusals.{firstOf}
-use Rattle.store.specs.Times.{late}
-use Rattle.store.specs.Words.{headChange}
 use Rattle.planner.specs.Rows.{plan}
 use Rattle.planner.specs.declared.Planned.{Planned}
 
@@ -26,26 +24,25 @@ unfoldable pub numbersOf : List (ℕ × List ℤ) → List ℤ
 numbersOf [] = []
 numbersOf (r ∷ rs) = (pos (r .0) ∷ r .1) ++ numbersOf rs
 
--- plan at t into a slice with room for so many numbers: 15 where the rows are longer
-abbrev pub planTests : ℕ → List (ℕ × List ℤ) → ℕ → ℕ → List (Bool × ℕ)
-planTests clock rows t room = (late clock t, 5) ∷ (ltb room (length (numbersOf rows)), 15) ∷ []
+-- the rows from the device's own time on: "The plan too starts from the device's own time"
+unfoldable pub rowsFrom : List ℕ → List (ℕ × List ℤ)
+rowsFrom ws = planOf (situationOf ws) (clockOf ws)
 
-unfoldable pub planNumber : List ℕ → ℕ → ℕ → ℕ
-planNumber ws t room = firstOf (planTests (clockOf ws) (planOf (situationOf ws) t) t room)
+-- into a slice with room for so many numbers: 15 where the rows are longer, and no other refusal
+abbrev pub planTests : List (ℕ × List ℤ) → ℕ → List (Bool × ℕ)
+planTests rows room = (ltb room (length (numbersOf rows)), 15) ∷ []
+
+unfoldable pub planNumber : List ℕ → ℕ → ℕ
+planNumber ws room = firstOf (planTests (rowsFrom ws) room)
 
 -- the number, and how many rows; "Beside a refusal, .. counts 0"
-unfoldable pub planAnswer : List ℕ → ℕ → ℕ → Planned
-planAnswer ws t room =
-    record { number = planNumber ws t room; count = cond (eqb (planNumber ws t room) 0) (length (planOf (situationOf ws) t)) 0 }
-
--- "Every accepted call moves the clock to its time"
-unfoldable pub planAfter : List ℕ → ℕ → ℕ → List ℕ
-planAfter ws t room = after ws (planNumber ws t room) (headChange ws t (overrideOf ws))
+unfoldable pub planAnswer : List ℕ → ℕ → Planned
+planAnswer ws room = record { number = planNumber ws room; count = cond (eqb (planNumber ws room) 0) (length (rowsFrom ws)) 0 }
 
 -- numbers from the front of a slice, which past them stays as it was
 unfoldable pub front : List ℤ → List ℤ → List ℤ
 front ns old = ns ++ drop (length ns) old
 
 -- the slice: the rows from the front, or as it was where the call is refused
-unfoldable pub planSlice : List ℕ → ℕ → List ℤ → List ℤ
-planSlice ws t old = cond (eqb (planNumber ws t (length old)) 0) (front (numbersOf (planOf (situationOf ws) t)) old) old
+unfoldable pub planSlice : List ℕ → List ℤ → List ℤ
+planSlice ws old = cond (eqb (planNumber ws (length old)) 0) (front (numbersOf (rowsFrom ws)) old) old

@@ -5,46 +5,19 @@ mod rows;
 pub use rows::PLAN;
 pub use rows::ROW;
 use store::State;
-use store::apply_head;
 use store::clock;
-use store::is_late;
-use store::overridden;
 ghost use mathlib.Core.Path.{_≡_};
 ghost use Prim.Native.Nat.{_*_};
 ghost use lib.Dec.{leb};
 ghost use lib.ListN.{length};
-ghost use Rattle.store.specs.Words.{overrideOf, applied};
-ghost use Rattle.store.specs.Words.{headChange};
 ghost use Rattle.holds.specs.Holds.{situationOf};
-ghost use Rattle.planner.specs.Plan.{planOf, rowSize, planAnswer, planAfter, planSlice};
+ghost use Rattle.planner.specs.Plan.{planOf, rowSize, planAnswer, planSlice};
 
 // The answer to a plan: its number, and the count of rows written.
 #[repr(C)]
 pub struct Planned {
     pub number: u64,
     pub count: u64,
-}
-
-fn refused(number: u64) -> Planned
-    ensures { λ r. ⌜ r ≡ record { number = number; count = 0 } ⌝ }
-{
-    Planned {
-        number: number,
-        count: 0,
-    }
-}
-
-// A plan that is accepted, its rows written.
-fn done(d: &mut State, t: u64, count: usize) -> Planned
-    ensures { λ r. ⌜ r ≡ record { number = 0; count = count } ⌝ }
-    ensures { λ _. ⌜ now (d .exit) ≡ applied (now (d .entry)) (headChange (now (d .entry)) t (overrideOf (now (d .entry)))) ⌝ }
-{
-    let o = overridden(d);
-    apply_head(d, t, o);
-    Planned {
-        number: 0,
-        count: count as u64,
-    }
 }
 
 // Whether the rows have room. They are counted only where not every plan would have it.
@@ -57,18 +30,22 @@ fn has_room(d: &State, t: u64, room: usize) -> bool
     true
 }
 
-// The rows go straight into the lent slice: that they have room is known before the first is written.
-pub fn plan(d: &mut State, t: u64, rows: &mut [i64]) -> Planned
-    ensures { λ r. ⌜ r ≡ planAnswer (now (d .entry)) t (length (now (rows .entry))) ⌝ }
-    ensures { λ _. ⌜ now (d .exit) ≡ planAfter (now (d .entry)) t (length (now (rows .entry))) ⌝ }
-    ensures { λ _. ⌜ now (rows .exit) ≡ planSlice (now (d .entry)) t (now (rows .entry)) ⌝ }
+// The rows go straight into the lent slice: that they have room is known before the first is written. The device is
+// lent without the right to change it: nothing moves.
+pub fn plan(d: &State, rows: &mut [i64]) -> Planned
+    ensures { λ r. ⌜ r ≡ planAnswer (now (d .entry)) (length (now (rows .entry))) ⌝ }
+    ensures { λ _. ⌜ now (rows .exit) ≡ planSlice (now (d .entry)) (now (rows .entry)) ⌝ }
 {
-    if is_late(clock(d), t) {
-        return refused(5);
+    let t = clock(d);
+    if has_room(d, t, rows.len()) {
+        let count = rows::find(d, t, rows);
+        return Planned {
+            number: 0,
+            count: count as u64,
+        };
     }
-    if !has_room(d, t, rows.len()) {
-        return refused(15);
+    Planned {
+        number: 15,
+        count: 0,
     }
-    let count = rows::find(d, t, rows);
-    done(d, t, count)
 }

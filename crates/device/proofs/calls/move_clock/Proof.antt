@@ -1,0 +1,17 @@
+-- Late is refused; else the clock alone moves, and the override stays.
+use native.Mathlib.Omega.{arith}
+use Rattle.device.specs.Refusals.{firstOf}
+use Rattle.device.specs.Calls.{moveNumber, moveAfter}
+use Rattle.store.proofs.Answered.{refused, accepted, timed}
+use Rattle.device.proofs.calls.move_clock.Statement.{statement}
+use Rattle.device.proofs.calls.move_clock.Tie as tie
+
+pub move-clock-spec : {M : Type 1} → statement M
+unfolding moveNumber moveAfter firstOf
+move-clock-spec =
+    tie.close
+    (tie.spec
+    (λ c κs. tt) (λ c κs. tt)
+    (λ c. refused _ 5 _ _ (rw (timed _ _ _ _ _ (c .before .before .clock .ensures) (c .before .is-late .ensures) (c .if1 .taken))) (λ e. omega arith))
+    (λ c κs. tt) (λ c κs. tt)
+    (λ c. accepted _ _ _ _ _ (rw (timed _ _ _ _ _ (c .before .before .before .before .before .before .clock .ensures) (c .before .before .before .before .before .is-late .ensures) (c .before .before .before .before .if1 .left))) (c .apply-head .ensures) (rw (c .before .before .overridden .ensures))))
