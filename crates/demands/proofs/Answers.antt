@@ -18,13 +18,12 @@ use Rattle.store.specs.Zones.{any, joined, zoneOf}
 use Rattle.store.specs.Sizes.{words}
 use Rattle.store.specs.Words.{clockOf, overrideOf, settingsOf, zonesOf, after}
 use Rattle.device.specs.Refusals.{firstOf, Numbered}
-use Rattle.device.specs.Calls.{zoneChange, joinNumber, joinAfter, leaveNumber, leaveAfter, linkNumber, linkAfter, overrideNumber, overrideAfter, clearNumber, clearAfter, askNumber, askAfter}
+use Rattle.device.specs.Calls.{zoneChange, joinNumber, joinAfter, leaveNumber, leaveAfter, linkNumber, linkAfter, overrideNumber, overrideAfter, clearNumber, clearAfter, moveNumber, moveAfter}
 use Rattle.store.specs.Words.{headChange}
 use Rattle.device.specs.Commands.{commandTests, commandNumber, commandAfter}
 use Rattle.store.proofs.Effects.{applied-clock}
-use Rattle.planner.specs.Plan.{planNumber, planAfter}
 use Rattle.kernel.specs.Frame.{responseFrame, numberFrom, frameNumber, obeyedBy, frameAfter}
-use Rattle.demands.specs.Run.{Call, join, leave, lost, back, override, clear, ask, plan, frame, number, next}
+use Rattle.demands.specs.Run.{Call, join, leave, lost, back, override, clear, move, frame, number, next}
 use Rattle.demands.specs.Tests.{readTests, obeyTests, frameTests, tests}
 use Rattle.demands.specs.Answers.{timeOf, Answers}
 use Rattle.demands.proofs.FirstTests.{each, first-append, by-tests}
@@ -53,15 +52,14 @@ module _ (ws : List ℕ) (z t room : ℕ) where
 
 -- EVERY CALL
 first-same : (ws : List ℕ) (c : Call) → number ws c ≡ firstOf (tests ws c)
-unfolding number tests joinNumber leaveNumber linkNumber overrideNumber clearNumber askNumber planNumber
+unfolding number tests joinNumber leaveNumber linkNumber overrideNumber clearNumber moveNumber
 first-same ws (join z k t) = refl
 first-same ws (leave z t) = refl
 first-same ws (lost z t) = refl
 first-same ws (back z t) = refl
 first-same ws (override r d t) = refl
 first-same ws (clear t) = refl
-first-same ws (ask t) = refl
-first-same ws (plan t room) = refl
+first-same ws (move t) = refl
 first-same ws (frame z t bytes room) = sym (frame-first ws z t room bytes)
 
 after-refused : (ws : List ℕ) (n : ℕ) (c : Change) → n ≢ 0 → after ws n c ≡ ws
@@ -69,18 +67,17 @@ unfolding after
 after-refused ws n c p = rw (ne-eqb n 0 p)
 
 refused-same : (ws : List ℕ) (c : Call) → number ws c ≢ 0 → next ws c ≡ ws
-unfolding number next joinAfter leaveAfter linkAfter overrideAfter clearAfter askAfter planAfter frameAfter
+unfolding number next joinAfter leaveAfter linkAfter overrideAfter clearAfter moveAfter frameAfter
 refused-same ws (join z k t) p = after-refused ws (joinNumber ws z k t) _ p
 refused-same ws (leave z t) p = after-refused ws (leaveNumber ws z t) _ p
 refused-same ws (lost z t) p = after-refused ws (linkNumber ws z false t) _ p
 refused-same ws (back z t) p = after-refused ws (linkNumber ws z true t) _ p
 refused-same ws (override r d t) p = after-refused ws (overrideNumber ws r d t) _ p
 refused-same ws (clear t) p = after-refused ws (clearNumber ws t) _ p
-refused-same ws (ask t) p = after-refused ws (askNumber ws t) _ p
-refused-same ws (plan t room) p = after-refused ws (planNumber ws t room) _ p
+refused-same ws (move t) p = after-refused ws (moveNumber ws t) _ p
 refused-same ws (frame z t bytes room) p = unfold frameNumber in rw (ne-eqb (numberFrom ws z t (readRequest bytes) room) 0 p)
 
-after-clock : (ws : List ℕ) (n : ℕ) (c : Change) → n ≡ 0 → length ws ≡ words → clockOf (after ws n c) ≡ c .time
+pub after-clock : (ws : List ℕ) (n : ℕ) (c : Change) → n ≡ 0 → length ws ≡ words → clockOf (after ws n c) ≡ c .time
 unfolding after
 after-clock ws n c e k = rw e (applied-clock ws c k)
 
@@ -92,15 +89,14 @@ reading-clock ws z t room (Reading.Is r) p e k =
     after-clock ws (commandNumber ws z t (r .command)) _ (writes (commandNumber ws z t (r .command)) (responseFrame ws z t (Reading.Is r)) room e) k
 
 accepted-clock : (ws : List ℕ) (c : Call) → number ws c ≡ 0 → length ws ≡ words → clockOf (next ws c) ≡ timeOf c
-unfolding number next timeOf joinAfter leaveAfter linkAfter overrideAfter clearAfter askAfter planAfter zoneChange headChange
+unfolding number next timeOf joinAfter leaveAfter linkAfter overrideAfter clearAfter moveAfter zoneChange headChange
 accepted-clock ws (join z k t) e l = after-clock ws (joinNumber ws z k t) _ e l
 accepted-clock ws (leave z t) e l = after-clock ws (leaveNumber ws z t) _ e l
 accepted-clock ws (lost z t) e l = after-clock ws (linkNumber ws z false t) _ e l
 accepted-clock ws (back z t) e l = after-clock ws (linkNumber ws z true t) _ e l
 accepted-clock ws (override r d t) e l = after-clock ws (overrideNumber ws r d t) _ e l
 accepted-clock ws (clear t) e l = after-clock ws (clearNumber ws t) _ e l
-accepted-clock ws (ask t) e l = after-clock ws (askNumber ws t) _ e l
-accepted-clock ws (plan t room) e l = after-clock ws (planNumber ws t room) _ e l
+accepted-clock ws (move t) e l = after-clock ws (moveNumber ws t) _ e l
 accepted-clock ws (frame z t bytes room) e l = unfold frameAfter frameNumber in rw e (reading-clock ws z t room (readRequest bytes) (refuses bytes) e l)
 
 -- no test has the number 0
@@ -118,8 +114,7 @@ numbered ws (lost z t) = refl
 numbered ws (back z t) = refl
 numbered ws (override r d t) = refl
 numbered ws (clear t) = refl
-numbered ws (ask t) = refl
-numbered ws (plan t room) = refl
+numbered ws (move t) = refl
 numbered ws (frame z t bytes room) = obey-numbered ws z t room bytes (readRequest bytes)
 
 pub answers : (ws : List ℕ) (c : Call) → Answers ws c

@@ -2,13 +2,11 @@
 use mathlib.Core.Path.{_≡_, refl}
 use mathlib.Core.Logic.{_≢_}
 use mathlib.Core.List.{List, [], _∷_}
-use Prim.Native.Nat.{ℕ, _+_}
-use lib.IntN.{ℤ, negsuc}
-use lib.ListN.{length, replicate}
+use Prim.Native.Nat.{ℕ}
+use lib.IntN.{ℤ}
+use lib.ListN.{length}
 use borrow.Author.Tests.{ne-eqb}
 use Rattle.frames.specs.Writing.{writingNumber, writtenOf, leftBy}
-use Rattle.store.specs.Sizes.{helds}
-use Rattle.device.specs.Calls.{askNumber, askAnswer}
 use Rattle.store.specs.declared.Settings.{Settings}
 use Rattle.device.specs.Refusals
 use Rattle.store.specs.Zones.{any, joined, slotOf}
@@ -16,11 +14,11 @@ use Rattle.store.specs.Words.{zonesOf}
 use Rattle.rules.specs.Rules.{badSettings}
 use Rattle.device.specs.Start.{startNumber, startAfter}
 use Rattle.store.proofs.Effects.{fresh-settings, fresh-clock, fresh-override, fresh-zones}
-use Rattle.planner.specs.Plan.{planNumber, planAnswer, planSlice}
+use Rattle.planner.specs.Plan.{rowsFrom, planTests, planNumber, planAnswer, planSlice}
 use Rattle.conformance.specs.declared.Inputs.{Inputs}
 use Rattle.conformance.specs.Report.{numberOf, reportOf, pairsAfter}
 use Rattle.demands.specs.Accepted.{startedWith, InPairs}
-use Rattle.demands.specs.Answers.{Starts}
+use Rattle.demands.specs.Answers.{ByTests, Starts}
 use Rattle.demands.specs.Demands.{Demand1}
 use Rattle.demands.proofs.FirstTests.{by-tests}
 use Rattle.demands.proofs.Codecs.{reads-request, reads-response, writes-request, writes-response, reports}
@@ -28,13 +26,12 @@ use Rattle.demands.proofs.Reached.{nobody-fresh, started-pairs}
 use Rattle.demands.proofs.Answers.{answers}
 use Rattle.demands.proofs.Responses.{responds}
 
-no-values : (ws : List ℕ) (t : ℕ) → askNumber ws t ≢ 0 → askAnswer ws t .values ≡ replicate (1 + helds) (negsuc 0)
-unfolding askAnswer
-no-values ws t p = rw (ne-eqb (askNumber ws t) 0 p)
+plans : (ws : List ℕ) (room : ℕ) → ByTests (planNumber ws room) (planTests (rowsFrom ws) room)
+plans ws room = by-tests (planNumber ws room) (planTests (rowsFrom ws) room) (unfold planNumber in refl) (unfold any in refl)
 
-no-rows : (ws : List ℕ) (t : ℕ) (out : List ℤ) → planNumber ws t (length out) ≢ 0 → (planSlice ws t out ≡ out) × (planAnswer ws t (length out) .count ≡ 0)
+no-rows : (ws : List ℕ) (out : List ℤ) → planNumber ws (length out) ≢ 0 → (planSlice ws out ≡ out) × (planAnswer ws (length out) .count ≡ 0)
 unfolding planSlice planAnswer
-no-rows ws t out p = let e = ne-eqb (planNumber ws t (length out)) 0 p in (rw e, rw e)
+no-rows ws out p = let e = ne-eqb (planNumber ws (length out)) 0 p in (rw e, rw e)
 
 no-frame : (n : ℕ) (bytes out : List ℕ) → writingNumber n bytes (length out) ≢ 0 → (leftBy n bytes out ≡ out) × (writtenOf n bytes (length out) .length ≡ 0)
 unfolding leftBy writtenOf
@@ -61,13 +58,13 @@ pub demand-1 : Demand1
 demand-1 =
     record {
       calls = answers;
+      plans = plans;
       readRequests = reads-request;
       readResponses = reads-response;
       writeRequests = writes-request;
       writeResponses = writes-response;
       reports = reports;
       frame = λ ws z t bytes out. responds ws z t out bytes;
-      ask = no-values;
       plan = no-rows;
       write = no-frame;
       report = no-pairs;

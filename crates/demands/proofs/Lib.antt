@@ -15,6 +15,7 @@ pub mod Small
 pub mod Own
 pub mod Ranges
 pub mod Slots
+pub mod Moving
 pub mod Demand1
 pub mod Demand2
 pub mod Demand3

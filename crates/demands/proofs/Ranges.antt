@@ -23,7 +23,7 @@ use Rattle.holds.specs.Holds.{Claim, winner, amountOf, inFailsafe, smallestWith
 use Rattle.rules.specs.Rules.{badMaximum, badSettings}
 use Rattle.device.specs.Start.{refusedSettings}
 use Rattle.table_laws.proofs.Winner.{claim-there}
-use Rattle.demands.specs.Run.{Call, join, leave, lost, back, override, clear, ask, plan, frame}
+use Rattle.demands.specs.Run.{Call, join, leave, lost, back, override, clear, move, frame}
 use Rattle.demands.specs.History.{commands, Entry, Log, heldBy, zonesBy, situationBy}
 use Rattle.demands.specs.Accepted.{numberBy, kept, tells, entry, log, startedWith}
 use Rattle.demands.proofs.Small.{SmallCommand, SmallReading, small-reading, small-action}
@@ -50,8 +50,7 @@ entry-small z c (lost y t) e = absurd (let w : _≡_ {A = ℕ} 0 1 = cc in omega
 entry-small z c (back y t) e = absurd (let w : _≡_ {A = ℕ} 0 1 = cc in omega arith)
 entry-small z c (override r d t) e = absurd (let w : _≡_ {A = ℕ} 0 1 = cc in omega arith)
 entry-small z c (clear t) e = absurd (let w : _≡_ {A = ℕ} 0 1 = cc in omega arith)
-entry-small z c (ask t) e = absurd (let w : _≡_ {A = ℕ} 0 1 = cc in omega arith)
-entry-small z c (plan t room) e = absurd (let w : _≡_ {A = ℕ} 0 1 = cc in omega arith)
+entry-small z c (move t) e = absurd (let w : _≡_ {A = ℕ} 0 1 = cc in omega arith)
 entry-small z c (frame y t bytes room) e = tells-small z y c (readRequest bytes) (small-reading bytes) e
 
 log-small : (s : Settings) (calls : List Call) → Small (log s calls)

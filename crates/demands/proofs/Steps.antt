@@ -14,20 +14,20 @@ use Rattle.store.specs.Sizes.{slots}
 use Rattle.store.specs.Zones.{slotOf, joined, zoneOf, newZone, freeZone, linked}
 use Rattle.store.specs.Words.{clockOf, overrideOf, settingsOf, zonesOf, applied}
 use Rattle.device.specs.Refusals.{firstOf, late}
-use Rattle.device.specs.Calls.{zoneChange, joinTests, joinNumber, joinAfter, leaveTests, leaveNumber, leaveAfter, same, linkNumber, linkAfter, overrideNumber, overrideAfter, overrideWord, clearNumber, clearAfter, askNumber, askAfter}
+use Rattle.device.specs.Calls.{zoneChange, joinTests, joinNumber, joinAfter, leaveTests, leaveNumber, leaveAfter, same, linkNumber, linkAfter, overrideNumber, overrideAfter, overrideWord, clearNumber, clearAfter, moveNumber, moveAfter}
 use Rattle.rules.specs.Rules.{badJoin}
 use Rattle.store.specs.Words.{headChange}
 use Rattle.command.specs.Content.{isUnserved, contentTests}
 use Rattle.command.specs.Obeys.{obeyed}
 use Rattle.device.specs.Commands.{commandNumber, commandAfter, commandAnswer}
-use Rattle.planner.specs.Plan.{planOf, planNumber, planAfter}
+use Rattle.planner.specs.Plan.{planOf, rowsFrom, planNumber}
 use Rattle.frames.specs.Requests.{readRequest}
 use Rattle.frames.specs.Writing.{writingNumber}
 use Rattle.request_reader.specs.declared.requests.Reading.{Reading}
 use Rattle.kernel.specs.Frame.{responseTo, responseFrame, numberFrom, frameNumber, obeyedBy, frameAfter}
-use Rattle.demands.specs.Run.{Call, join, leave, lost, back, override, clear, ask, plan, frame, number, next}
+use Rattle.demands.specs.Run.{Call, join, leave, lost, back, override, clear, move, frame, number, next}
 use Rattle.demands.specs.History.{joins, leaves, links, commands, overrides, passes, Log, clockBy, overrideBy, joinedBy, upBy, recordBy, zonesBy}
-use Rattle.demands.specs.Accepted.{linkNumberBy, commandNumberBy, kept, outcomeBy, responseBy, responseFrameBy, numberFromBy, numberBy, tells, entry}
+use Rattle.demands.specs.Accepted.{rowsBy, planNumberBy, linkNumberBy, commandNumberBy, kept, outcomeBy, responseBy, responseFrameBy, numberFromBy, numberBy, tells, entry}
 use Rattle.demands.proofs.Readings.{refuses, writes}
 use Rattle.demands.proofs.Same.{found, joined-same}
 use Rattle.demands.proofs.Count.{full-same}
@@ -158,28 +158,34 @@ module _ (s : Settings) (ws : List ℕ) (h : Log) (a : Agree s ws h) where
       go false e = a
 
   -- EVERY CALL
+  pub rows-same : rowsFrom ws ≡ rowsBy s h
+  unfolding rowsFrom rowsBy planOf
+  rows-same = let v = fun-ext (agree-values s ws h a) in rw (a .clock, v)
+
+  pub plan-number-same : (room : ℕ) → planNumber ws room ≡ planNumberBy s h room
+  unfolding planNumber planNumberBy
+  plan-number-same room = rw rows-same
+
   pub number-same : (c : Call) → number ws c ≡ numberBy s h c
-  unfolding number numberBy overrideNumber clearNumber askNumber planNumber planOf frameNumber
+  unfolding number numberBy overrideNumber clearNumber moveNumber frameNumber
   number-same (join z k t) = join-number z k t
   number-same (leave z t) = leave-number z t
   number-same (lost z t) = link-number z false t
   number-same (back z t) = link-number z true t
   number-same (override r d t) = rw (a .clock, a .settings)
   number-same (clear t) = rw (a .clock, a .override)
-  number-same (ask t) = rw (a .clock)
-  number-same (plan t room) = let v = fun-ext (agree-values s ws h a) in rw (a .clock, v)
+  number-same (move t) = rw (a .clock)
   number-same (frame z t bytes room) = reading-number z t (readRequest bytes) room
 
   agree-call : (c : Call) → Agree s (next ws c) (kept (number ws c) (entry c) h)
-  unfolding number next entry joinAfter leaveAfter overrideAfter clearAfter askAfter planAfter frameNumber frameAfter
+  unfolding number next entry joinAfter leaveAfter overrideAfter clearAfter moveAfter frameNumber frameAfter
   agree-call (join z k t) = agree-after s ws h (joinNumber ws z k t) (zoneChange ws t (slotOf (zonesOf ws) 0) (newZone z k)) (t, joins z k) a (agree-join-call z k t)
   agree-call (leave z t) = agree-after s ws h (leaveNumber ws z t) (zoneChange ws t (slotOf (zonesOf ws) z) freeZone) (t, leaves z) a (λ e. agree-leave s ws h z t a (leave-there z t e))
   agree-call (lost z t) = agree-link-call z false t
   agree-call (back z t) = agree-link-call z true t
   agree-call (override r d t) = agree-after s ws h (overrideNumber ws r d t) (headChange ws t (overrideWord r d)) (t, overrides (overrideWord r d)) a (λ e. agree-override s ws h t (overrideWord r d) a)
   agree-call (clear t) = agree-after s ws h (clearNumber ws t) (headChange ws t 0) (t, overrides 0) a (λ e. agree-override s ws h t 0 a)
-  agree-call (ask t) = agree-after s ws h (askNumber ws t) (headChange ws t (overrideOf ws)) (t, passes) a (λ e. agree-passes s ws h t a)
-  agree-call (plan t room) = agree-after s ws h (planNumber ws t room) (headChange ws t (overrideOf ws)) (t, passes) a (λ e. agree-passes s ws h t a)
+  agree-call (move t) = agree-after s ws h (moveNumber ws t) (headChange ws t (overrideOf ws)) (t, passes) a (λ e. agree-passes s ws h t a)
   agree-call (frame z t bytes room) = agree-reading z t (readRequest bytes) room (refuses bytes)
 
   pub agree-next : (c : Call) → Agree s (next ws c) (kept (numberBy s h c) (entry c) h)

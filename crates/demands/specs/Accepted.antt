@@ -4,6 +4,7 @@ use mathlib.Core.Path.{_≡_}
 use mathlib.Core.Bool.{Bool, true, false, cond}
 use mathlib.Core.List.{List, [], _∷_}
 use lib.Dec.{leb, eqb}
+use lib.IntN.{ℤ}
 use lib.ListN.{length}
 use Rattle.messages.specs.declared.Command.{Command}
 use Rattle.messages.specs.declared.Outcome.{Outcome}
@@ -12,7 +13,7 @@ use Rattle.messages.specs.declared.Response.{Response}
 use Rattle.store.specs.declared.Settings.{Settings}
 use Rattle.holds.specs.Holds.{Situation, valuesAt}
 use Rattle.messages.specs.Refusals.{firstOf}
-use Rattle.device.specs.Calls.{joinTests, leaveTests, linkTests, overrideTests, overrideWord, clearTests, askTests}
+use Rattle.device.specs.Calls.{joinTests, leaveTests, linkTests, overrideTests, overrideWord, clearTests, moveTests}
 use Rattle.device.specs.Commands.{commandTests}
 use Rattle.command.specs.Outcomes.{isCapped, outcomeWith}
 use Rattle.rules.specs.Rules.{badSettings}
@@ -22,7 +23,7 @@ use Rattle.frames.specs.Requests.{readRequest}
 use Rattle.frames.specs.Responses.{responseItem, statusAlone}
 use Rattle.frames.specs.Writing.{itemFrame, writingNumber}
 use Rattle.request_reader.specs.declared.requests.Reading.{Reading}
-use Rattle.demands.specs.Run.{Call, join, leave, lost, back, override, clear, ask, plan, frame}
+use Rattle.demands.specs.Run.{Call, join, leave, lost, back, override, clear, move, frame}
 use Rattle.demands.specs.History.{Told, joins, leaves, links, commands, overrides, passes, Entry, Log, clockBy, overrideBy, joinedBy, upBy, zonesBy, situationBy}
 
 -- THE NUMBERS: the tests of the device's calls, with the history's answers
@@ -63,9 +64,15 @@ numberBy s h (lost z t) = linkNumberBy h z false t
 numberBy s h (back z t) = linkNumberBy h z true t
 numberBy s h (override r d t) = firstOf (overrideTests (clockBy h) (s .manager) r d t)
 numberBy s h (clear t) = firstOf (clearTests (clockBy h) (overrideBy h) t)
-numberBy s h (ask t) = firstOf (askTests (clockBy h) t)
-numberBy s h (plan t room) = firstOf (planTests (clockBy h) (planOf (situationBy s h) t) t room)
+numberBy s h (move t) = firstOf (moveTests (clockBy h) t)
 numberBy s h (frame z t bytes room) = numberFromBy s h z t (readRequest bytes) room
+
+-- a plan is no call of the history: its rows, and whether they fit, follow from what the history tells at its last time
+unfoldable pub rowsBy : Settings → Log → List (ℕ × List ℤ)
+rowsBy s h = planOf (situationBy s h) (clockBy h)
+
+unfoldable pub planNumberBy : Settings → Log → ℕ → ℕ
+planNumberBy s h room = firstOf (planTests (rowsBy s h) room)
 
 -- what a frame tells is its command; one that reads as none is never accepted
 unfoldable pub tells : ℕ → Reading → Told
@@ -80,8 +87,7 @@ entry (lost z t) = (t, links z false)
 entry (back z t) = (t, links z true)
 entry (override r d t) = (t, overrides (overrideWord r d))
 entry (clear t) = (t, overrides 0)
-entry (ask t) = (t, passes)
-entry (plan t room) = (t, passes)
+entry (move t) = (t, passes)
 entry (frame z t bytes room) = (t, tells z (readRequest bytes))
 
 -- the accepted calls, from the history alone

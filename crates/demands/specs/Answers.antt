@@ -21,7 +21,7 @@ use Rattle.rules.specs.Rules.{badSettings}
 use Rattle.device.specs.Start.{startNumber, startAfter}
 use Rattle.command.specs.Outcomes.{isCapped, outcomeWith}
 use Rattle.device.specs.Commands.{commandNumber, commandAfter}
-use Rattle.demands.specs.Run.{Call, join, leave, lost, back, override, clear, ask, plan, frame, number, next}
+use Rattle.demands.specs.Run.{Call, join, leave, lost, back, override, clear, move, frame, number, next}
 use Rattle.demands.specs.Accepted.{startedWith}
 use Rattle.demands.specs.Tests.{tests}
 
@@ -39,8 +39,7 @@ timeOf (lost z t) = t
 timeOf (back z t) = t
 timeOf (override r d t) = t
 timeOf (clear t) = t
-timeOf (ask t) = t
-timeOf (plan t room) = t
+timeOf (move t) = t
 timeOf (frame z t bytes room) = t
 
 -- a call to a device in any state

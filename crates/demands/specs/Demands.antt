@@ -1,12 +1,12 @@
 -- THE TENDER'S THREE DEMANDS, over the definitions that the contracts of the calls cite. Proved in proofs/Demand1, Demand2 and Demand3.
-use Prim.Native.Nat.{ℕ, _+_, _≤_, _<_}
+use Prim.Native.Nat.{ℕ, _≤_, _<_}
 use mathlib.Core.Path.{_≡_}
 use mathlib.Core.Logic.{_≢_}
 use mathlib.Core.Bool.{true}
 use mathlib.Core.List.{List, _++_}
 use mathlib.Core.Option.{some}
-use lib.IntN.{ℤ, pos, negsuc}
-use lib.ListN.{length, replicate, drop}
+use lib.IntN.{ℤ, pos}
+use lib.ListN.{length, drop}
 use Rattle.bytes.specs.Bytes.{putWhole}
 use Rattle.cbor_laws.specs.Laws.{PayloadExact, OneItem}
 use Rattle.messages.specs.declared.Amount.the-variants.{Is}
@@ -25,26 +25,29 @@ use Rattle.store.specs.Zones.{idOf, rankOf}
 use Rattle.holds.specs.Holds.{Situation, situationOf, valueAt, shown, valuesAt}
 use Rattle.table_laws.specs.Table.{Table}
 use Rattle.call_laws.specs.Expiry.{Expiry}
-use Rattle.device.specs.Calls.{askNumber, askAnswer}
+use Rattle.device.specs.Calls.{askAnswer}
 use Rattle.planner.specs.Rows.{IsPlan}
-use Rattle.planner.specs.Plan.{numbersOf, front, planNumber, planAnswer, planSlice}
+use Rattle.planner.specs.Plan.{numbersOf, front, rowsFrom, planTests, planNumber, planAnswer, planSlice}
 use Rattle.kernel.specs.Frame.{frameNumber, frameAnswer, frameOut}
 use Rattle.conformance.specs.declared.Inputs.{Inputs}
 use Rattle.conformance.specs.Rules.{breaches}
 use Rattle.conformance.specs.Report.{numberOf, reportOf, flat, pairsAfter}
 use Rattle.conformance.specs.Statements.{Exact, Ordered}
 use Rattle.demands.specs.Run.{Call, number, run}
-use Rattle.demands.specs.History.{newest, saysRank, joinedBy, recordBy}
-use Rattle.demands.specs.Accepted.{numberBy, responseFrameBy, startedWith, InPairs, history, told}
+use Rattle.demands.specs.History.{newest, saysRank, clockBy, joinedBy, recordBy}
+use Rattle.demands.specs.Accepted.{numberBy, planNumberBy, responseFrameBy, startedWith, InPairs, history, told}
 use Rattle.demands.specs.Tests.{envelopeOf, readTests, answerTests, writeRequestTests, writeResponseTests, reportTests}
 use Rattle.demands.specs.Answers.{ByTests, Answers, Starts, Written, Responds, Determined}
 use Rattle.demands.specs.ReleasedSlot.{ReleasedSlot}
+use Rattle.demands.specs.Moving.{Moving}
 
 -- DEMAND 1
 -- "Every call ends with an answer, for every frame, time, zone number and state": each contract gives its call's answer for all inputs, and asks for nothing.
 pub record Demand1 : Type 0 where
   -- "A refusal carries the number that the table in document 01 gives for that case, and is not given otherwise. It changes neither state nor clock"
   pub calls : (device : List ℕ) (c : Call) → Answers device c
+  -- a plan, which can change no device, is refused with 15 alone; an ask has no refusal: its contract gives values, and no number
+  pub plans : (device : List ℕ) (room : ℕ) → ByTests (planNumber device room) (planTests (rowsFrom device) room)
   -- the calls that are lent no device: requests and responses read and written, the report
   pub readRequests : (bytes : List ℕ) → ByTests (readingNumber (readRequest bytes)) (readTests bytes)
   pub readResponses : (command : ℕ) (bytes : List ℕ) → ByTests (answerNumber (readResponse command bytes)) (answerTests command bytes)
@@ -55,10 +58,9 @@ pub record Demand1 : Type 0 where
   -- ".. and writes nothing except the response frame where the table allows one"
   pub frame : (device : List ℕ) (z t : ℕ) (bytes out : List ℕ)
       → Responds (frameNumber device z t bytes (length out)) out (frameOut device z t bytes out) (frameAnswer device z t bytes (length out) .length)
-  -- "Beside a refusal, values are -1 and counts 0"
-  pub ask : (device : List ℕ) (t : ℕ) → askNumber device t ≢ 0 → askAnswer device t .values ≡ replicate (1 + helds) (negsuc 0)
-  pub plan : (device : List ℕ) (t : ℕ) (out : List ℤ) → planNumber device t (length out) ≢ 0
-      → (planSlice device t out ≡ out) × (planAnswer device t (length out) .count ≡ 0)
+  -- "Beside a refusal, .. counts 0"
+  pub plan : (device : List ℕ) (out : List ℤ) → planNumber device (length out) ≢ 0
+      → (planSlice device out ≡ out) × (planAnswer device (length out) .count ≡ 0)
   pub write : (n : ℕ) (frame out : List ℕ) → writingNumber n frame (length out) ≢ 0
       → (leftBy n frame out ≡ out) × (writtenOf n frame (length out) .length ≡ 0)
   pub report : (i : Inputs) (attributes out : List ℕ) → numberOf i attributes (length out) ≢ 0
@@ -119,16 +121,19 @@ pub record Lists (f : ℕ → List ℤ) (now : ℕ) (before after : List ℤ) (c
 -- the device that calls lead to, beside what the history of those calls tells
 pub record FromHistory (s : Settings) (calls : List Call) : Type 0 where
   -- "a plan that fits its buffer lists every later second the clock can show at which the control state, a limit or a setpoint would change"
-  pub plan : (t : ℕ) (out : List ℤ) → planNumber (run s calls) t (length out) ≡ 0
-      → Lists (valuesAt (told s calls)) t out (planSlice (run s calls) t out) (planAnswer (run s calls) t (length out) .count)
+  pub plan : (out : List ℤ) → planNumber (run s calls) (length out) ≡ 0
+      → Lists (valuesAt (told s calls)) (clockBy (history s calls)) out (planSlice (run s calls) out) (planAnswer (run s calls) (length out) .count)
+  -- ".. if only the clock moved": moved by its own call, it shows what the rows say
+  pub moving : Moving (run s calls)
   -- "Those values come from the history alone": the control state and all ten quantities, phase by phase too, at every second
   pub values : (t : ℕ) → valuesAt (situationOf (run s calls)) t ≡ valuesAt (told s calls) t
-  -- an accepted ask shows them
-  pub ask : (t : ℕ) → askNumber (run s calls) t ≡ 0 → askAnswer (run s calls) t .values ≡ valuesAt (told s calls) t
+  -- an ask shows them at the time of the last accepted call
+  pub ask : askAnswer (run s calls) ≡ valuesAt (told s calls) (clockBy (history s calls))
   -- a value that is there is shown as it is: none is as large as 2^63, so -1 is absent alone
   pub whole : (t q v : ℕ) → q < helds → valueAt (told s calls) t q ≡ Is v → shown (valueAt (told s calls) t q) ≡ pos v
   -- the number of each call and the response to each frame come from the history too
   pub numbers : (c : Call) → number (run s calls) c ≡ numberBy (startedWith s) (history s calls) c
+  pub planNumbers : (room : ℕ) → planNumber (run s calls) room ≡ planNumberBy (startedWith s) (history s calls) room
   pub responses : (z t : ℕ) (bytes out : List ℕ)
       → frameOut (run s calls) z t bytes out ≡ putWhole out 0 (responseFrameBy (startedWith s) (history s calls) z t (readRequest bytes))
   -- the record of a joined zone has its id and the rank that it joined with

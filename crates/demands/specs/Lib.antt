@@ -4,4 +4,5 @@ pub mod Accepted
 pub mod Tests
 pub mod Answers
 pub mod ReleasedSlot
+pub mod Moving
 pub mod Demands

@@ -19,16 +19,14 @@ use Rattle.request_reader.specs.declared.requests.Reading.{Reading}
 use Rattle.store.specs.Sizes.{slots}
 use Rattle.store.specs.Zones.{slotOf, joined, zoneOf}
 use Rattle.store.specs.Words.{clockOf, overrideOf, settingsOf, zonesOf}
-use Rattle.holds.specs.Holds.{situationOf}
-use Rattle.device.specs.Calls.{joinTests, leaveTests, linkTests, overrideTests, clearTests, askTests}
+use Rattle.device.specs.Calls.{joinTests, leaveTests, linkTests, overrideTests, clearTests, moveTests}
 use Rattle.device.specs.Commands.{commandTests}
-use Rattle.planner.specs.Plan.{planTests, planOf}
 use Rattle.kernel.specs.Frame.{responseFrame}
 use Rattle.conformance.specs.declared.Inputs.{Inputs}
 use Rattle.conformance.specs.Lists.{ascends}
 use Rattle.conformance.specs.Rules.{breaches}
 use Rattle.conformance.specs.Report.{inRange}
-use Rattle.demands.specs.Run.{Call, join, leave, lost, back, override, clear, ask, plan, frame}
+use Rattle.demands.specs.Run.{Call, join, leave, lost, back, override, clear, move, frame}
 
 -- WHAT A FRAME'S BYTES HAVE IN THEM: nothing where they are not sound so far
 unfoldable pub missing : {A : Type 0} → Option A → Bool
@@ -95,7 +93,7 @@ obeyTests ws z t room (Reading.Refused n) = []
 unfoldable pub frameTests : List ℕ → ℕ → ℕ → List ℕ → ℕ → List (Bool × ℕ)
 frameTests ws z t bytes room = readTests bytes ++ obeyTests ws z t room (readRequest bytes)
 
--- "For other device calls: 5, then 6, 18, 9, 7, 8, 15"
+-- "For other device calls: 5, then 6, 18, 9, 7, 8, 15"; 15 is for a plan, which is no call that moves a device
 unfoldable pub tests : List ℕ → Call → List (Bool × ℕ)
 tests ws (join z k t) = joinTests (clockOf ws) (joined (zonesOf ws) z) (leb slots (slotOf (zonesOf ws) 0)) z k t
 tests ws (leave z t) = leaveTests (clockOf ws) (joined (zonesOf ws) z) t
@@ -103,6 +101,5 @@ tests ws (lost z t) = linkTests (clockOf ws) (joined (zonesOf ws) z) (zoneOf (zo
 tests ws (back z t) = linkTests (clockOf ws) (joined (zonesOf ws) z) (zoneOf (zonesOf ws) z .up) true t
 tests ws (override r d t) = overrideTests (clockOf ws) (settingsOf ws .manager) r d t
 tests ws (clear t) = clearTests (clockOf ws) (overrideOf ws) t
-tests ws (ask t) = askTests (clockOf ws) t
-tests ws (plan t room) = planTests (clockOf ws) (planOf (situationOf ws) t) t room
+tests ws (move t) = moveTests (clockOf ws) t
 tests ws (frame z t bytes room) = frameTests ws z t bytes room

@@ -123,7 +123,7 @@ module _ (s : Situation) (few : length (s .zones) ≤ slots) where
   plain-plan now =
       elim (decLt last now) [
         | yes h ↦ plain-over now h
-        | no h ↦ planOf-only s now (omega arith) (plainRows s now) (plain-is now (omega arith))
+        | no h ↦ planOf-only s now (plainRows s now) (plain-is now (omega arith))
       ]
 
 -- THE LAWS

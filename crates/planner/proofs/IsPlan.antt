@@ -1,11 +1,14 @@
 -- The plan is in order, sound and whole, and no other list is.
 use Prim.Native.Nat.{ℕ, zero, suc, _+_, _-_, _<_, _≤_}
 use mathlib.Core.Path.{_≡_, refl, sym, ap, _∙_, subst}
+use mathlib.Core.Bool.{Bool, true, false}
 use mathlib.Core.Logic.{_⊎_, inl, inr, ⊎-elim, ite}
 use mathlib.Core.List.{List, [], _∷_, List·Memᴰ, List·Memᴰ·head, List·Memᴰ·tail, List·Memᴰ·cases-cons, List·Memᴰ·not-nil, List-discrete}
 use native.Mathlib.Decide.{ℕ-discrete}
 use native.Mathlib.Omega.{arith}
+use lib.Dec.{leb}
 use lib.IntN.{ℤ, ℤ-discrete}
+use borrow.Author.Tests.{leb-true, leb-false}
 use Rattle.holds.specs.Holds.{Situation, valuesAt}
 use Rattle.planner.specs.Plan.{planOf}
 use Rattle.planner.specs.Rows.{last, rowsOf, plan, Changes, Ascending, IsPlan}
@@ -14,7 +17,7 @@ abbrev Row : Type 0
 Row = ℕ × List ℤ
 
 -- every row of an ascending list lies past its start
-past : (a : ℕ) (rs : List Row) → Ascending a rs → (r : Row) → List·Memᴰ r rs → a < r .0
+pub past : (a : ℕ) (rs : List Row) → Ascending a rs → (r : Row) → List·Memᴰ r rs → a < r .0
 unfolding Ascending
 past a [] o r m = absurd (List·Memᴰ·not-nil m)
 past a (x ∷ rs) o r m =
@@ -97,15 +100,28 @@ module _ (f : ℕ → List ℤ) where
       go (no e) (yes q) later = List·Memᴰ·head (ap (λ (y : ℕ). (y, f y)) q)
       go (no e) (no q) later = List·Memᴰ·tail (later q)
 
+  -- past the last second there is no row, and no second to have one
+  none-after : (now : ℕ) → last < now → IsPlan f now (rowsOf f now 0)
+  unfolding rowsOf Ascending
+  none-after now h = record { ascending = tt; sound = λ r m. absurd (List·Memᴰ·not-nil m); whole = λ t a b c. absurd (omega arith) }
+
   -- the plan is one: ascending, sound and whole
-  pub plan-is : (now : ℕ) → now ≤ last → IsPlan f now (plan f now)
+  pub plan-is : (now : ℕ) → IsPlan f now (plan f now)
   unfolding plan
-  plan-is now h =
-      record {
-        ascending = rows-ascending (last - now) now;
-        sound = λ r m. let s = rows-sound (last - now) now r m in (omega arith, s .1, s .2);
-        whole = λ t a b c. rows-whole (last - now) now t a (omega arith) c;
-      }
+  plan-is now = go (leb now last) refl
+    where
+      go : (b : Bool) → leb now last ≡ b → IsPlan f now (rowsOf f now (last - now))
+      go true e =
+          let h = leb-true now last e in
+          record {
+            ascending = rows-ascending (last - now) now;
+            sound = λ r m. let s = rows-sound (last - now) now r m in (omega arith, s .1, s .2);
+            whole = λ t a b c. rows-whole (last - now) now t a (omega arith) c;
+          }
+      go false e =
+          let h = leb-false now last e in
+          let z : last - now ≡ 0 = omega arith in
+          subst (λ (n : ℕ). IsPlan f now (rowsOf f now n)) (sym z) (none-after now h)
 
   -- and there is only one
   pub plan-unique : (now : ℕ) (i j : List Row) → IsPlan f now i → IsPlan f now j → i ≡ j
@@ -117,9 +133,9 @@ module _ (f : ℕ → List ℤ) where
           subst (λ (w : List ℤ). List·Memᴰ (r .0, w) j) (sym (s .2)) (b .whole (r .0) (past now i (a .ascending) r m) (s .0) (s .1))
 
 -- the plan of a device is the one list that is a plan of what holds at each second
-pub planOf-is : (s : Situation) (now : ℕ) → now ≤ last → IsPlan (valuesAt s) now (planOf s now)
+pub planOf-is : (s : Situation) (now : ℕ) → IsPlan (valuesAt s) now (planOf s now)
 unfolding planOf
-planOf-is s now h = plan-is (valuesAt s) now h
+planOf-is s now = plan-is (valuesAt s) now
 
-pub planOf-only : (s : Situation) (now : ℕ) → now ≤ last → (rows : List Row) → IsPlan (valuesAt s) now rows → rows ≡ planOf s now
-planOf-only s now h rows p = plan-unique (valuesAt s) now rows (planOf s now) p (planOf-is s now h)
+pub planOf-only : (s : Situation) (now : ℕ) (rows : List Row) → IsPlan (valuesAt s) now rows → rows ≡ planOf s now
+planOf-only s now rows p = plan-unique (valuesAt s) now rows (planOf s now) p (planOf-is s now)
