@@ -1,6 +1,6 @@
-/* The kernel on a bare Cortex-M4: a vector table, a timer that counts seconds, a serial port, and a loop that asks the kernel
-   each second and acts when the answer changes. For ARM's MPS2 board (AN386), which qemu has as mps2-an386; docs/BOARDS.md
-   has the two lines that build and run it. What the network would bring stands in a table. */
+/* The kernel on a bare Cortex-M4: a vector table, a timer that counts seconds, a serial port, and a loop that moves the kernel's
+   clock each second, asks, and acts when the answer changes. For ARM's MPS2 board (AN386), which qemu has as mps2-an386;
+   docs/BOARDS.md has the two lines that build and run it. What the network would bring stands in a table. */
 #include "cekarum.h"
 
 /* ---- the board ---- */
@@ -123,7 +123,8 @@ static void endpoint(void)
     cekarum_start(device, settings);
     for (uint64_t seen = 0;; seen++) {
         network(seen);
-        struct cekarum_answer now = cekarum_ask(device, seen);
+        cekarum_move(device, seen); /* a second in which the network brings nothing passes too */
+        struct cekarum_answer now = cekarum_ask(device);
         if (now.values[CEKARUM_STATE] != state || now.values[CEKARUM_LIMIT_CONSUMPTION] != consumption)
             act(seen, &now);
         state = now.values[CEKARUM_STATE];

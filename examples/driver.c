@@ -1,7 +1,8 @@
-/* A small driver of a three-phase box: two zones join, set limits of power and of current by frames that come in scraps, and the
-   plan says what will change, as numbers and as records. */
+/* A small driver of a three-phase box: two zones join, set limits of power and of current by frames that come in scraps, a display
+   polls, and the plan says what will change, as numbers and as records, and comes true. */
 #include "cekarum.h"
 #include <stdio.h>
+#include <string.h>
 
 static const struct cekarum_settings settings = {
     .directions = 2,
@@ -84,18 +85,19 @@ static void stream(uint64_t *device, struct connection *c, uint64_t time, const 
 }
 
 /* What each phase may draw. */
-static void print_currents(uint64_t *device, uint64_t time)
+static void print_currents(const uint64_t *device)
 {
-    struct cekarum_answer now = cekarum_ask(device, time);
+    struct cekarum_answer now = cekarum_ask(device);
     for (int phase = 0; phase < 3; phase++)
         printf("phase %c: %lld mA\n", 'A' + phase, (long long)now.values[CEKARUM_CURRENT + 2 * phase]);
 }
 
-static void print_plan(uint64_t *device, uint64_t time)
+enum { ROW = 12 };
+
+static void print_plan(const uint64_t *device)
 {
-    enum { ROW = 12 };
     int64_t rows[CEKARUM_PLAN_MAX];
-    struct cekarum_written plan = cekarum_plan(device, time, rows, CEKARUM_PLAN_MAX);
+    struct cekarum_written plan = cekarum_plan(device, rows, CEKARUM_PLAN_MAX);
     say("plan", plan.number);
     for (uint64_t i = 0; i < ROW * plan.length; i++)
         printf("%lld%c", (long long)rows[i], i % ROW == ROW - 1 ? '\n' : ' ');
@@ -110,8 +112,7 @@ static void print_row(const struct cekarum_row *row)
            (long long)row->b_consumption, (long long)row->b_production, (long long)row->c_consumption, (long long)row->c_production);
 }
 
-/* The same rows as records at the second of the last call: a debugger that stops here shows rows[0] to rows[plan.length - 1] by
-   name, and the device is as it was. */
+/* The same rows as records: a debugger that stops here shows rows[0] to rows[plan.length - 1] by name. */
 static void print_rows(const uint64_t *device)
 {
     struct cekarum_row rows[CEKARUM_ROWS_MAX];
@@ -119,6 +120,49 @@ static void print_rows(const uint64_t *device)
     say("plain plan", plan.number);
     for (uint64_t i = 0; i < plan.length; i++)
         print_row(&rows[i]);
+}
+
+/* A display that polls. It gives no time, so its own clock may be wrong, and the device is lent to it unchangeable. */
+static void poll_display(const uint64_t *device)
+{
+    struct cekarum_answer now = cekarum_ask(device);
+    printf("display: state %lld, consumption limit %lld mW\n", (long long)now.values[CEKARUM_STATE],
+           (long long)now.values[CEKARUM_LIMIT_CONSUMPTION]);
+}
+
+/* However often the display polls, the next command is accepted. A clock that goes back is refused and changes nothing either. */
+static void poll_and_obey(uint64_t *device, struct connection *c, uint64_t now)
+{
+    uint8_t sent[CEKARUM_REQUEST_MAX];
+    for (int polls = 0; polls < 3; polls++)
+        poll_display(device);
+    say("clock one second back", cekarum_move(device, now - 1));
+    stream(device, c, now, sent, limit_frame(12, 6900000, 30, sent, sizeof sent));
+    poll_display(device);
+}
+
+/* Whether an ask shows these values once the clock alone has moved to a second. */
+static const char *comes_true(uint64_t *device, uint64_t second, const int64_t *values)
+{
+    if (cekarum_move(device, second) != CEKARUM_OK)
+        return "refused";
+    struct cekarum_answer now = cekarum_ask(device);
+    return memcmp(now.values, values, sizeof now.values) == 0 ? "as planned" : "not as planned";
+}
+
+/* The plan row by row: the values stay until the second before a row, and are the row's at its second. */
+static void live_through(uint64_t *device)
+{
+    int64_t rows[CEKARUM_PLAN_MAX];
+    struct cekarum_answer before = cekarum_ask(device);
+    struct cekarum_written plan = cekarum_plan(device, rows, CEKARUM_PLAN_MAX);
+    const int64_t *values = before.values;
+    for (uint64_t i = 0; i < plan.length; i++) {
+        uint64_t second = (uint64_t)rows[ROW * i];
+        printf("second %llu: %s\n", (unsigned long long)(second - 1), comes_true(device, second - 1, values));
+        values = rows + ROW * i + 1;
+        printf("second %llu: %s\n", (unsigned long long)second, comes_true(device, second, values));
+    }
 }
 
 int main(void)
@@ -138,8 +182,11 @@ int main(void)
     stream(device, &three, 100, sent, n);
     n = current_frame(11, 20000, 10000, 13000, sent, sizeof sent);
     stream(device, &nine, 100, sent, n);
-    print_currents(device, 110);
-    print_plan(device, 110);
+    say("clock to 110", cekarum_move(device, 110));
+    print_currents(device);
+    poll_and_obey(device, &nine, 110);
+    print_plan(device);
     print_rows(device);
+    live_through(device);
     return 0;
 }

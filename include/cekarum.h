@@ -26,7 +26,7 @@ extern "C" {
 #endif
 
 /* The functions of the library, the same on every board: numbers of 64 bits, pointers, and counts of 64 bits behind them; each
- * gives its refusal number. They are for this header alone: call what stands below. */
+ * gives its refusal number, save the ask, which has none. They are for this header alone: call what stands below. */
 uint64_t cekarum_raw_start(uint64_t *device, const uint64_t *settings);
 uint64_t cekarum_raw_join(uint64_t *device, uint64_t zone, uint64_t rank, uint64_t time);
 uint64_t cekarum_raw_leave(uint64_t *device, uint64_t zone, uint64_t time);
@@ -34,8 +34,9 @@ uint64_t cekarum_raw_lost(uint64_t *device, uint64_t zone, uint64_t time);
 uint64_t cekarum_raw_back(uint64_t *device, uint64_t zone, uint64_t time);
 uint64_t cekarum_raw_override(uint64_t *device, uint64_t reason, uint64_t direction, uint64_t time);
 uint64_t cekarum_raw_clear(uint64_t *device, uint64_t time);
-uint64_t cekarum_raw_ask(uint64_t *device, uint64_t time, int64_t *values);
-uint64_t cekarum_raw_plan(uint64_t *device, uint64_t time, int64_t *rows, uint64_t room, uint64_t *count);
+uint64_t cekarum_raw_move(uint64_t *device, uint64_t time);
+void cekarum_raw_ask(const uint64_t *device, int64_t *values);
+uint64_t cekarum_raw_plan(const uint64_t *device, int64_t *rows, uint64_t room, uint64_t *count);
 uint64_t cekarum_raw_frame(uint64_t *device, uint64_t zone, uint64_t time, const uint8_t *in, uint64_t in_length, uint8_t *out,
                            uint64_t out_length, uint64_t *written);
 uint64_t cekarum_raw_read_request(const uint8_t *in, uint64_t in_length, uint64_t *words, int64_t *values);
@@ -124,8 +125,9 @@ static inline uint64_t cekarum_start(uint64_t *device, struct cekarum_settings s
     return cekarum_raw_start(device, words);
 }
 
-/* ---- zones, links, override ----
- * An accepted call moves the clock to its time. Each gives its refusal number, 0 if accepted. */
+/* ---- zones, links, override, the clock ----
+ * An accepted call moves the clock to its time, and so does an accepted frame; no other call moves it. Each gives its refusal
+ * number, 0 if accepted. */
 
 /* Joins a zone, link up, with no values. Refuses: 5, 6, 7, 8. */
 static inline uint64_t cekarum_join(uint64_t *device, uint64_t zone, uint64_t rank, uint64_t time)
@@ -164,7 +166,16 @@ static inline uint64_t cekarum_clear(uint64_t *device, uint64_t time)
     return cekarum_raw_clear(device, time);
 }
 
-/* ---- what holds, and what will change ---- */
+/* Moves the clock to this second and nothing else: before an ask or a plan, where no other call has brought the device up to now.
+ * Refuses: 5. */
+static inline uint64_t cekarum_move(uint64_t *device, uint64_t time)
+{
+    return cekarum_raw_move(device, time);
+}
+
+/* ---- what holds, and what will change ----
+ * At the device's own second: that of the last accepted call, 0 before the first. These calls take no time and only read the
+ * device, so that a display may poll as it likes and no command is refused for it. */
 
 /* Places in cekarum_answer's values and, after the second, in a plan's row. */
 enum {
@@ -176,27 +187,27 @@ enum {
     CEKARUM_CURRENT = 5 /* the first of six current limits: CEKARUM_CURRENT + 2 * phase (A 0, B 1, C 2) + direction */
 };
 
-/* Limits and setpoints in mW, current limits in mA, -1 is absent. Beside a refusal all eleven are -1. */
+/* Limits and setpoints in mW, current limits in mA, -1 is absent. */
 struct cekarum_answer {
-    uint64_t number;
     int64_t values[11];
 };
 
-/* What holds at this second. Refuses: 5. */
-static inline struct cekarum_answer cekarum_ask(uint64_t *device, uint64_t time)
+/* What holds at the device's own second. Refuses nothing. */
+static inline struct cekarum_answer cekarum_ask(const uint64_t *device)
 {
     struct cekarum_answer answer;
-    answer.number = cekarum_raw_ask(device, time, answer.values);
+    cekarum_raw_ask(device, answer.values);
     return answer;
 }
 
-/* Every later second at which the control state or one of the ten values changes if only the clock moves, in order: twelve
- * numbers a row: the second, then the values of cekarum_answer in their order; -1 is absent.
- * room is counted in numbers; CEKARUM_PLAN_MAX is always enough. length is in rows. Refuses: 5, 15. */
-static inline struct cekarum_written cekarum_plan(uint64_t *device, uint64_t time, int64_t *rows, uint64_t room)
+/* Every second after the device's own at which the control state or one of the ten values changes if only the clock moves, in
+ * order: twelve numbers a row: the second, then the values of cekarum_answer in their order; -1 is absent. With the clock moved
+ * there, or to any second before the next row's, cekarum_ask gives the row's values.
+ * room is counted in numbers; CEKARUM_PLAN_MAX is always enough. length is in rows. Refuses: 15. */
+static inline struct cekarum_written cekarum_plan(const uint64_t *device, int64_t *rows, uint64_t room)
 {
     struct cekarum_written plan;
-    plan.number = cekarum_raw_plan(device, time, rows, room, &plan.length);
+    plan.number = cekarum_raw_plan(device, rows, room, &plan.length);
     return plan;
 }
 
@@ -220,7 +231,7 @@ struct cekarum_row {
 /* The export beneath cekarum_plain_plan; nothing else calls it. */
 uint64_t cekarum_raw_plain_plan(const uint64_t *device, struct cekarum_row *rows, uint64_t room, uint64_t *count);
 
-/* The rows of cekarum_plan at the device's last second, made the slow way for a test bench: takes no time and moves nothing.
+/* The rows of cekarum_plan, made the slow way for a test bench.
  * room and length are in records; CEKARUM_ROWS_MAX is always enough. Refuses: 15. */
 static inline struct cekarum_written cekarum_plain_plan(const uint64_t *device, struct cekarum_row *rows, uint64_t room)
 {

@@ -33,6 +33,7 @@ static int length_fits(unsigned kind, size_t length)
     case 6:
     case 8:
     case 9:
+    case 10:
         return length == 0;
     default:
         return 0;
@@ -62,7 +63,7 @@ static void run_record(struct plain *d, unsigned kind, uint64_t zone, uint64_t t
         number = plain_frame(d, zone, time, body, length, out, sizeof out).number;
         break;
     case 6:
-        w = plain_plan(d, time, rows, PLAIN_ROW * PLAIN_ROWS);
+        w = plain_plan(d, rows, PLAIN_ROW * PLAIN_ROWS);
         number = w.number;
         break;
     case 7:
@@ -71,8 +72,11 @@ static void run_record(struct plain *d, unsigned kind, uint64_t zone, uint64_t t
     case 8:
         number = plain_clear(d, time);
         break;
+    case 9:
+        number = plain_move(d, time);
+        break;
     default:
-        number = plain_ask(d, time).number;
+        plain_ask(d); /* has no refusal, and its values are not printed */
     }
     printf("%llu\n", (unsigned long long)number);
     print_rows(rows, w.length);

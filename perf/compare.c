@@ -1,5 +1,5 @@
 /* Drives two kernels with one random mix of calls and compares all that can be seen: numbers, lengths, response bytes, rows,
-   pairs, values, what lies behind them in the lent buffers, and that a refusal leaves the device as it was.
+   pairs, values, what lies behind them in the lent buffers, and that a refusal, an ask and a plan leave the device as it was.
    Words: how many calls (default 1,000,000), the seed (default 1). Ends with 'N compared, 0 differ'; stops early at 100
    differences. */
 #include "kernel.h"
@@ -12,8 +12,9 @@
 #define U(n) ((unsigned long long)(n))
 #define S(n) ((long long)(n))
 
-enum { OUT = 128, ROWS = PLAIN_ROW * PLAIN_ROWS + 16, PAIRS = 2 * PLAIN_PAIRS + 16, CALLS = 17, NUMBERS = 19 };
+enum { OUT = 128, ROWS = PLAIN_ROW * PLAIN_ROWS + 16, PAIRS = 2 * PLAIN_PAIRS + 16, CALLS = 18, NUMBERS = 19 };
 
+/* From JOIN to FRAME those that take a time, and move the clock to it where they are accepted. */
 enum call {
     START,
     JOIN,
@@ -22,8 +23,9 @@ enum call {
     BACK,
     OVERRIDE,
     CLEAR,
-    ASK,
+    MOVE,
     FRAME,
+    ASK,
     PLAN,
     PLAIN_PLAN,
     READ_REQUEST,
@@ -42,8 +44,9 @@ static const char *const call_names[CALLS] = {
     [BACK] = "back",
     [OVERRIDE] = "override",
     [CLEAR] = "clear",
-    [ASK] = "ask",
+    [MOVE] = "move",
     [FRAME] = "frame",
+    [ASK] = "ask",
     [PLAN] = "plan",
     [PLAIN_PLAN] = "plain_plan",
     [READ_REQUEST] = "read_request",
@@ -97,7 +100,6 @@ static uint64_t call_one(struct side *s, const struct ask *q)
 {
     const struct kernel *k = s->k;
     struct plain_written w = {0, 0};
-    struct plain_answer a;
     struct plain_received got;
     switch (q->call) {
     case START:
@@ -114,15 +116,16 @@ static uint64_t call_one(struct side *s, const struct ask *q)
         return k->override(s->device, q->a, q->b, q->time);
     case CLEAR:
         return k->clear(s->device, q->time);
+    case MOVE:
+        return k->move(s->device, q->time);
     case ASK:
-        a = k->ask(s->device, q->time);
-        memcpy(s->value, a.value, sizeof s->value);
-        return a.number;
+        memcpy(s->value, k->ask(s->device).value, sizeof s->value);
+        return 0;
     case FRAME:
         w = k->frame(s->device, q->zone, q->time, q->in.at, q->in.n, s->out, q->room);
         break;
     case PLAN:
-        w = k->plan(s->device, q->time, s->rows, q->room);
+        w = k->plan(s->device, s->rows, q->room);
         break;
     case PLAIN_PLAN:
         w = k->records(s->device, s->records, q->room);
@@ -231,12 +234,12 @@ static void complain(const char *what)
     }
 }
 
-/* Beside an answer: no number outside the table, and a refusal and the plain plan leave the device as it was. */
+/* Beside an answer: no number outside the table, and a refusal, an ask and a plan leave the device as it was. */
 static void judge_one(const struct side *s)
 {
     if (s->number >= NUMBERS)
         complain("a number outside the table");
-    if (((s->number != 0 && ask.call != START) || ask.call == PLAIN_PLAN) && memcmp(s->device, s->before, s->k->size) != 0)
+    if (((s->number != 0 && ask.call != START) || ask.call > FRAME) && memcmp(s->device, s->before, s->k->size) != 0)
         complain("the device changed");
 }
 
@@ -283,7 +286,7 @@ static uint64_t both(void)
     if (ask.call == START) {
         settings = ask.settings;
         clock_now = 0;
-    } else if (number == 0 && ask.call <= PLAN) {
+    } else if (number == 0 && ask.call <= FRAME) {
         clock_now = ask.time;
     }
     return number;
@@ -332,10 +335,11 @@ static size_t some_room(size_t enough)
 
 static void mix_call(void)
 {
-    static const enum call often[] = {FRAME, FRAME, FRAME, FRAME, FRAME, FRAME, FRAME, FRAME,    FRAME, FRAME,
-                                      PLAN,  PLAN,  ASK,   ASK,   JOIN,  JOIN,  JOIN,  JOIN,     LEAVE, LOST,
-                                      BACK,  BACK,  BACK,  CLEAR, CLEAR, CLEAR, OVERRIDE, PLAIN_PLAN};
-    ask.call = mix_chance(900) ? often[mix_below(sizeof often / sizeof *often)] : READ_REQUEST + mix_below(5);
+    static const enum call often[] = {FRAME, FRAME, FRAME, FRAME, FRAME, FRAME, FRAME,    FRAME,      FRAME, FRAME,
+                                      PLAN,  PLAN,  ASK,   ASK,   JOIN,  JOIN,  JOIN,     JOIN,       LEAVE, LOST,
+                                      BACK,  BACK,  BACK,  CLEAR, CLEAR, CLEAR, OVERRIDE, PLAIN_PLAN, MOVE,  MOVE,
+                                      MOVE};
+    ask.call = mix_chance(850) ? often[mix_below(sizeof often / sizeof *often)] : READ_REQUEST + mix_below(5);
     ask.zone = some_zone();
     ask.time = some_time();
     ask.room = some_room(72);
@@ -498,19 +502,46 @@ static bool same_rows(const struct side *s, uint64_t rows)
     return true;
 }
 
+static void move_to(uint64_t time)
+{
+    ask.call = MOVE;
+    ask.time = time;
+    both();
+}
+
 /* Both planners at one second, over random room: their rows are the same. */
 static void crowd_plans(void)
 {
     for (unsigned i = 0; i < 6; i++) {
+        move_to(clock_now + (i == 0 ? 0 : mix_below(2)));
         ask.call = PLAN;
-        ask.time = clock_now + mix_below(2);
-        ask.room = i == 5 ? PLAIN_ROW * PLAIN_ROWS : mix_below(PLAIN_ROW * PLAIN_ROWS + 2);
+        ask.room = i == 0 || i == 5 ? PLAIN_ROW * PLAIN_ROWS : mix_below(PLAIN_ROW * PLAIN_ROWS + 2);
         bool planned = both() == 0;
         uint64_t rows = sides[0].length;
         ask.call = PLAIN_PLAN;
         ask.room = i == 5 ? PLAIN_ROWS : mix_below(PLAIN_RECORDS + 1);
         if (both() == 0 && planned && (sides[0].length != rows || !same_rows(&sides[0], rows)))
             complain("not the first planner's rows");
+    }
+}
+
+/* The plan comes true: with the clock moved to a row's second, or to another before the next row's, an ask shows the row. */
+static void crowd_rows(void)
+{
+    static int64_t planned[ROWS];
+    ask.call = PLAN;
+    ask.room = PLAIN_ROW * PLAIN_ROWS;
+    both();
+    uint64_t rows = sides[0].length;
+    memcpy(planned, sides[0].rows, sizeof planned);
+    for (uint64_t i = 0; i < rows; i += 1 + mix_below(8)) {
+        const int64_t *row = &planned[PLAIN_ROW * i];
+        uint64_t lasts = i + 1 < rows ? (uint64_t)(row[PLAIN_ROW] - row[0]) : PLAIN_LAST_SECOND - (uint64_t)row[0] + 1;
+        move_to((uint64_t)row[0] + (mix_chance(500) ? 0 : mix_below(lasts < 9 ? lasts : 9)));
+        ask.call = ASK;
+        both();
+        if (memcmp(sides[0].value, row + 1, sizeof sides[0].value) != 0)
+            complain("a row did not come true");
     }
 }
 
@@ -559,6 +590,8 @@ static void crowd(void)
         ask.zone = 1 + mix_below(8);
         both();
     }
+    if (mix_chance(300))
+        crowd_rows();
 }
 
 static void print_counts(void)
@@ -602,14 +635,17 @@ int main(int argc, char **argv)
     }
     start(false);
     while (compared < calls && differ < 100) {
-        if (mix_chance(5))
+        if (mix_chance(5)) {
+            while (mix_chance(500))
+                start(false);
             start(mix_chance(850));
-        else if (mix_chance(2))
+        } else if (mix_chance(2)) {
             crowd();
-        else if (mix_chance(1))
+        } else if (mix_chance(1)) {
             scraps();
-        else if (mix_chance(5))
+        } else if (mix_chance(5)) {
             odd_counts();
+        }
         mix_call();
         both();
     }

@@ -166,13 +166,17 @@ static bool do_clear(char **w)
     return natural(w[1], &time) && print_number(plain_clear(&device, time));
 }
 
-static bool do_ask(char **w)
+static bool do_move(char **w)
 {
     uint64_t time;
-    if (!natural(w[1], &time))
-        return false;
-    struct plain_answer a = plain_ask(&device, time);
-    printf("%llu", (unsigned long long)a.number);
+    return natural(w[1], &time) && print_number(plain_move(&device, time));
+}
+
+static bool do_ask(char **w)
+{
+    (void)w;
+    struct plain_answer a = plain_ask(&device);
+    printf("0");
     for (int i = 0; i < PLAIN_VALUES; i++)
         printf(" %lld", (long long)a.value[i]);
     putchar('\n');
@@ -182,11 +186,10 @@ static bool do_ask(char **w)
 static bool do_plan(char **w)
 {
     static int64_t rows[PLAIN_ROW * PLAIN_ROWS];
-    uint64_t time;
     size_t room;
-    if (!natural(w[1], &time) || !room_of(w[2], PLAIN_ROW * PLAIN_ROWS, &room))
+    if (!room_of(w[1], PLAIN_ROW * PLAIN_ROWS, &room))
         return false;
-    struct plain_written r = plain_plan(&device, time, rows, room);
+    struct plain_written r = plain_plan(&device, rows, room);
     printf("%llu", (unsigned long long)r.number);
     for (size_t i = 0; i < PLAIN_ROW * r.length; i++)
         printf(" %lld", (long long)rows[i]);
@@ -296,9 +299,10 @@ static const struct {
 } commands[] = {
     {"start", 13, do_start},   {"join", 4, do_join},         {"leave", 3, do_zone},
     {"lost", 3, do_zone},      {"back", 3, do_zone},         {"override", 4, do_override},
-    {"clear", 2, do_clear},    {"ask", 2, do_ask},           {"plan", 3, do_plan},
-    {"frame", 5, do_frame},    {"request", 2, do_request},   {"response", 3, do_response},
-    {"conf", 11, do_conf},     {"scrap", 4, do_scrap},       {"rows", 2, do_rows},
+    {"clear", 2, do_clear},    {"move", 2, do_move},         {"ask", 1, do_ask},
+    {"plan", 2, do_plan},      {"request", 2, do_request},   {"response", 3, do_response},
+    {"rows", 2, do_rows},      {"frame", 5, do_frame},       {"scrap", 4, do_scrap},
+    {"conf", 11, do_conf},
 };
 
 /* Words parted by one space: their count, or -1 where there are too many. */

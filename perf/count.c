@@ -9,12 +9,14 @@
 #ifdef PROVED
 #include "cekarum.h"
 #define CALL(name) cekarum_##name
+#define VALUES values
 static uint64_t device[CEKARUM_WORDS];
 #define DEVICE device
 static struct cekarum_receiver receiver;
 static struct cekarum_row records[CEKARUM_ROWS_MAX];
 #else
 #define CALL(name) plain_##name
+#define VALUES value
 static struct plain device;
 #define DEVICE &device
 static struct plain_receiver receiver;
@@ -289,13 +291,13 @@ static void frames_unjoined(uint64_t times)
 static void asks(uint64_t times)
 {
     for (uint64_t i = 0; i < times; i++)
-        kept = CALL(ask)(DEVICE, NOW).number;
+        kept = (uint64_t)CALL(ask)(DEVICE).VALUES[0];
 }
 
 static void plans(uint64_t times)
 {
     for (uint64_t i = 0; i < times; i++)
-        kept = CALL(plan)(DEVICE, NOW, rows, PLAIN_ROW * PLAIN_ROWS).number;
+        kept = CALL(plan)(DEVICE, rows, PLAIN_ROW * PLAIN_ROWS).number;
 }
 
 static void plain_plans(uint64_t times)
@@ -326,6 +328,12 @@ static void overrides_and_clears(uint64_t times)
         kept = CALL(override)(DEVICE, 2, 0, NOW);
         kept = CALL(clear)(DEVICE, NOW);
     }
+}
+
+static void moves(uint64_t times)
+{
+    for (uint64_t i = 0; i < times; i++)
+        kept = CALL(move)(DEVICE, NOW + i);
 }
 
 /* A frame of 2,052 bytes, in scraps of so many bytes. */
@@ -376,7 +384,7 @@ static void hundred(uint64_t times)
 
 static const struct {
     const char *name, *says;
-    uint64_t number; /* what the call must answer */
+    uint64_t number; /* what the call must answer; of an ask the control state, as it has no number */
     void (*before)(void), (*run)(uint64_t);
 } cases[] = {
     {"nops", "a hundred nops", 0, no_zone, hundred},
@@ -397,9 +405,9 @@ static const struct {
     {"string2048", "2,048 bytes, one long string", 0, string_2048, frames},
     {"nested2048", "2,048 bytes, nested to depth 8", 0, nested_2048, frames},
     {"ask0", "ask, no zone", 0, no_zone, asks},
-    {"ask2", "ask, 2 zones, all values held", 0, two_zones, asks},
-    {"ask8", "ask, 8 zones, all values held", 0, eight_zones, asks},
-    {"asklost", "ask, 8 zones, all links lost", 0, lost_zones, asks},
+    {"ask2", "ask, 2 zones, all values held", 2, two_zones, asks},
+    {"ask8", "ask, 8 zones, all values held", 2, eight_zones, asks},
+    {"asklost", "ask, 8 zones, all links lost", 3, lost_zones, asks},
     {"plan1", "plan, 1 row", 0, rows_1, plans},
     {"plan8", "plan, 8 rows", 0, rows_8, plans},
     {"plan80", "plan, 80 rows", 0, rows_all, plans},
@@ -409,6 +417,7 @@ static const struct {
     {"join7", "join and leave, 7 others", 0, seven_zones, joins_and_leaves},
     {"lost", "lost and back, 2 zones", 0, two_zones, losts_and_backs},
     {"override", "override and clear", 0, no_zone, overrides_and_clears},
+    {"move", "clock moved, 8 zones", 0, eight_zones, moves},
     {"scrapall", "2,052 bytes received in one scrap", 0, string_2048, scraps_all},
     {"scrap1460", "2,052 bytes received in scraps of 1,460", 0, string_2048, scraps_1460},
     {"scrap64", "2,052 bytes received in scraps of 64", 0, string_2048, scraps_64},

@@ -16,9 +16,10 @@ struct kernel {
     uint64_t (*back)(void *d, uint64_t zone, uint64_t time);
     uint64_t (*override)(void *d, uint64_t reason, uint64_t direction, uint64_t time);
     uint64_t (*clear)(void *d, uint64_t time);
-    struct plain_answer (*ask)(void *d, uint64_t time);
+    uint64_t (*move)(void *d, uint64_t time);
     struct plain_written (*frame)(void *d, uint64_t zone, uint64_t time, const uint8_t *in, size_t n, uint8_t *out, size_t room);
-    struct plain_written (*plan)(void *d, uint64_t time, int64_t *rows, size_t room);
+    struct plain_answer (*ask)(const void *d);
+    struct plain_written (*plan)(const void *d, int64_t *rows, size_t room);
     struct plain_written (*records)(const void *d, struct plain_row *rows, size_t room);
     uint64_t (*read_request)(const uint8_t *in, size_t n, struct plain_request *r);
     struct plain_written (*write_request)(const struct plain_request *r, uint8_t *out, size_t room);

@@ -12,7 +12,9 @@ static uint64_t leave(void *d, uint64_t zone, uint64_t time) { return plain_leav
 static uint64_t lost(void *d, uint64_t zone, uint64_t time) { return plain_lost(d, zone, time); }
 static uint64_t back(void *d, uint64_t zone, uint64_t time) { return plain_back(d, zone, time); }
 static uint64_t clear(void *d, uint64_t time) { return plain_clear(d, time); }
-static struct plain_answer ask(void *d, uint64_t time) { return plain_ask(d, time); }
+static uint64_t move(void *d, uint64_t time) { return plain_move(d, time); }
+static struct plain_answer ask(const void *d) { return plain_ask(d); }
+static struct plain_written plan(const void *d, int64_t *rows, size_t room) { return plain_plan(d, rows, room); }
 
 static uint64_t override(void *d, uint64_t reason, uint64_t direction, uint64_t time)
 {
@@ -22,11 +24,6 @@ static uint64_t override(void *d, uint64_t reason, uint64_t direction, uint64_t 
 static struct plain_written frame(void *d, uint64_t zone, uint64_t time, const uint8_t *in, size_t n, uint8_t *out, size_t room)
 {
     return plain_frame(d, zone, time, in, n, out, room);
-}
-
-static struct plain_written plan(void *d, uint64_t time, int64_t *rows, size_t room)
-{
-    return plain_plan(d, time, rows, room);
 }
 
 static struct plain_written records(const void *d, struct plain_row *rows, size_t room)
@@ -44,8 +41,9 @@ const struct kernel KERNEL = {
     .back = back,
     .override = override,
     .clear = clear,
-    .ask = ask,
+    .move = move,
     .frame = frame,
+    .ask = ask,
     .plan = plan,
     .records = records,
     .read_request = plain_read_request,

@@ -25,16 +25,17 @@ static uint64_t leave(void *d, uint64_t zone, uint64_t time) { return cekarum_le
 static uint64_t lost(void *d, uint64_t zone, uint64_t time) { return cekarum_lost(d, zone, time); }
 static uint64_t back(void *d, uint64_t zone, uint64_t time) { return cekarum_back(d, zone, time); }
 static uint64_t clear(void *d, uint64_t time) { return cekarum_clear(d, time); }
+static uint64_t move(void *d, uint64_t time) { return cekarum_move(d, time); }
 
 static uint64_t override(void *d, uint64_t reason, uint64_t direction, uint64_t time)
 {
     return cekarum_override(d, reason, direction, time);
 }
 
-static struct plain_answer ask(void *d, uint64_t time)
+static struct plain_answer ask(const void *d)
 {
-    struct cekarum_answer a = cekarum_ask(d, time);
-    struct plain_answer b = {.number = a.number};
+    struct cekarum_answer a = cekarum_ask(d);
+    struct plain_answer b;
     for (unsigned i = 0; i < PLAIN_VALUES; i++)
         b.value[i] = a.values[i];
     return b;
@@ -50,9 +51,9 @@ static struct plain_written frame(void *d, uint64_t zone, uint64_t time, const u
     return written(cekarum_frame(d, zone, time, in, n, out, room));
 }
 
-static struct plain_written plan(void *d, uint64_t time, int64_t *rows, size_t room)
+static struct plain_written plan(const void *d, int64_t *rows, size_t room)
 {
-    return written(cekarum_plan(d, time, rows, room));
+    return written(cekarum_plan(d, rows, room));
 }
 
 /* Field by field, so that a field under another's name shows. */
@@ -183,8 +184,9 @@ const struct kernel second_kernel = {
     .back = back,
     .override = override,
     .clear = clear,
-    .ask = ask,
+    .move = move,
     .frame = frame,
+    .ask = ask,
     .plan = plan,
     .records = records,
     .read_request = read_request,

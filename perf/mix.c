@@ -122,9 +122,10 @@ static void number(struct bytes *to, int64_t v)
 /* What strict CBOR leaves out. */
 static void foreign(struct bytes *to)
 {
-    static const uint8_t bad[] = {0xf7, 0xf8, 0xf9, 0xfb, 0xe0, 0xf3, 0xc0, 0xd8, 0x5f, 0x7f, 0x9f, 0xbf, 0xff, 0x1c, 0x1f, 0x3e};
+    static const uint8_t bad[] = {0xf7, 0xf7, 0xf7, 0xf8, 0xf9, 0xfb, 0xe0, 0xf3, 0xc0,
+                                  0xd8, 0x5f, 0x7f, 0x9f, 0xbf, 0xff, 0x1c, 0x1f, 0x3e};
     byte(to, PICK(bad));
-    for (uint64_t i = mix_below(4); i > 0; i--)
+    for (uint64_t i = mix_chance(500) ? mix_below(4) : 0; i > 0; i--)
         byte(to, mix_any());
 }
 
@@ -140,7 +141,7 @@ static void array_item(struct bytes *to, unsigned deep)
 
 static void map_item(struct bytes *to, unsigned deep)
 {
-    uint64_t n = mix_below(4), key = mix_chance(50) ? UINT64_MAX - 1 : mix_below(26);
+    uint64_t n = mix_below(4), key = mix_chance(50) ? UINT64_MAX - mix_below(2) : mix_below(26);
     head(to, 5, n);
     for (uint64_t i = 0; i < n; i++) {
         if (mix_chance(5))
@@ -180,7 +181,7 @@ static void item(struct bytes *to, unsigned deep)
         byte(to, 0xf4 + mix_below(3));
         break;
     case 5:
-        if (mix_chance(20))
+        if (mix_chance(40))
             foreign(to);
         else
             head(to, 0, mix_below(30));
@@ -284,7 +285,7 @@ static void phase_map(struct entries *e, uint64_t k, const struct plain_settings
     for (uint64_t p = 0; p < PLAIN_PHASES; p++)
         if (mix_chance(p < s->phases ? 600 : 30))
             amount_entry(&phases, p, current(s), nullable);
-    if (mix_chance(nullable ? 10 : 50))
+    if (mix_chance(nullable ? 10 : 200))
         amount_entry(&phases, 3 + mix_below(4), current(s), nullable);
     close_map(&e->body, &phases);
 }
@@ -478,7 +479,7 @@ void mix_request(struct bytes *to, const struct plain_settings *s)
 {
     static struct entries e;
     e.count = e.body.n = 0;
-    long_heads = mix_chance(25) ? 60 : 0;
+    long_heads = mix_chance(50) ? 60 : 0;
     request_map(&e, s);
     frame_of(to, &e);
 }
@@ -487,7 +488,7 @@ void mix_response(struct bytes *to, uint64_t command)
 {
     static struct entries e;
     e.count = e.body.n = 0;
-    long_heads = mix_chance(25) ? 60 : 0;
+    long_heads = mix_chance(50) ? 60 : 0;
     response_map(&e, command);
     frame_of(to, &e);
 }
@@ -509,7 +510,7 @@ void mix_request_fields(struct plain_request *r, const struct plain_settings *s)
     if (r->command == 1 || r->command == 3) {
         for (unsigned i = 0; i < 2; i++) {
             r->field[i].kind = mix_chance(600) ? PLAIN_NUMBER : r->command == 1 ? mix_below(2) : PLAIN_ABSENT;
-            if (mix_chance(8))
+            if (mix_chance(20))
                 r->field[i].kind = mix_chance(500) ? PLAIN_NULL : edge();
             if (r->field[i].kind == PLAIN_NUMBER)
                 r->field[i].value = mix_chance(900) ? amount(s) : (int64_t)edge();
@@ -551,7 +552,7 @@ void mix_response_fields(uint64_t command, struct plain_response *r)
     r->applied = mix_chance(command == 1 ? 500 : 970);
     if (command == 1) {
         r->state = spoil(mix_below(5));
-        r->reason = maybe(spoil(mix_chance(20) ? 5 : mix_below(5)));
+        r->reason = maybe(spoil(mix_chance(60) ? 5 : mix_below(5)));
     }
     if (command == 1 || command == 3)
         for (unsigned i = 0; i < 2; i++)

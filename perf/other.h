@@ -8,8 +8,9 @@
 #define plain_back other_back
 #define plain_override other_override
 #define plain_clear other_clear
-#define plain_ask other_ask
+#define plain_move other_move
 #define plain_frame other_frame
+#define plain_ask other_ask
 #define plain_plan other_plan
 #define plain_plain_plan other_plain_plan
 #define plain_read_request other_read_request

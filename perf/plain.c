@@ -722,6 +722,14 @@ uint64_t plain_clear(struct plain *d, uint64_t time)
     return 0;
 }
 
+uint64_t plain_move(struct plain *d, uint64_t time)
+{
+    if (late(d, time))
+        return 5;
+    d->clock = time;
+    return 0;
+}
+
 /* ---- what holds at a second ---- */
 
 /* The limits of power and of current, by their place among the held values. */
@@ -807,13 +815,10 @@ static inline uint64_t values(const struct plain *d, uint64_t time, int64_t *v)
     return FOREVER;
 }
 
-struct plain_answer plain_ask(struct plain *d, uint64_t time)
+struct plain_answer plain_ask(const struct plain *d)
 {
-    if (late(d, time))
-        return (struct plain_answer){5, {-1, -1, -1, -1, -1, -1, -1, -1, -1, -1, -1}};
-    struct plain_answer a = {0};
-    values(d, time, a.value);
-    d->clock = time;
+    struct plain_answer a;
+    values(d, d->clock, a.value);
     return a;
 }
 
@@ -846,15 +851,11 @@ static size_t walk(const struct plain *d, uint64_t time, int64_t *rows)
     return count;
 }
 
-struct plain_written plain_plan(struct plain *d, uint64_t time, int64_t *rows, size_t room)
+struct plain_written plain_plan(const struct plain *d, int64_t *rows, size_t room)
 {
-    if (late(d, time))
-        return (struct plain_written){5, 0};
-    if (room < PLAIN_ROW * PLAIN_ROWS && PLAIN_ROW * walk(d, time, NULL) > room)
+    if (room < PLAIN_ROW * PLAIN_ROWS && PLAIN_ROW * walk(d, d->clock, NULL) > room)
         return (struct plain_written){15, 0};
-    size_t count = walk(d, time, rows);
-    d->clock = time;
-    return (struct plain_written){0, count};
+    return (struct plain_written){0, walk(d, d->clock, rows)};
 }
 
 /* The nearest second after one at which a held value or the failsafe ends, past the last where there is none: every end is looked

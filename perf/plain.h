@@ -56,7 +56,6 @@ struct plain_written {
 
 /* Values: control state, then as a zone holds them; -1 is absent. */
 struct plain_answer {
-    uint64_t number;
     int64_t value[PLAIN_VALUES];
 };
 
@@ -98,10 +97,13 @@ uint64_t plain_lost(struct plain *d, uint64_t zone, uint64_t time);
 uint64_t plain_back(struct plain *d, uint64_t zone, uint64_t time);
 uint64_t plain_override(struct plain *d, uint64_t reason, uint64_t direction, uint64_t time);
 uint64_t plain_clear(struct plain *d, uint64_t time);
-struct plain_answer plain_ask(struct plain *d, uint64_t time);
+uint64_t plain_move(struct plain *d, uint64_t time);
 struct plain_written plain_frame(struct plain *d, uint64_t zone, uint64_t time, const uint8_t *in, size_t n, uint8_t *out,
                                  size_t room);
-struct plain_written plain_plan(struct plain *d, uint64_t time, int64_t *rows, size_t room);
+
+/* At the device's own second; nothing moves. */
+struct plain_answer plain_ask(const struct plain *d);
+struct plain_written plain_plan(const struct plain *d, int64_t *rows, size_t room);
 
 /* A row of a plan as a record; value: as an answer's. */
 struct plain_row {
@@ -109,7 +111,7 @@ struct plain_row {
     int64_t value[PLAIN_VALUES];
 };
 
-/* The plan made the slow way at the device's own second; room in records. */
+/* The plan made the slow way; room in records. */
 struct plain_written plain_plain_plan(const struct plain *d, struct plain_row *rows, size_t room);
 
 uint64_t plain_read_request(const uint8_t *in, size_t n, struct plain_request *r);

@@ -9,8 +9,8 @@ use kernel::VALUES;
 ghost use mathlib.Core.Path.{_≡_};
 ghost use mathlib.Core.Bool.{true, false};
 ghost use lib.ListN.{length};
-ghost use Rattle.kernel.specs.Door.{startNumber, startAfter, joinNumber, joinAfter, leaveNumber, leaveAfter, linkNumber, linkAfter, overrideNumber, overrideAfter, clearNumber, clearAfter};
-ghost use Rattle.kernel.specs.Door.{askAnswer, askAfter, planAnswer, planAfter, planSlice, plainAnswer, plainSlice, reportOf, pairsAfter};
+ghost use Rattle.kernel.specs.Door.{startNumber, startAfter, joinNumber, joinAfter, leaveNumber, leaveAfter, linkNumber, linkAfter, overrideNumber, overrideAfter, clearNumber, clearAfter, moveNumber, moveAfter};
+ghost use Rattle.kernel.specs.Door.{askAnswer, planAnswer, planSlice, plainAnswer, plainSlice, reportOf, pairsAfter};
 ghost use Rattle.capi.specs.Words.{settingsOf, inputsOf};
 
 #[no_mangle]
@@ -75,35 +75,32 @@ pub extern "C" fn cekarum_raw_clear(device: &mut State, time: u64) -> u64
 }
 
 #[no_mangle]
-pub extern "C" fn cekarum_raw_ask(device: &mut State, time: u64, values: &mut [i64; VALUES]) -> u64
-    ensures { λ r. ⌜ r ≡ askAnswer (now (device .entry)) time .number ⌝ }
-    ensures { λ _. ⌜ now (device .exit) ≡ askAfter (now (device .entry)) time ⌝ }
-    ensures { λ _. ⌜ now (values .exit) ≡ askAnswer (now (device .entry)) time .values ⌝ }
+pub extern "C" fn cekarum_raw_move(device: &mut State, time: u64) -> u64
+    ensures { λ r. ⌜ r ≡ moveNumber (now (device .entry)) time ⌝ }
+    ensures { λ _. ⌜ now (device .exit) ≡ moveAfter (now (device .entry)) time ⌝ }
 {
-    let asked = kernel::ask(device, time);
-    let shown = asked.values;
-    *values = shown;
-    asked.number
+    kernel::move_clock(device, time)
+}
+
+// An ask and the two plans are lent the device unchangeable: they take no time, and nothing moves.
+#[no_mangle]
+pub extern "C" fn cekarum_raw_ask(device: &State, values: &mut [i64; VALUES])
+    ensures { λ _. ⌜ now (values .exit) ≡ askAnswer (now (device .entry)) ⌝ }
+{
+    *values = kernel::ask(device);
 }
 
 #[no_mangle]
-pub extern "C" fn cekarum_raw_plan(
-    device: &mut State,
-    time: u64,
-    rows: &mut [i64],
-    count: &mut u64,
-) -> u64
-    ensures { λ r. ⌜ r ≡ planAnswer (now (device .entry)) time (length (now (rows .entry))) .number ⌝ }
-    ensures { λ _. ⌜ now (device .exit) ≡ planAfter (now (device .entry)) time (length (now (rows .entry))) ⌝ }
-    ensures { λ _. ⌜ now (rows .exit) ≡ planSlice (now (device .entry)) time (now (rows .entry)) ⌝ }
-    ensures { λ _. ⌜ now (count .exit) ≡ planAnswer (now (device .entry)) time (length (now (rows .entry))) .count ⌝ }
+pub extern "C" fn cekarum_raw_plan(device: &State, rows: &mut [i64], count: &mut u64) -> u64
+    ensures { λ r. ⌜ r ≡ planAnswer (now (device .entry)) (length (now (rows .entry))) .number ⌝ }
+    ensures { λ _. ⌜ now (rows .exit) ≡ planSlice (now (device .entry)) (now (rows .entry)) ⌝ }
+    ensures { λ _. ⌜ now (count .exit) ≡ planAnswer (now (device .entry)) (length (now (rows .entry))) .count ⌝ }
 {
-    let planned = kernel::plan(device, time, rows);
+    let planned = kernel::plan(device, rows);
     *count = planned.count;
     planned.number
 }
 
-// The device is lent unchangeable: no time is taken, and nothing moves.
 #[no_mangle]
 pub extern "C" fn cekarum_raw_plain_plan(device: &State, rows: &mut [Row], count: &mut u64) -> u64
     ensures { λ r. ⌜ r ≡ plainAnswer (now (device .entry)) (length (now (rows .entry))) .number ⌝ }

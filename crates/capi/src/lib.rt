@@ -1,5 +1,6 @@
 // The kernel for C, the same on every board: numbers of 64 bits, and pointers to words, bytes or numbers with their counts. Each
-// call answers its number alone; what else it answers goes into lent words. include/cekarum.h makes structs of them.
+// call answers its number alone, and an ask, which has no refusal, not even that; what else it answers goes into lent words.
+// include/cekarum.h makes structs of them.
 // Nothing is decided here. Each export states what the call beneath it states.
 mod calls; // calls.rt: the device's calls, the plan, the report
 mod frame; // frame.rt: a frame applied

@@ -9,4 +9,4 @@ cekarum-raw-plan-spec =
     tie.close
     (tie.spec
     (λ c κs. search needs) (λ c. search needs)
-    (λ c. (ap (λ a. a .number) (c .before .plan .ensures .0), (c .before .plan .ensures .1 .0, (c .before .plan .ensures .1 .1, ap (λ a. a .count) (c .before .plan .ensures .0))))))
+    (λ c. (ap (λ a. a .number) (c .before .plan .ensures .0), (c .before .plan .ensures .1, ap (λ a. a .count) (c .before .plan .ensures .0)))))
