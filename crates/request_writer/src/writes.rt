@@ -202,5 +202,5 @@ pub fn write_request(out: &mut [u8], r: Request) -> Written
     }
     let mut payload = [0u8; ROOM];
     let n = put_request(&mut payload, r);
-    send(out, &payload, n)
+    send(out, &payload[..n])
 }

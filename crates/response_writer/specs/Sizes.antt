@@ -13,4 +13,4 @@ outcomeRoom = 6 * pairRoom
 
 -- more than any payload that is written has
 abbrev pub payloadRoom : ℕ
-payloadRoom = 240
+payloadRoom = 160

@@ -8,4 +8,4 @@ pub use writes::write_response;
 pub const RESPONSE: usize = 49;
 
 // More bytes than any payload that is written has, each of its fields taken at its widest.
-const ROOM: usize = 240;
+const ROOM: usize = 160;

@@ -221,7 +221,7 @@ pub fn frame_response(out: &mut [u8], r: Response) -> Written
 {
     let mut payload = [0u8; ROOM];
     let n = put_response(&mut payload, r);
-    send(out, &payload, n)
+    send(out, &payload[..n])
 }
 
 // Writes a response to a command that the caller names, to the front of `out`.

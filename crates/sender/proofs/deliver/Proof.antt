@@ -1,4 +1,4 @@
--- The count is the length of what is taken, so the test for room is the one of `writingNumber`, and what is put is what is taken.
+-- The test for room is the one of `writingNumber`, and what is put is the payload.
 use mathlib.Core.Path.{refl}
 use borrow.Author.Needs.{needs}
 use Rattle.sender.proofs.Sends.{deliver-refused, deliver-whole}
@@ -9,20 +9,15 @@ pub deliver-spec : {M : Type 1} → statement M
 deliver-spec =
     tie.close
     (tie.spec
-    (λ c κs. search needs) (λ c κs. search needs) (λ c κs. search needs) (λ c. search needs)
+    (λ c κs. search needs) (λ c κs. search needs) (λ c. search needs)
     (λ c.
     let at-put-bytes = c .before .before .put-bytes in
     let at-if1 = c .before .before .before .before .if1 in
     let at-has-room = c .before .before .before .before .before .has-room in
-    let at-smaller = c .before .before .before .before .before .before .smaller in
-    let back-8 = c .before .before .before .before .before .before .before .before in
-    let at-args = back-8 .before .args in
-    deliver-whole (at-args .payload .now) (at-args .n) _ (at-smaller .ensures) (at-args .out .now) _ _ (at-has-room .ensures) (at-if1 .taken) _
-    (at-put-bytes .ensures .1) refl)
+    let at-args = c .before .before .before .before .before .before .before .before .args in
+    deliver-whole (at-args .payload .now) (at-args .out .now) _ _ (at-has-room .ensures) (at-if1 .taken) _ (at-put-bytes .ensures .1) refl)
     (λ c κs. search needs)
     (λ c.
     let at-has-room = c .before .before .has-room in
-    let at-smaller = c .before .before .before .smaller in
-    let at-args = c .before .before .before .before .before .before .args in
-    deliver-refused (at-args .payload .now) (at-args .n) _ (at-smaller .ensures) (at-args .out .now) _ _ (at-has-room .ensures)
-    (c .before .if1 .left) (c .refused .ensures)))
+    let at-args = c .before .before .before .before .before .args in
+    deliver-refused (at-args .payload .now) (at-args .out .now) _ _ (at-has-room .ensures) (c .before .if1 .left) (c .refused .ensures)))

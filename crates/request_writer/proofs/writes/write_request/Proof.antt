@@ -1,8 +1,7 @@
 -- Refused, or written whole into a local that has the room, and sent.
 use Rattle.request_writer.specs.Requests.{requestNumber, requestItem}
 use Rattle.sender.specs.Writing.{itemFrame}
-use Rattle.sender.proofs.Sends.{send-item, no-refusal, a-refusal}
-use Rattle.map_fields.proofs.Added.{puts-fit}
+use Rattle.sender.proofs.Sends.{sent-within, sent-length, send-item, no-refusal, a-refusal}
 use borrow.Author.Needs.{needs}
 use Rattle.request_writer.proofs.writes.write_request.Statement.{statement}
 use Rattle.request_writer.proofs.writes.write_request.Tie as tie
@@ -17,7 +16,12 @@ write-request-spec =
     let at-args = c .before .before .before .before .args in
     a-refusal _ (requestNumber (at-args .r)) (itemFrame (requestItem (at-args .r))) (at-args .out .now) _ (at-request-number .ensures)
     (c .before .if1 .taken) (c .refused .ensures))
-    (λ c. search needs) (λ c κs. search needs) (λ c. search needs)
+    (λ c. search needs) (λ c κs. search needs)
+    (λ c.
+    let at-put-request = c .before .before .put-request in
+    sent-within (search needs) (at-put-request .ensures)) (λ c.
+    let at-put-request = c .before .before .before .put-request in
+    sent-length (search needs) (at-put-request .ensures))
     (λ c κs. search needs) (λ c. search needs)
     (λ c.
     let at-send = c .before .before .send in
@@ -27,5 +31,5 @@ write-request-spec =
     let at-request-number = back-8 .before .request-number in
     let at-args = back-8 .before .before .before .args in
     no-refusal _ (requestNumber (at-args .r)) (itemFrame (requestItem (at-args .r))) (at-args .out .now) _ _ (at-request-number .ensures)
-    (at-if1 .left) (send-item (requestItem (at-args .r)) _ _ _ (at-args .out .now) _ _ _ (puts-fit (search needs) (at-put-request .ensures))
-    (at-send .ensures))))
+    (at-if1 .left)
+    (send-item (requestItem (at-args .r)) (at-args .out .now) (search needs) (at-put-request .ensures) (at-send .ensures))))
