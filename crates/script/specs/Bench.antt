@@ -6,7 +6,7 @@ use mathlib.Core.Bool.{Bool, true, false, cond}
 use mathlib.Core.List.{List, [], _∷_, _++_}
 use lib.IntN.{ℤ, pos}
 use lib.ListN.{length, getD, take, drop}
-use Rattle.text.specs.Text.{decimal}
+use Rattle.text.specs.Text.{mostDigits, decimal}
 use Rattle.text.specs.Pieces.{joined}
 use Rattle.store.specs.Sizes.{slots, helds, most}
 use Rattle.device.specs.Calls.{joinNumber, joinAfter, leaveNumber, leaveAfter, linkNumber, linkAfter, overrideNumber, overrideAfter, clearNumber, clearAfter, moveNumber, moveAfter}
@@ -122,9 +122,9 @@ frameRoom = longestResponse
 abbrev pub rowsRoom : ℕ
 rowsRoom = slots * helds * rowSize
 
--- room for every answer: a number's line, and a row's numbers of 20 digits at most with a byte behind each
+-- room for every answer: a number's line, and a plan's numbers, each with a byte behind it
 abbrev pub cellRoom : ℕ
-cellRoom = 21
+cellRoom = mostDigits + 1
 
 abbrev pub answerRoom : ℕ
 answerRoom = (1 + rowsRoom) * cellRoom
