@@ -26,88 +26,38 @@ pub enum Command {
 }
 
 // What a line's name says: its command, and how many words the line has.
-pub struct Line {
-    pub command: Command,
-    pub words: usize,
-}
+pub struct Line(pub Command, pub usize);
 
 // How many names there are.
 const NAMES: usize = 15;
 
 // What each name says, in the order of the names in `named`.
 const TABLE: [Line; NAMES] = [
-    Line {
-        command: Command::Start,
-        words: 13,
-    },
-    Line {
-        command: Command::Join,
-        words: 4,
-    },
-    Line {
-        command: Command::Leave,
-        words: 3,
-    },
-    Line {
-        command: Command::Lost,
-        words: 3,
-    },
-    Line {
-        command: Command::Back,
-        words: 3,
-    },
-    Line {
-        command: Command::Override,
-        words: 4,
-    },
-    Line {
-        command: Command::Clear,
-        words: 2,
-    },
-    Line {
-        command: Command::Move,
-        words: 2,
-    },
-    Line {
-        command: Command::Ask,
-        words: 1,
-    },
-    Line {
-        command: Command::Plan,
-        words: 2,
-    },
-    Line {
-        command: Command::Rows,
-        words: 2,
-    },
-    Line {
-        command: Command::Frame,
-        words: 5,
-    },
-    Line {
-        command: Command::Request,
-        words: 2,
-    },
-    Line {
-        command: Command::Response,
-        words: 3,
-    },
-    Line {
-        command: Command::Conf,
-        words: 11,
-    },
+    Line(Command::Start, 13),
+    Line(Command::Join, 4),
+    Line(Command::Leave, 3),
+    Line(Command::Lost, 3),
+    Line(Command::Back, 3),
+    Line(Command::Override, 4),
+    Line(Command::Clear, 2),
+    Line(Command::Move, 2),
+    Line(Command::Ask, 1),
+    Line(Command::Plan, 2),
+    Line(Command::Rows, 2),
+    Line(Command::Frame, 5),
+    Line(Command::Request, 2),
+    Line(Command::Response, 3),
+    Line(Command::Conf, 11),
 ];
 
 // No line has no words.
 fn unknown() -> Line
     ensures { λ r. ⌜ r ≡ unknown ⌝ }
 {
-    Line {
-        command: Command::Unknown,
-        words: 0,
-    }
+    Line(Command::Unknown, 0)
 }
 
+// The table's row at a place; past the last there is none.
 fn line_at(k: usize) -> Line
     ensures { λ r. ⌜ r ≡ getD (linesOf table) k unknown ⌝ }
 {
@@ -117,6 +67,7 @@ fn line_at(k: usize) -> Line
     unknown()
 }
 
+// The table's row of a name.
 fn named(word: &[u8]) -> Line
     ensures { λ r. ⌜ r ≡ found table (now (word .entry)) ⌝ }
 {

@@ -133,9 +133,9 @@ fn line(
     at: usize,
 ) -> usize {
     let name = line_of(s, ends);
-    let c = name.command;
+    let c = name.0;
     let mut f = [0u64; FIELDS];
-    if count != name.words {
+    if count != name.1 {
         return put_bad(out, at);
     }
     if !read_numbers(s, ends, c, &mut f) {

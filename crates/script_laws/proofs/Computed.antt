@@ -32,7 +32,7 @@ use Rattle.store.specs.Zones.{upTo, first, any, idOf, rankOf, isJoined, isUp, s
 use Rattle.store.specs.Zones.{joined as joinedIn}
 use Rattle.store.specs.Words.{settingsOf, heldIn, zoneAt, zonesOf, bit, heldWords, putZone, applied, after, settingWords, fresh}
 use Rattle.quantities.specs.Quantities.{lowAt, supports}
-use Rattle.holds.specs.Holds.{situationOf, claimOf, goesBefore, better, winner, inFailsafe, smallestWith, failsafeValue, valueAt, present, stateAt, shown, valuesAt}
+use Rattle.holds.specs.Holds.{claimOf, goesBefore, better, winner, inFailsafe, smallestWith, failsafeValue, valueAt, present, stateAt, shown, valuesAt}
 use Rattle.holds.specs.Dues.{zoneDues, heldDues, dues, nearer, nearest}
 use Rattle.device.specs.Refusals.{firstOf, late}
 use Rattle.holds.specs.Links.{sinceAfter}
