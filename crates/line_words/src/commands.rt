@@ -1,9 +1,10 @@
 // A command's name, how many words its line has, and what its numbers are.
 use crate::fields::read;
-use words::same;
+use words::place;
 use words::span;
 ghost use mathlib.Core.Path.{_≡_};
-ghost use Rattle.line_words.specs.Commands.{ofFour, ofFive, ofOthers, named, commandOf, wordsOf};
+ghost use lib.ListN.{getD};
+ghost use Rattle.line_words.specs.Commands.{unknown, table, linesOf, found, lineOf};
 
 pub enum Command {
     Unknown,
@@ -14,6 +15,7 @@ pub enum Command {
     Back,
     Override,
     Clear,
+    Move,
     Ask,
     Plan,
     Rows,
@@ -23,110 +25,68 @@ pub enum Command {
     Conf,
 }
 
-fn of_four(word: &[u8]) -> Command
-    ensures { λ r. ⌜ r ≡ ofFour (now (word .entry)) ⌝ }
+// What a line's name says: its command, and how many words the line has.
+pub struct Line(pub Command, pub usize);
+
+// How many names there are.
+const NAMES: usize = 15;
+
+// What each name says, in the order of the names in `named`.
+const TABLE: [Line; NAMES] = [
+    Line(Command::Start, 13),
+    Line(Command::Join, 4),
+    Line(Command::Leave, 3),
+    Line(Command::Lost, 3),
+    Line(Command::Back, 3),
+    Line(Command::Override, 4),
+    Line(Command::Clear, 2),
+    Line(Command::Move, 2),
+    Line(Command::Ask, 1),
+    Line(Command::Plan, 2),
+    Line(Command::Rows, 2),
+    Line(Command::Frame, 5),
+    Line(Command::Request, 2),
+    Line(Command::Response, 3),
+    Line(Command::Conf, 11),
+];
+
+// No line has no words.
+fn unknown() -> Line
+    ensures { λ r. ⌜ r ≡ unknown ⌝ }
 {
-    if same(word, b"join") {
-        return Command::Join;
-    }
-    if same(word, b"lost") {
-        return Command::Lost;
-    }
-    if same(word, b"back") {
-        return Command::Back;
-    }
-    if same(word, b"plan") {
-        return Command::Plan;
-    }
-    if same(word, b"conf") {
-        return Command::Conf;
-    }
-    if same(word, b"rows") {
-        return Command::Rows;
-    }
-    Command::Unknown
+    Line(Command::Unknown, 0)
 }
 
-fn of_five(word: &[u8]) -> Command
-    ensures { λ r. ⌜ r ≡ ofFive (now (word .entry)) ⌝ }
+// The table's row at a place; past the last there is none.
+fn line_at(k: usize) -> Line
+    ensures { λ r. ⌜ r ≡ getD (linesOf table) k unknown ⌝ }
 {
-    if same(word, b"frame") {
-        return Command::Frame;
+    if k < NAMES {
+        return TABLE[k];
     }
-    if same(word, b"start") {
-        return Command::Start;
-    }
-    if same(word, b"leave") {
-        return Command::Leave;
-    }
-    if same(word, b"clear") {
-        return Command::Clear;
-    }
-    Command::Unknown
+    unknown()
 }
 
-fn of_others(word: &[u8]) -> Command
-    ensures { λ r. ⌜ r ≡ ofOthers (now (word .entry)) ⌝ }
+// The table's row of a name.
+fn named(word: &[u8]) -> Line
+    ensures { λ r. ⌜ r ≡ found table (now (word .entry)) ⌝ }
 {
-    if same(word, b"ask") {
-        return Command::Ask;
-    }
-    if same(word, b"override") {
-        return Command::Override;
-    }
-    if same(word, b"request") {
-        return Command::Request;
-    }
-    if same(word, b"response") {
-        return Command::Response;
-    }
-    Command::Unknown
+    line_at(place(
+        word,
+        b"start join leave lost back override clear move ask plan rows frame request response conf",
+    ))
 }
 
-fn of_name(word: &[u8]) -> Command
-    ensures { λ r. ⌜ r ≡ named (now (word .entry)) ⌝ }
-{
-    if word.len() == 4 {
-        return of_four(word);
-    }
-    if word.len() == 5 {
-        return of_five(word);
-    }
-    of_others(word)
-}
-
-pub fn command_of(line: &[u8], ends: &[usize]) -> Command
-    ensures { λ r. ⌜ r ≡ commandOf (now (line .entry)) (now (ends .entry)) ⌝ }
+// What the first word of a line says, by the ends of its words.
+pub fn line_of(line: &[u8], ends: &[usize]) -> Line
+    ensures { λ r. ⌜ r ≡ lineOf (now (line .entry)) (now (ends .entry)) ⌝ }
 {
     let name = span(ends, 0);
     let to = name.to;
     if to <= line.len() {
-        return of_name(&line[..to]);
+        return named(&line[..to]);
     }
-    Command::Unknown
-}
-
-// No line has no words.
-pub fn words_of(c: Command) -> usize
-    ensures { λ r. ⌜ r ≡ wordsOf c ⌝ }
-{
-    match c {
-        Command::Unknown => 0,
-        Command::Start => 13,
-        Command::Join => 4,
-        Command::Leave => 3,
-        Command::Lost => 3,
-        Command::Back => 3,
-        Command::Override => 4,
-        Command::Clear => 2,
-        Command::Ask => 2,
-        Command::Plan => 3,
-        Command::Rows => 2,
-        Command::Frame => 5,
-        Command::Request => 2,
-        Command::Response => 3,
-        Command::Conf => 11,
-    }
+    unknown()
 }
 
 // The numbers of a command: n a number, f a flag, m a maximum, r a room.
@@ -136,11 +96,10 @@ pub fn read_numbers(line: &[u8], ends: &[usize], c: Command, fields: &mut [u64])
         Command::Start => read(line, ends, b"nffnmmnnnfnf", fields),
         Command::Join | Command::Override => read(line, ends, b"nnn", fields),
         Command::Leave | Command::Lost | Command::Back => read(line, ends, b"nn", fields),
-        Command::Clear | Command::Ask | Command::Response => read(line, ends, b"n", fields),
-        Command::Plan => read(line, ends, b"nr", fields),
-        Command::Rows => read(line, ends, b"r", fields),
+        Command::Clear | Command::Move | Command::Response => read(line, ends, b"n", fields),
+        Command::Plan | Command::Rows => read(line, ends, b"r", fields),
         Command::Frame => read(line, ends, b"nnr", fields),
-        Command::Request => true,
+        Command::Ask | Command::Request => true,
         Command::Conf => read(line, ends, b"nnnnffffr", fields),
     }
 }

@@ -3,8 +3,8 @@ mod commands; // commands.rt: a command's name, how many words it has, and what 
 mod fields; // fields.rt: the numbers of a line
 
 pub use commands::Command;
-pub use commands::command_of;
+pub use commands::Line;
+pub use commands::line_of;
 pub use commands::read_numbers;
-pub use commands::words_of;
 pub use fields::FIELDS;
 pub use fields::smaller;

@@ -7,10 +7,9 @@ use kernel::Settings;
 use kernel::State;
 use line_words::Command;
 use line_words::FIELDS;
-use line_words::command_of;
+use line_words::line_of;
 use line_words::read_numbers;
 use line_words::smaller;
-use line_words::words_of;
 use receiver::RECORD;
 use row_lines::rows;
 use scrap_lines::is_scrap;
@@ -68,37 +67,31 @@ fn call(d: &mut State, c: Command, f: [u64; FIELDS]) -> u64 {
         Command::Lost => kernel::lost(d, f[0], f[1]),
         Command::Back => kernel::back(d, f[0], f[1]),
         Command::Override => kernel::set_override(d, f[0], f[1], f[2]),
+        Command::Move => kernel::move_clock(d, f[0]),
         _ => kernel::clear_override(d, f[0]),
     }
 }
 
-fn ask(d: &mut State, t: u64, out: &mut [u8], at: usize) -> usize {
-    let a = kernel::ask(d, t);
-    let values = a.values;
-    let p = text::put_decimal(out, at, a.number);
+// An ask is never refused: its number is 0.
+fn ask(d: &State, out: &mut [u8], at: usize) -> usize {
+    let values = kernel::ask(d);
+    let p = text::put_decimal(out, at, 0);
     let q = put_list(out, p, &values, kernel::VALUES as u64);
     put_end(out, q)
 }
 
-fn plan_into(
-    d: &mut State,
-    t: u64,
-    room: usize,
-    rows: &mut [i64],
-    out: &mut [u8],
-    at: usize,
-) -> usize
+fn plan_into(d: &State, room: usize, rows: &mut [i64], out: &mut [u8], at: usize) -> usize
     requires { ⌜ room ≤ length (now rows) ⌝ }
 {
-    let r = kernel::plan(d, t, &mut rows[..room]);
+    let r = kernel::plan(d, &mut rows[..room]);
     let p = text::put_decimal(out, at, r.number);
     let q = put_list(out, p, rows, numbers_of(r.count));
     put_end(out, q)
 }
 
-fn plan(d: &mut State, t: u64, room: u64, out: &mut [u8], at: usize) -> usize {
+fn plan(d: &State, room: u64, out: &mut [u8], at: usize) -> usize {
     let mut rows = [0i64; PLAN];
-    plan_into(d, t, smaller(room, PLAN), &mut rows, out, at)
+    plan_into(d, smaller(room, PLAN), &mut rows, out, at)
 }
 
 // Runs a command whose numbers are good; `word` is its last word.
@@ -112,8 +105,8 @@ fn run(
     at: usize,
 ) -> usize {
     match c {
-        Command::Ask => ask(d, f[0], out, at),
-        Command::Plan => plan(d, f[0], f[1], out, at),
+        Command::Ask => ask(d, out, at),
+        Command::Plan => plan(d, f[0], out, at),
         Command::Rows => rows(d, f[0], out, at),
         Command::Frame | Command::Request | Command::Response => with_bytes(
             d,
@@ -139,9 +132,10 @@ fn line(
     out: &mut [u8],
     at: usize,
 ) -> usize {
-    let c = command_of(s, ends);
+    let name = line_of(s, ends);
+    let c = name.0;
     let mut f = [0u64; FIELDS];
-    if count != words_of(c) {
+    if count != name.1 {
         return put_bad(out, at);
     }
     if !read_numbers(s, ends, c, &mut f) {

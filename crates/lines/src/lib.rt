@@ -2,8 +2,8 @@
 //
 // start DIRECTIONS LIMITS SETPOINTS MINIMUM MAXIMUM-C MAXIMUM-P FAILSAFE-C FAILSAFE-P DURATION MANAGER PHASES CURRENT
 // join ZONE RANK TIME, leave ZONE TIME, lost ZONE TIME, back ZONE TIME
-// override REASON DIRECTION TIME, clear TIME
-// ask TIME, plan TIME ROOM, rows RECORDS
+// override REASON DIRECTION TIME, clear TIME, move TIME
+// ask, plan ROOM, rows RECORDS
 // frame ZONE TIME ROOM BYTES, request BYTES, response COMMAND BYTES
 // scrap new ROOM BYTES, scrap same ROOM BYTES
 // conf TYPE MAP PHASES DIRECTIONS LIMITS CURRENT SETPOINTS PROCESS ROOM ATTRIBUTES
@@ -19,8 +19,8 @@ pub use scrap_lines::ROOM;
 // The longest line; a longer one is a bad line.
 pub const LONGEST: usize = 16384;
 
-// The most characters of a number, and the byte behind it.
-const CELL: usize = 20 + 1;
+// A number's digits, and the byte behind them.
+const CELL: usize = text::DIGITS + 1;
 
 // No answer is longer: a number and those of the longest plan, or two digits for each byte of the longest frame.
 pub const ANSWER: usize = (1 + kernel::PLAN) * CELL + 2 * kernel::FRAME;

@@ -3,7 +3,7 @@ use Prim.Native.Nat.{ℕ, _+_}
 use mathlib.Core.Bool.{Bool, cond, _&&_}
 use lib.Dec.{leb, eqb}
 
--- "Kinds: 1 join, 2 leave, 3 lost, 4 back, 5 frame, 6 plan, 7 override, 8 clear override, 9 ask"
+-- "Kinds: 1 join, 2 leave, 3 lost, 4 back, 5 frame, 6 plan, 7 override, 8 clear override"
 abbrev pub join : ℕ
 join = 1
 
@@ -28,8 +28,12 @@ override = 7
 abbrev pub clear : ℕ
 clear = 8
 
+-- "The bench kind 9 becomes the clock move; kind 10 is the ask"
+abbrev pub move : ℕ
+move = 9
+
 abbrev pub ask : ℕ
-ask = 9
+ask = 10
 
 -- kinds are 1 up to this one
 abbrev pub kinds : ℕ

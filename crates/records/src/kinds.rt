@@ -20,7 +20,9 @@ pub const OVERRIDE: u64 = 7;
 
 pub const CLEAR: u64 = 8;
 
-pub const ASK: u64 = 9;
+pub const MOVE: u64 = 9;
+
+pub const ASK: u64 = 10;
 
 // Kinds are 1 up to this one.
 pub const KINDS: u64 = ASK;

@@ -17,6 +17,7 @@ pub use kinds::JOIN;
 pub use kinds::KINDS;
 pub use kinds::LEAVE;
 pub use kinds::LOST;
+pub use kinds::MOVE;
 pub use kinds::OVERRIDE;
 pub use kinds::PLAN;
 

@@ -1,17 +1,15 @@
 -- What a script plays, from record to record, and a step as one record of it. Assumes nothing.
 use Prim.Native.Nat.{ℕ, zero, suc, _+_, _-_, _<_, _≤_}
 use mathlib.Core.Path.{_≡_, refl, sym, ap, _∙_}
-use mathlib.Core.Bool.{Bool, true, false, cond}
+use mathlib.Core.Bool.{true, false, cond}
 use mathlib.Core.List.{List, [], _∷_, _++_, append-assoc}
 use native.Mathlib.Omega.{arith}
-use lib.Dec.{eqb}
 use lib.IntN.{ℤ}
 use lib.ListN.{length, getD, take, drop, length-append, length-drop}
 use Rattle.text.specs.Text.{decimal}
 use Rattle.text.specs.Pieces.{putAll, pastAll, joined}
-use Rattle.device.specs.Calls.{joinNumber, joinAfter, leaveNumber, leaveAfter, linkNumber, linkAfter, overrideNumber, overrideAfter, clearNumber, clearAfter, askNumber, askAnswer, askAfter}
-use Rattle.holds.specs.Holds.{situationOf}
-use Rattle.planner.specs.Plan.{planOf, numbersOf, planNumber, planAnswer, planAfter, front, planSlice}
+use Rattle.device.specs.Calls.{joinNumber, joinAfter, leaveNumber, leaveAfter, linkNumber, linkAfter, overrideNumber, overrideAfter, clearNumber, clearAfter, moveNumber, moveAfter}
+use Rattle.planner.specs.Plan.{numbersOf, rowsFrom, planAnswer, front, planSlice}
 use Rattle.kernel.specs.Frame.{frameNumber, frameAnswer, frameOut}
 use Rattle.records.specs.Kinds.{head, longest}
 use Rattle.records.specs.Records.{recordAt}
@@ -20,10 +18,10 @@ use Rattle.records.specs.declared.fields.Scan.{Scan}
 use Rattle.records.proofs.Scans.{record-within}
 use Rattle.script.specs.Runs.{Left, alone, callOf, callLeaves, bodyOf, recordLeaves, scanLeaves, stepLeaves, stepFrom, stepAnswer}
 use Rattle.script.specs.Answers.{tablePieces, answerPieces}
-use Rattle.script.specs.Bench.{Answered, numbered, planRoom, answered, recordAnswered, planPieces, answeredPieces, Played, stopped, behind, playedFrom, played, script, frameRoom, rowsRoom, Comes}
+use Rattle.script.specs.Bench.{Answered, numbered, answered, recordAnswered, planPieces, answeredPieces, Played, stopped, behind, playedFrom, played, script, frameRoom, rowsRoom, Comes}
 use Rattle.script.specs.Laws.{PlayedBound}
 use Rattle.script.specs.declared.calls.Call.{Call}
-use Rattle.script.proofs.Rooms.{frame-number, frame-after, plan-number, plan-prints}
+use Rattle.script.proofs.Rooms.{frame-number, frame-after, plan-fits, plan-prints}
 use Rattle.script.proofs.Texts.{joined-more, pieces-front, pieces-on-page}
 use Rattle.script.proofs.Fronts.{moved, movedScan, front-scan, front-body, front-first, front-second, front-next}
 
@@ -39,13 +37,6 @@ alone-agrees : (n : ℕ) (ws out : List ℕ) (rows : List ℤ) → Agree (alone 
 unfolding alone numbered answerPieces tablePieces answeredPieces planPieces
 alone-agrees n ws out rows = (refl, refl)
 
-table-plan : (ws : List ℕ) (t : ℕ) (rows : List ℤ) (b : Bool)
-    → tablePieces (cond b (length (planOf (situationOf ws) t)) 0) (cond b (front (numbersOf (planOf (situationOf ws) t)) rows) rows)
-    ≡ planPieces (cond b (planOf (situationOf ws) t) [])
-unfolding front tablePieces planPieces
-table-plan ws t rows true = plan-prints ws t (drop (length (numbersOf (planOf (situationOf ws) t))) rows)
-table-plan ws t rows false = refl
-
 alone-as : (n m : ℕ) (ws us out : List ℕ) (rows : List ℤ) → n ≡ m → ws ≡ us → Agree (alone n ws out rows) (numbered m us)
 alone-as n m ws us out rows e f = rw (e, f) (alone-agrees m us out rows)
 
@@ -54,20 +45,16 @@ module _ (ws : List ℕ) (t : ℕ) (bytes out : List ℕ) (rows : List ℤ) (wid
   unfolding frameAnswer frameNumber
   framed-number z room = refl
 
-  asked-number : askAnswer ws t .number ≡ askNumber ws t
-  unfolding askAnswer
-  asked-number = refl
-
   frame-agrees : (z : ℕ) → Agree (callLeaves ws t bytes out rows (Call.Frame z)) (answered ws t bytes (Call.Frame z))
   unfolding callLeaves answered
   frame-agrees z =
       alone-as _ _ _ _ (frameOut ws z t bytes out) rows (framed-number z (length out) ∙ frame-number ws z t bytes (length out) wide) (frame-after ws z t bytes (length out) wide)
 
   plan-agrees : Agree (callLeaves ws t bytes out rows Call.Plan) (answered ws t bytes Call.Plan)
-  unfolding callLeaves answered answerPieces answeredPieces planAnswer planSlice planAfter
+  unfolding callLeaves answered answerPieces answeredPieces planAnswer planSlice front
   plan-agrees =
-      let n = planNumber ws t (planRoom ws t) in
-      rw (plan-number ws t (length rows) long) (ap (λ (l : List (List ℕ)). decimal n ∷ (10 ∷ []) ∷ l) (table-plan ws t rows (eqb n 0)), refl)
+      let old = drop (length (numbersOf (rowsFrom ws))) rows in
+      rw (plan-fits ws (length rows) long) (ap (λ (l : List (List ℕ)). decimal 0 ∷ (10 ∷ []) ∷ l) (plan-prints ws old), refl)
 
   call-agrees : (c : Call) → Agree (callLeaves ws t bytes out rows c) (answered ws t bytes c)
   unfolding callLeaves answered
@@ -79,7 +66,8 @@ module _ (ws : List ℕ) (t : ℕ) (bytes out : List ℕ) (rows : List ℤ) (wid
   call-agrees Call.Plan = plan-agrees
   call-agrees (Call.Override reason d) = alone-agrees (overrideNumber ws reason d t) (overrideAfter ws reason d t) out rows
   call-agrees Call.Clear = alone-agrees (clearNumber ws t) (clearAfter ws t) out rows
-  call-agrees Call.Ask = alone-as (askAnswer ws t .number) (askNumber ws t) (askAfter ws t) (askAfter ws t) out rows asked-number refl
+  call-agrees Call.Move = alone-agrees (moveNumber ws t) (moveAfter ws t) out rows
+  call-agrees Call.Ask = alone-agrees 0 ws out rows
 
 -- A SCRIPT: a larger bound changes nothing
 others-alike : (f g : List ℕ → List ℕ → Played) (ws s : List ℕ) (x : Scan)

@@ -13,16 +13,17 @@ use Rattle.frames.specs.Requests.{readRequest}
 use Rattle.frames.specs.Writing.{writingNumber}
 use Rattle.request_reader.specs.declared.requests.Reading.{Reading}
 use Rattle.store.specs.Sizes.{helds}
+use Rattle.store.specs.Words.{clockOf}
 use Rattle.holds.specs.Holds.{situationOf, valuesAt}
 use Rattle.planner.specs.Rows.{last, rowsOf, plan}
-use Rattle.planner.specs.Plan.{planOf, rowSize, numbersOf, planNumber}
+use Rattle.planner.specs.Plan.{planOf, rowSize, numbersOf, rowsFrom, planNumber}
 use Rattle.planner.proofs.Walk.{planOf-few}
 use Rattle.planner.proofs.Find.{values-length}
 use Rattle.planner.proofs.Answers.{numbers-length}
 use Rattle.kernel.proofs.Readable.{responses-short}
 use Rattle.kernel.specs.Frame.{responseFrame, numberFrom, frameNumber, frameAfter}
 use Rattle.script.specs.Answers.{rowPieces, tablePieces}
-use Rattle.script.specs.Bench.{responseRoom, planRoom, planPieces, frameRoom, rowsRoom}
+use Rattle.script.specs.Bench.{responseRoom, planPieces, frameRoom, rowsRoom}
 
 -- A RESPONSE: none is longer than the longest
 number-room : (ws : List ℕ) (z t room : ℕ) (x : Reading) → length (responseFrame ws z t x) ≤ room → numberFrom ws z t x room ≡ numberFrom ws z t x (length (responseFrame ws z t x))
@@ -43,12 +44,10 @@ module _ (ws : List ℕ) (z t : ℕ) (bytes : List ℕ) (room : ℕ) (h : frameR
   frame-after = rw (number-room ws z t room (readRequest bytes) (omega (arith, responses-short ws z t bytes)))
 
 -- A PLAN: 80 rows of twelve numbers at most
-module _ (ws : List ℕ) (t room : ℕ) (h : rowsRoom ≤ room) where
-  pub plan-number : planNumber ws t room ≡ planNumber ws t (planRoom ws t)
-  unfolding planNumber planRoom firstOf
-  plan-number =
-      let n = length (numbersOf (planOf (situationOf ws) t)) in
-      rw (le-ltb room n (omega (arith, numbers-length (situationOf ws) t, planOf-few ws t)), le-ltb n n (omega arith))
+pub plan-fits : (ws : List ℕ) (room : ℕ) → rowsRoom ≤ room → planNumber ws room ≡ 0
+unfolding planNumber rowsFrom firstOf
+plan-fits ws room h =
+    rw (le-ltb room (length (numbersOf (rowsFrom ws))) (omega (arith, numbers-length (situationOf ws) (clockOf ws), planOf-few ws (clockOf ws))))
 
 row-prints : (a : ℤ) (v ns old : List ℤ) (n : ℕ) → length v ≡ 1 + helds → tablePieces (suc n) (((a ∷ v) ++ ns) ++ old) ≡ rowPieces (a ∷ v) ++ tablePieces n (ns ++ old)
 unfolding tablePieces
@@ -75,6 +74,6 @@ rows-print f each (suc n) now old = go (List-discrete ℤ-discrete (f (suc now))
         row-prints (pos (suc now)) (f (suc now)) (numbersOf (rowsOf f (suc now) n)) old (length (rowsOf f (suc now) n)) (each (suc now))
         ∙ ap (λ (l : List (List ℕ)). rowPieces (pos (suc now) ∷ f (suc now)) ++ l) h
 
-pub plan-prints : (ws : List ℕ) (t : ℕ) (old : List ℤ) → Prints old (planOf (situationOf ws) t)
-unfolding planOf plan
-plan-prints ws t old = rows-print (valuesAt (situationOf ws)) (values-length (situationOf ws)) (last - t) t old
+pub plan-prints : (ws : List ℕ) (old : List ℤ) → Prints old (rowsFrom ws)
+unfolding rowsFrom planOf plan
+plan-prints ws old = rows-print (valuesAt (situationOf ws)) (values-length (situationOf ws)) (last - clockOf ws) (clockOf ws) old

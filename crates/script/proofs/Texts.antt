@@ -10,13 +10,13 @@ use lib.ListN.{length, take, drop, length-append, take-append-drop}
 use lib.Seq.{sets-eq, take-at, length-take-le}
 use Rattle.bytes.specs.Bytes.{put}
 use Rattle.bytes.proofs.PutLaws.{put-whole}
-use Rattle.text.specs.Text.{widthIn, decimal}
+use Rattle.text.specs.Text.{widthIn, mostDigits, decimal}
 use Rattle.text.specs.Pieces.{putAll, pastAll, joined}
 use Rattle.text.proofs.Digits.{decimal-length}
 use Rattle.text.proofs.Pieces.{pieces-join, pieces-length, pieces-within}
 use Rattle.planner.specs.Plan.{rowSize}
 use Rattle.script.specs.Answers.{cell, rowPieces, tablePieces, answerPieces}
-use Rattle.script.specs.Bench.{rowsRoom, answerRoom}
+use Rattle.script.specs.Bench.{rowsRoom, cellRoom, answerRoom}
 
 pub joined-more : (xs ys : List (List ℕ)) → joined (xs ++ ys) ≡ joined xs ++ joined ys
 unfolding joined
@@ -33,22 +33,22 @@ width-short (suc f) n = go (ltb n 10) (width-short f (n / 10))
     go true h = omega arith
     go false h = omega arith
 
-decimal-long : (n : ℕ) → length (decimal n) ≤ 20
+decimal-long : (n : ℕ) → length (decimal n) ≤ mostDigits
 decimal-long n = omega (arith, decimal-length n (widthIn 19 n) refl, width-short 19 n)
 
-cell-long : (z : ℤ) → length (cell z) ≤ 20
+cell-long : (z : ℤ) → length (cell z) ≤ mostDigits
 unfolding cell
 cell-long (pos n) = decimal-long n
 cell-long (negsuc n) = omega arith
 
 -- a number and the byte behind it
-row-long : (r : List ℤ) → length (joined (rowPieces r)) ≤ 21 * length r
+row-long : (r : List ℤ) → length (joined (rowPieces r)) ≤ cellRoom * length r
 unfolding joined rowPieces
 row-long [] = omega arith
 row-long (x ∷ []) = omega (arith, length-append (cell x) (10 ∷ []), cell-long x)
 row-long (x ∷ y ∷ r) = omega (arith, length-append (cell x) (32 ∷ joined (rowPieces (y ∷ r))), cell-long x, row-long (y ∷ r))
 
-table-long : (n : ℕ) (rs : List ℤ) → length (joined (tablePieces n rs)) ≤ 21 * length rs
+table-long : (n : ℕ) (rs : List ℤ) → length (joined (tablePieces n rs)) ≤ cellRoom * length rs
 unfolding joined tablePieces
 table-long zero rs = omega arith
 table-long (suc n) rs =

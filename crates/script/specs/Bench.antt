@@ -4,19 +4,17 @@ use Prim.Native.Nat.{ℕ, zero, suc, _+_, _*_, _≤_}
 use mathlib.Core.Path.{_≡_}
 use mathlib.Core.Bool.{Bool, true, false, cond}
 use mathlib.Core.List.{List, [], _∷_, _++_}
-use lib.Dec.{eqb}
 use lib.IntN.{ℤ, pos}
 use lib.ListN.{length, getD, take, drop}
-use Rattle.text.specs.Text.{decimal}
+use Rattle.text.specs.Text.{mostDigits, decimal}
 use Rattle.text.specs.Pieces.{joined}
 use Rattle.store.specs.Sizes.{slots, helds, most}
-use Rattle.holds.specs.Holds.{situationOf}
-use Rattle.device.specs.Calls.{joinNumber, joinAfter, leaveNumber, leaveAfter, linkNumber, linkAfter, overrideNumber, overrideAfter, clearNumber, clearAfter, askNumber, askAfter}
+use Rattle.device.specs.Calls.{joinNumber, joinAfter, leaveNumber, leaveAfter, linkNumber, linkAfter, overrideNumber, overrideAfter, clearNumber, clearAfter, moveNumber, moveAfter}
 use Rattle.device.specs.Start.{startAfter}
 use Rattle.store.specs.declared.Settings.{Settings}
 use Rattle.frames.specs.Requests.{readRequest}
 use Rattle.frames.specs.Sizes.{longestResponse}
-use Rattle.planner.specs.Plan.{planOf, rowSize, numbersOf, planNumber, planAfter}
+use Rattle.planner.specs.Plan.{rowSize, rowsFrom}
 use Rattle.kernel.specs.Frame.{responseFrame, frameNumber, frameAfter}
 use Rattle.records.specs.Records.{recordAt}
 use Rattle.records.specs.declared.fields.Record.{Record}
@@ -51,14 +49,11 @@ pub record Answered : Type 0 where
 unfoldable pub numbered : ℕ → List ℕ → Answered
 numbered n ws = record { number = n; rows = []; words = ws }
 
--- the room that a frame's response takes, and that a plan's rows take
+-- the room that a frame's response takes
 unfoldable pub responseRoom : List ℕ → ℕ → ℕ → List ℕ → ℕ
 responseRoom ws z t bytes = length (responseFrame ws z t (readRequest bytes))
 
-unfoldable pub planRoom : List ℕ → ℕ → ℕ
-planRoom ws t = length (numbersOf (planOf (situationOf ws) t))
-
--- a call at t, a frame's bytes beside it
+-- a call at t, a frame's bytes beside it. A plan that has room and an ask are never refused, move nothing and pass t over
 unfoldable pub answered : List ℕ → ℕ → List ℕ → Call → Answered
 answered ws t bytes (Call.Join z k) = numbered (joinNumber ws z k t) (joinAfter ws z k t)
 answered ws t bytes (Call.Leave z) = numbered (leaveNumber ws z t) (leaveAfter ws z t)
@@ -66,15 +61,11 @@ answered ws t bytes (Call.Lost z) = numbered (linkNumber ws z false t) (linkAfte
 answered ws t bytes (Call.Back z) = numbered (linkNumber ws z true t) (linkAfter ws z true t)
 answered ws t bytes (Call.Frame z) =
     numbered (frameNumber ws z t bytes (responseRoom ws z t bytes)) (frameAfter ws z t bytes (responseRoom ws z t bytes))
-answered ws t bytes Call.Plan =
-    record {
-      number = planNumber ws t (planRoom ws t);
-      rows = cond (eqb (planNumber ws t (planRoom ws t)) 0) (planOf (situationOf ws) t) [];
-      words = planAfter ws t (planRoom ws t);
-    }
+answered ws t bytes Call.Plan = record { number = 0; rows = rowsFrom ws; words = ws }
 answered ws t bytes (Call.Override reason d) = numbered (overrideNumber ws reason d t) (overrideAfter ws reason d t)
 answered ws t bytes Call.Clear = numbered (clearNumber ws t) (clearAfter ws t)
-answered ws t bytes Call.Ask = numbered (askNumber ws t) (askAfter ws t)
+answered ws t bytes Call.Move = numbered (moveNumber ws t) (moveAfter ws t)
+answered ws t bytes Call.Ask = numbered 0 ws
 
 -- a record of a script
 unfoldable pub recordAnswered : List ℕ → List ℕ → Record → Answered
@@ -131,9 +122,9 @@ frameRoom = longestResponse
 abbrev pub rowsRoom : ℕ
 rowsRoom = slots * helds * rowSize
 
--- room for every answer: a number's line, and a row's numbers of 20 digits at most with a byte behind each
+-- room for every answer: a number's line, and a plan's numbers, each with a byte behind it
 abbrev pub cellRoom : ℕ
-cellRoom = 21
+cellRoom = mostDigits + 1
 
 abbrev pub answerRoom : ℕ
 answerRoom = (1 + rowsRoom) * cellRoom

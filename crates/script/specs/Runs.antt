@@ -5,10 +5,10 @@ use mathlib.Core.List.{List}
 use lib.Dec.{eqb}
 use lib.IntN.{ℤ}
 use lib.ListN.{length, getD, take, drop}
-use Rattle.kernel.specs.Door.{joinNumber, joinAfter, leaveNumber, leaveAfter, linkNumber, linkAfter, overrideNumber, overrideAfter, clearNumber, clearAfter, askAnswer, askAfter}
-use Rattle.kernel.specs.Door.{planAnswer, planAfter, planSlice}
+use Rattle.kernel.specs.Door.{joinNumber, joinAfter, leaveNumber, leaveAfter, linkNumber, linkAfter, overrideNumber, overrideAfter, clearNumber, clearAfter, moveNumber, moveAfter}
+use Rattle.kernel.specs.Door.{planAnswer, planSlice}
 use Rattle.kernel.specs.Frame.{frameAnswer, frameAfter, frameOut}
-use Rattle.records.specs.Kinds.{join, leave, lost, back, frame, plan, override, clear}
+use Rattle.records.specs.Kinds.{join, leave, lost, back, frame, plan, override, clear, move}
 use Rattle.records.specs.Records.{recordAt}
 use Rattle.records.specs.declared.fields.Record.{Record}
 use Rattle.records.specs.declared.fields.Scan.{Scan}
@@ -16,8 +16,8 @@ use Rattle.script.specs.declared.calls.Call.{Call}
 use Rattle.script.specs.declared.calls.Ran.{Ran}
 use Rattle.script.specs.declared.calls.Stepped.{Stepped}
 
--- "Kinds: 1 join (rank), 2 leave, 3 lost, 4 back, 5 frame, 6 plan, 7 override (reason, direction), 8 clear override, 9 ask";
--- a and b are the body's first bytes, and "the zone is passed over at kinds 6 to 9"
+-- "Kinds: 1 join (rank), 2 leave, 3 lost, 4 back, 5 frame, 6 plan, 7 override (reason, direction), 8 clear override";
+-- "kind 9 becomes the clock move; kind 10 is the ask". a and b are the body's first bytes; the zone is passed over from kind 6 on
 unfoldable pub callOf : ℕ → ℕ → ℕ → ℕ → Call
 callOf kind z a b =
     cond (eqb kind join) (Call.Join z a)
@@ -27,7 +27,8 @@ callOf kind z a b =
     (cond (eqb kind frame) (Call.Frame z)
     (cond (eqb kind plan) Call.Plan
     (cond (eqb kind override) (Call.Override a b)
-    (cond (eqb kind clear) Call.Clear Call.Ask)))))))
+    (cond (eqb kind clear) Call.Clear
+    (cond (eqb kind move) Call.Move Call.Ask))))))))
 
 -- what a call answers and leaves: its number, how many rows, the device's words, the output, the rows
 pub record Left : Type 0 where
@@ -40,7 +41,8 @@ pub record Left : Type 0 where
 unfoldable pub alone : ℕ → List ℕ → List ℕ → List ℤ → Left
 alone n ws out rows = record { ran = record { number = n; count = 0 }; words = ws; out = out; rows = rows }
 
--- a call at t, a frame's bytes beside it
+-- a call at t, a frame's bytes beside it. An ask is never refused and moves nothing;
+-- "its time field, like that of the plan, is read and passed over"
 unfoldable pub callLeaves : List ℕ → ℕ → List ℕ → List ℕ → List ℤ → Call → Left
 callLeaves ws t bytes out rows (Call.Join z k) = alone (joinNumber ws z k t) (joinAfter ws z k t) out rows
 callLeaves ws t bytes out rows (Call.Leave z) = alone (leaveNumber ws z t) (leaveAfter ws z t) out rows
@@ -50,14 +52,15 @@ callLeaves ws t bytes out rows (Call.Frame z) =
     alone (frameAnswer ws z t bytes (length out) .number) (frameAfter ws z t bytes (length out)) (frameOut ws z t bytes out) rows
 callLeaves ws t bytes out rows Call.Plan =
     record {
-      ran = record { number = planAnswer ws t (length rows) .number; count = planAnswer ws t (length rows) .count };
-      words = planAfter ws t (length rows);
+      ran = record { number = planAnswer ws (length rows) .number; count = planAnswer ws (length rows) .count };
+      words = ws;
       out = out;
-      rows = planSlice ws t rows;
+      rows = planSlice ws rows;
     }
 callLeaves ws t bytes out rows (Call.Override reason d) = alone (overrideNumber ws reason d t) (overrideAfter ws reason d t) out rows
 callLeaves ws t bytes out rows Call.Clear = alone (clearNumber ws t) (clearAfter ws t) out rows
-callLeaves ws t bytes out rows Call.Ask = alone (askAnswer ws t .number) (askAfter ws t) out rows
+callLeaves ws t bytes out rows Call.Move = alone (moveNumber ws t) (moveAfter ws t) out rows
+callLeaves ws t bytes out rows Call.Ask = alone 0 ws out rows
 
 -- a record's body, and its call
 unfoldable pub bodyOf : List ℕ → Record → List ℕ

@@ -32,11 +32,11 @@ use Rattle.store.specs.Zones.{upTo, first, any, idOf, rankOf, isJoined, isUp, s
 use Rattle.store.specs.Zones.{joined as joinedIn}
 use Rattle.store.specs.Words.{settingsOf, heldIn, zoneAt, zonesOf, bit, heldWords, putZone, applied, after, settingWords, fresh}
 use Rattle.quantities.specs.Quantities.{lowAt, supports}
-use Rattle.holds.specs.Holds.{situationOf, claimOf, goesBefore, better, winner, inFailsafe, smallestWith, failsafeValue, valueAt, present, stateAt, shown, valuesAt}
+use Rattle.holds.specs.Holds.{claimOf, goesBefore, better, winner, inFailsafe, smallestWith, failsafeValue, valueAt, present, stateAt, shown, valuesAt}
 use Rattle.holds.specs.Dues.{zoneDues, heldDues, dues, nearer, nearest}
 use Rattle.device.specs.Refusals.{firstOf, late}
 use Rattle.holds.specs.Links.{sinceAfter}
-use Rattle.device.specs.Calls.{zoneChange, joinNumber, joinAfter}
+use Rattle.device.specs.Calls.{zoneChange, joinNumber, joinAfter, moveNumber, moveAfter}
 use Rattle.store.specs.Words.{headChange}
 use Rattle.rules.specs.Rules.{badJoin}
 use Rattle.command.specs.Says.{says, someOf}
@@ -46,12 +46,12 @@ use Rattle.command.specs.Obeys.{fieldAction, action, untilOf, done, obeyed}
 use Rattle.command.specs.Outcomes.{isCapped, reasonOf, outcomeWith}
 use Rattle.rules.specs.Rules.{badMaximum, outside, badSettings}
 use Rattle.device.specs.Start.{startAfter}
-use Rattle.planner.specs.Plan.{planOf, numbersOf, planNumber}
+use Rattle.planner.specs.Plan.{rowsFrom}
 use Rattle.planner.specs.Walk.{sameNumber, alike, step, walk}
 use Rattle.planner.proofs.Walk.{planOf-walk}
 use Rattle.script.specs.Runs.{callOf, bodyOf}
 use Rattle.script.specs.Answers.{cell, rowPieces}
-use Rattle.script.specs.Bench.{benchSettings, numbered, responseRoom, planRoom, answered, recordAnswered, planPieces, answeredPieces, ended, behind, playedFrom, played, script, benchText}
+use Rattle.script.specs.Bench.{benchSettings, numbered, responseRoom, answered, recordAnswered, planPieces, answeredPieces, ended, behind, playedFrom, played, script, benchText}
 use Rattle.script_laws.specs.Example.{frame3, frame9, exampleScript, zeros, row120, row160, BenchExample}
 
 -- A FRAME THAT IS READ is its command, where there is room for the response
@@ -103,8 +103,8 @@ module _ (ws : List ℕ) where
   abbrev four : List ℕ
   four = tell three 9 (limit 4600000 20)
 
-  abbrev planned : ℕ
-  planned = planNumber four 110 (planRoom four 110)
+  abbrev five : List ℕ
+  five = moveAfter four 110
 
   abbrev line : ℕ → List (List ℕ) → List (List ℕ)
   line n l = decimal n ∷ (10 ∷ []) ∷ l
@@ -115,7 +115,8 @@ module _ (ws : List ℕ) where
       (line (joinNumber (joinAfter ws 3 1 100) 9 2 100)
       (line (commandNumber two 3 100 (limit 11040000 60))
       (line (commandNumber three 9 100 (limit 4600000 20))
-      (line planned (planPieces (cond (eqb planned 0) (planOf (situationOf four) 110) []) ++ [])))))
+      (line (moveNumber four 110)
+      (line 0 (planPieces (rowsFrom five) ++ []))))))
 
   made : script ws exampleScript .pieces ≡ calls
   unfolding numberAt rightLength rightBody isMark fieldsAt good recordAt callOf bodyOf numbered answered recordAnswered answeredPieces planPieces ended behind playedFrom played script
@@ -124,10 +125,10 @@ module _ (ws : List ℕ) where
 
 -- WHAT THEY ANSWER
 answers : joined (calls (startAfter benchSettings)) ≡ zeros ++ row120 ++ row160
-unfolding joined decimal digits widthIn cell rowPieces planPieces planRoom planNumber numbersOf walk step nearest nearer alike sameNumber dues heldDues zoneDues lowAt upTo first any idOf
+unfolding joined decimal digits widthIn cell rowPieces planPieces rowsFrom walk step nearest nearer alike sameNumber dues heldDues zoneDues lowAt upTo first any idOf
     rankOf isJoined isUp slotOf joinedIn zoneOf heldOf anyJoined anyUp settingsOf heldIn zoneAt zonesOf bit heldWords putZone applied after settingWords fresh supports
     claimOf goesBefore better winner inFailsafe smallestWith failsafeValue valueAt present stateAt shown valuesAt firstOf late sinceAfter zoneChange
-    headChange badJoin joinNumber joinAfter unsupported invalid tooLow belowTheMinimum
+    headChange badJoin joinNumber joinAfter moveNumber moveAfter unsupported invalid tooLow belowTheMinimum
     commandNumber says someOf fieldAction action untilOf done obeyed commandAfter isCapped reasonOf outcomeWith commandAnswer
     badMaximum outside badSettings startAfter
 answers = simp planOf-walk

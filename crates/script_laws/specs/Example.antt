@@ -1,4 +1,4 @@
--- Document 01's example of a bench script, and the whole output. Assumes nothing: these are definitions and one statement.
+-- Document 01's example of a bench script with its clock move, and the whole output. Assumes nothing: these are definitions and one statement.
 use Prim.Native.Nat.{ℕ}
 use mathlib.Core.Path.{_≡_}
 use mathlib.Core.List.{List, [], _∷_, _++_}
@@ -30,17 +30,21 @@ frame9 =
 abbrev pub limit9 : List ℕ
 limit9 = 0x4D ∷ 0x48 ∷ 0x05 ∷ 0x09 ∷ 0x00 ∷ 0x00 ∷ 0x00 ∷ 0x64 ∷ 0x00 ∷ 0x19 ∷ frame9
 
+-- "a clock move to 110 before its plan"
+abbrev pub moveTo : List ℕ
+moveTo = 0x4D ∷ 0x48 ∷ 0x09 ∷ 0x00 ∷ 0x00 ∷ 0x00 ∷ 0x00 ∷ 0x6E ∷ 0x00 ∷ 0x00 ∷ []
+
 -- "plan at 110"
 abbrev pub planAt : List ℕ
 planAt = 0x4D ∷ 0x48 ∷ 0x06 ∷ 0x00 ∷ 0x00 ∷ 0x00 ∷ 0x00 ∷ 0x6E ∷ 0x00 ∷ 0x00 ∷ []
 
--- the five records
+-- the six records
 abbrev pub exampleScript : List ℕ
-exampleScript = join3 ++ join9 ++ limit3 ++ limit9 ++ planAt
+exampleScript = join3 ++ join9 ++ limit3 ++ limit9 ++ moveTo ++ planAt
 
--- five lines of 0
+-- six lines of 0: "its output one more line `0`"
 abbrev pub zeros : List ℕ
-zeros = 48 ∷ 10 ∷ 48 ∷ 10 ∷ 48 ∷ 10 ∷ 48 ∷ 10 ∷ 48 ∷ 10 ∷ []
+zeros = 48 ∷ 10 ∷ 48 ∷ 10 ∷ 48 ∷ 10 ∷ 48 ∷ 10 ∷ 48 ∷ 10 ∷ 48 ∷ 10 ∷ []
 
 -- "120 2 11040000 - - - - - - - - -"
 abbrev pub row120 : List ℕ

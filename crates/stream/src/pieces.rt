@@ -9,8 +9,8 @@ ghost use lib.ListN.{length, drop};
 ghost use Rattle.records.specs.Kinds.{longest};
 ghost use Rattle.script.specs.Bench.{script, frameRoom, rowsRoom, answerRoom, remaining, Comes};
 
-// The most characters of a number, and the byte behind it.
-const CELL: usize = 20 + 1;
+// A number's digits, and the byte behind them.
+const CELL: usize = text::DIGITS + 1;
 
 // Room for the longest answer: a number's line, and the numbers of the longest plan.
 const ANSWER: usize = (1 + PLAN) * CELL;

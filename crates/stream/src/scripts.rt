@@ -3,9 +3,9 @@ use crate::input::Input;
 use crate::input::fill;
 use crate::pieces::Place;
 use crate::pieces::run;
-use kernel::FRAME;
 use kernel::MOST;
 use kernel::PLAN;
+use kernel::RESPONSE;
 use kernel::Settings;
 use kernel::State;
 use kernel::WORDS;
@@ -95,7 +95,7 @@ pub fn play(limit: u64) -> u64 {
     kernel::start(&mut d, settings());
     let mut buf = io::large_buffer();
     let mut page = io::large_buffer();
-    let mut out = [0u8; FRAME];
+    let mut out = [0u8; RESPONSE];
     let mut rows = [0i64; PLAN];
     play_with(&mut d, limit, &mut buf, &mut page, &mut out, &mut rows)
 }

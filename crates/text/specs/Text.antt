@@ -15,6 +15,10 @@ unfoldable pub widthIn : ℕ → ℕ → ℕ
 widthIn zero n = 1
 widthIn (suc f) n = cond (ltb n 10) 1 (suc (widthIn f (n / 10)))
 
+-- the most digits of a number of 64 bits
+abbrev pub mostDigits : ℕ
+mostDigits = 20
+
 -- a number of 64 bits, with no leading zero
 unfoldable pub decimal : ℕ → List ℕ
 decimal n = digits (widthIn 19 n) n

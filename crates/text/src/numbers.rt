@@ -6,12 +6,15 @@ ghost use Prim.Native.Nat.{_+_, _≤_};
 ghost use lib.IntN.{natAbs};
 ghost use lib.ListN.{length};
 ghost use Rattle.bytes.specs.Bytes.{put, putWhole, pastWhole};
-ghost use Rattle.text.specs.Text.{digits, widthIn, decimal, signed};
+ghost use Rattle.text.specs.Text.{digits, widthIn, mostDigits, decimal, signed};
+
+// The most digits of a number.
+pub const DIGITS: usize = 20;
 
 // How many digits a number has.
 fn width_of(n: u64) -> usize
     ensures { λ r. ⌜ r ≡ widthIn 19 n ⌝ }
-    ensures { λ r. ⌜ r ≤ 20 ⌝ }
+    ensures { λ r. ⌜ r ≤ mostDigits ⌝ }
 {
     let mut width: usize = 1;
     let mut rest = n;

@@ -28,7 +28,7 @@ module _ (b : ℕ) (s : List ℕ) (i q : ℕ) (inv : nextOf b i (drop i s) ≡ q
   next-end h = let a : drop i s ≡ [] = rw h (drop-length s) in rw a at inv
 
 -- a text's first end, and the ends behind it
-next-past : (b p : ℕ) (s : List ℕ) → p ≤ nextOf b p s
+pub next-past : (b p : ℕ) (s : List ℕ) → p ≤ nextOf b p s
 unfolding nextOf
 next-past b p [] = omega arith
 next-past b p (x ∷ s) = go (eqb x b) (next-past b (suc p) s)

@@ -4,4 +4,5 @@ mod Pairs
 mod Cuts
 mod Written
 mod Ends
+mod Places
 mod Attributes

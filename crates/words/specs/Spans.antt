@@ -22,9 +22,13 @@ endsFrom b p (x ∷ s) = cond (eqb x b) (p ∷ endsFrom b (suc p) s) (endsFrom b
 abbrev pub wordEnds : List ℕ → List ℕ
 wordEnds s = endsFrom 32 0 s
 
--- how many words a line has; the largest word where there is no room for so many ends
+-- the largest number of 64 bits: no count and no place is so large
+abbrev pub largest : ℕ
+largest = 18446744073709551615
+
+-- how many words a line has; the largest number where there is no room for so many ends
 unfoldable pub wordsIn : List ℕ → ℕ → ℕ
-wordsIn s room = cond (leb (length (wordEnds s)) room) (length (wordEnds s)) 18446744073709551615
+wordsIn s room = cond (leb (length (wordEnds s)) room) (length (wordEnds s)) largest
 
 -- the room afterwards: the ends at its front, as far as they fit
 unfoldable pub endsAfter : List ℕ → List ℕ → List ℕ
@@ -44,3 +48,17 @@ sameBytes [] [] = true
 sameBytes [] (b ∷ t) = false
 sameBytes (a ∷ s) [] = false
 sameBytes (a ∷ s) (b ∷ t) = cond (eqb a b) (sameBytes s t) false
+
+-- the words themselves
+unfoldable pub longer : ℕ → List (List ℕ) → List (List ℕ)
+longer x [] = (x ∷ []) ∷ []
+longer x (w ∷ ws) = (x ∷ w) ∷ ws
+
+unfoldable pub wordsOf : List ℕ → List (List ℕ)
+wordsOf [] = [] ∷ []
+wordsOf (x ∷ s) = cond (eqb x 32) ([] ∷ wordsOf s) (longer x (wordsOf s))
+
+-- which of them is the same as w, counted from k on: the first that is; the largest number where none is
+unfoldable pub placeFrom : ℕ → List ℕ → List (List ℕ) → ℕ
+placeFrom k w [] = largest
+placeFrom k w (x ∷ ws) = cond (sameBytes w x) k (placeFrom (suc k) w ws)

@@ -2,7 +2,7 @@
 ghost use mathlib.Core.Path.{_≡_};
 ghost use Prim.Native.Nat.{_≤_};
 ghost use lib.ListN.{length, getD, drop};
-ghost use Rattle.words.specs.Spans.{nextOf, wordsIn, endsAfter, startOf, spanOf, sameBytes};
+ghost use Rattle.words.specs.Spans.{nextOf, wordsIn, endsAfter, startOf, spanOf, sameBytes, wordsOf, placeFrom};
 
 // The start and the end of a word.
 pub struct Bounds {
@@ -95,4 +95,23 @@ pub fn same(a: &[u8], b: &[u8]) -> bool
         i += 1;
     }
     true
+}
+
+// Which word of a line is the same as `word`, the first being 0; the largest number where none is.
+pub fn place(word: &[u8], line: &[u8]) -> usize
+    ensures { λ r. ⌜ r ≡ placeFrom 0 (now (word .entry)) (wordsOf (now (line .entry))) ⌝ }
+{
+    let mut k = 0;
+    let mut at = 0;
+    loop {
+        let end = next(line, at, b' ');
+        if same(word, &line[at..end]) {
+            return k;
+        }
+        if line.len() <= end {
+            return usize::MAX;
+        }
+        k += 1;
+        at = end + 1;
+    }
 }

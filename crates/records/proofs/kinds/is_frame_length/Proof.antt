@@ -1,5 +1,6 @@
 -- Both tests are the definition's.
 use borrow.Author.Tests.{le-leb, lt-leb}
+use Rattle.records.specs.Kinds.{frameLeast}
 use Rattle.records.proofs.kinds.is_frame_length.Statement.{statement}
 use Rattle.records.proofs.kinds.is_frame_length.Tie as tie
 
@@ -7,4 +8,4 @@ pub is-frame-length-spec : {M : Type 1} → statement M
 is-frame-length-spec =
     tie.close
     (tie.spec
-    (λ c. rw (le-leb _ _ (c .if1 .taken))) (λ c. rw (lt-leb _ _ (c .if1 .left))))
+    (λ c. rw (le-leb frameLeast _ (c .if1 .taken))) (λ c. rw (lt-leb frameLeast _ (c .if1 .left))))

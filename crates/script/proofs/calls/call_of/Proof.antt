@@ -1,4 +1,5 @@
 -- Each kind has its call.
+use mathlib.Core.Path.{refl}
 use Rattle.script.specs.Runs.{callOf}
 use borrow.Author.Tests.{ne-eqb}
 use Rattle.script.proofs.calls.call_of.Statement.{statement}
@@ -9,18 +10,19 @@ unfolding callOf
 call-of-spec =
     tie.close
     (tie.spec
-    (λ c. rw (c .match .keys1)) (λ c. rw (c .match .keys2)) (λ c. rw (c .match .keys3))
-    (λ c. rw (c .match .keys4)) (λ c. rw (c .match .keys5)) (λ c. rw (c .match .keys6))
-    (λ c. rw (c .match .keys7)) (λ c. rw (c .match .keys8))
+    (λ c. rw (c .match .keys1) refl) (λ c. rw (c .match .keys2) refl) (λ c. rw (c .match .keys3) refl)
+    (λ c. rw (c .match .keys4) refl) (λ c. rw (c .match .keys5) refl) (λ c. rw (c .match .keys6) refl)
+    (λ c. rw (c .match .keys7) refl) (λ c. rw (c .match .keys8) refl) (λ c. rw (c .match .keys9) refl)
     (λ c.
     let at-kind = c .before .args .kind in
     rw (
-      ne-eqb at-kind 1 (c .match .rest .0 .0 .0 .0 .0 .0 .0 .1),
-      ne-eqb at-kind 2 (c .match .rest .0 .0 .0 .0 .0 .0 .1),
-      ne-eqb at-kind 3 (c .match .rest .0 .0 .0 .0 .0 .1),
-      ne-eqb at-kind 4 (c .match .rest .0 .0 .0 .0 .1),
-      ne-eqb at-kind 5 (c .match .rest .0 .0 .0 .1),
-      ne-eqb at-kind 6 (c .match .rest .0 .0 .1),
-      ne-eqb at-kind 7 (c .match .rest .0 .1),
-      ne-eqb at-kind 8 (c .match .rest .1),
+      ne-eqb at-kind 1 (c .match .rest .0 .0 .0 .0 .0 .0 .0 .0 .1),
+      ne-eqb at-kind 2 (c .match .rest .0 .0 .0 .0 .0 .0 .0 .1),
+      ne-eqb at-kind 3 (c .match .rest .0 .0 .0 .0 .0 .0 .1),
+      ne-eqb at-kind 4 (c .match .rest .0 .0 .0 .0 .0 .1),
+      ne-eqb at-kind 5 (c .match .rest .0 .0 .0 .0 .1),
+      ne-eqb at-kind 6 (c .match .rest .0 .0 .0 .1),
+      ne-eqb at-kind 7 (c .match .rest .0 .0 .1),
+      ne-eqb at-kind 8 (c .match .rest .0 .1),
+      ne-eqb at-kind 9 (c .match .rest .1),
     )))

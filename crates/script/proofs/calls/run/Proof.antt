@@ -15,7 +15,8 @@ run-spec =
     (λ c. search needs) (λ c κs. search needs) (λ c κs. search needs) (λ c. search needs)
     (λ c κs. search needs) (λ c. search needs) (λ c κs. search needs) (λ c κs. search needs)
     (λ c. search needs) (λ c κs. search needs) (λ c κs. search needs) (λ c. search needs)
-    (λ c κs. search needs) (λ c κs. search needs)
+    (λ c κs. search needs) (λ c κs. search needs) (λ c. search needs) (λ c κs. search needs)
+    (λ c κs. search needs)
     (λ c.
     let at-c = c .before .before .before .before .c in
     rw (at-c .given .1, c .alone .ensures, c .before .join .ensures .0, c .before .join .ensures .1))
@@ -36,7 +37,7 @@ run-spec =
     (λ c. search needs)
     (λ c.
     let at-enum-told = c .before .before .before .before .enum-told in
-    rw (at-enum-told .given .1, c .before .plan .ensures .0, c .before .plan .ensures .1 .0, c .before .plan .ensures .1 .1))
+    rw (at-enum-told .given .1, c .before .plan .ensures .0, c .before .plan .ensures .1))
     (λ c.
     let at-c6 = c .before .before .before .before .c6 in
     rw (at-c6 .given .1, c .alone6 .ensures, c .before .set-override .ensures .0, c .before .set-override .ensures .1))
@@ -45,4 +46,7 @@ run-spec =
     rw (at-enum-told2 .given .1, c .alone7 .ensures, c .before .clear-override .ensures .0, c .before .clear-override .ensures .1))
     (λ c.
     let at-enum-told3 = c .before .before .before .enum-told3 in
-    rw (at-enum-told3 .given .1, c .alone8 .ensures, c .before .ask .ensures .0, c .before .ask .ensures .1)))
+    rw (at-enum-told3 .given .1, c .alone8 .ensures, c .before .move-clock .ensures .0, c .before .move-clock .ensures .1))
+    (λ c.
+    let at-enum-told4 = c .before .before .before .enum-told4 in
+    rw (at-enum-told4 .given .1, c .alone9 .ensures)))
