@@ -10,7 +10,7 @@ use Rattle.messages.specs.declared.Command.{Command}
 use Rattle.store.specs.Sizes.{most}
 use Rattle.store.specs.declared.Settings.{Settings}
 use Rattle.quantities.specs.Quantities.{isLimit, isSetpoint, isCurrent, directionOf, phaseOf}
-pub use Rattle.field_rules.specs.Fields.{limitField, targetField, setpointField, aimField, phaseField, negative, natural, fieldNames, fieldNegative}
+pub use Rattle.field_rules.specs.Fields.{limitField, targetField, setpointField, aimField, phaseField, negative, natural, fieldNames, fieldNegative, forgotten, setpointDuration}
 use Rattle.command_says.specs.declared.said.Kind.{Kind}
 
 -- A COMMAND SEEN BY QUANTITY: what it says of each, beside its kind, aim and duration. All else goes by these and the answers below.
@@ -67,11 +67,11 @@ aimOf (Command.SetCurrentLimits m) = Aim.One (m .direction)
 aimOf (Command.ClearCurrentLimits a) = a
 aimOf (Command.Unserved n) = Aim.Both
 
--- an omitted duration is 0
+-- a command's duration: an omitted one is 0, and so lasts until replaced, but for a setpoint, where it is 3,600 s
 abbrev pub durationOf : Command → ℕ
 durationOf (Command.SetLimit m) = m .duration
 durationOf (Command.ClearLimit a) = 0
-durationOf (Command.SetSetpoint m) = m .duration
+durationOf (Command.SetSetpoint m) = setpointDuration (m .duration)
 durationOf (Command.ClearSetpoint a) = 0
 durationOf (Command.SetCurrentLimits m) = m .duration
 durationOf (Command.ClearCurrentLimits a) = 0

@@ -2,11 +2,13 @@
 use field_rules::aim_field;
 use field_rules::limit_field;
 use field_rules::phase_field;
+use field_rules::setpoint_duration;
 use field_rules::setpoint_field;
 use messages::Aim;
 use messages::Command;
 use messages::CurrentLimits;
 use messages::Field;
+use messages::Setpoints;
 use quantities::CURRENTS;
 use quantities::LIMITS;
 use quantities::direction_of;
@@ -15,7 +17,7 @@ use quantities::is_limit;
 use quantities::phase_of;
 ghost use mathlib.Core.Path.{_≡_};
 ghost use Rattle.quantities.specs.Quantities.{isSetpoint};
-ghost use Rattle.command_says.specs.Says.{currentField, isOf, fieldAt, says, kindOf, isSet, aimOf, durationOf};
+ghost use Rattle.command_says.specs.Says.{currentField, isOf, fieldAt, says, kindOf, isSet, aimOf, setpointDuration, durationOf};
 
 // What a command is about. Each kind is accepted or not by a setting of its own.
 pub enum Kind {
@@ -126,14 +128,21 @@ pub fn aim_of(c: Command) -> Aim
     }
 }
 
-// An omitted duration is 0.
+fn setpoint_time(m: Setpoints) -> u64
+    ensures { λ r. ⌜ r ≡ setpointDuration (m .duration) ⌝ }
+{
+    let d = m.duration;
+    setpoint_duration(d)
+}
+
+// How long what a command sets holds, 0 until replaced. An omitted duration is 0, but for a setpoint.
 pub fn duration_of(c: Command) -> u64
     ensures { λ r. ⌜ r ≡ durationOf c ⌝ }
 {
     match c {
         Command::SetLimit(m) => m.duration,
         Command::ClearLimit(_) => 0,
-        Command::SetSetpoint(m) => m.duration,
+        Command::SetSetpoint(m) => setpoint_time(m),
         Command::ClearSetpoint(_) => 0,
         Command::SetCurrentLimits(m) => m.duration,
         Command::ClearCurrentLimits(_) => 0,

@@ -79,7 +79,8 @@ pub record Demand2 : Type 0 where
   pub requestBack : RequestReadsBack
   pub responseBack : ResponseReadsBack
   pub statusBack : StatusReadsBack
-  -- what is read can be written, and "a frame read and written again is the same bytes if it has no unknown key and no written zero duration"
+  -- what is read can be written, and "a frame read and written again is the same bytes if it has no unknown key and no written zero duration";
+  -- L8: a setpoint's zero is written, so that only limits and current limits need the latter
   pub requestWritable : RequestWritable
   pub responseWritable : ResponseWritable
   pub requestAgain : RequestWritesAgain
@@ -98,7 +99,8 @@ pub record Demand2 : Type 0 where
   -- "With a zone's link up, the limit in each direction is the smallest unexpired one, absent exactly when there is none;
   -- the setpoint is that of the highest-ranked zone that has one; other cases follow document 01"
   pub table : (s : Situation) (t : ℕ) → Table s t
-  -- "A value set at second n with duration d > 0 holds while t < n + d; duration 0 or omitted holds until replaced or cleared"
+  -- "A value set at second n with duration d > 0 holds while t < n + d; duration 0 or omitted holds until replaced or cleared"; L8: "An omitted
+  -- duration in SetSetpoint shall mean 3,600 s"
   pub expiry : (s : Settings) (c : Command) (x : Zone) → Expiry s c x
   -- "The conformance report lists every breach of document 01's six groups once"
   pub exact : Exact

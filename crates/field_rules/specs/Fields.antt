@@ -74,6 +74,14 @@ fieldAbove top (Field.Value v) = ltb top (natural v)
 unfoldable pub untilOf : ℕ → ℕ → ℕ
 untilOf n d = cond (eqb d 0) most (min (n + d) most)
 
+-- L8: "An omitted duration in SetSetpoint shall mean 3,600 s. An explicit 0 still means until replaced"
+abbrev pub forgotten : ℕ
+forgotten = 3600
+
+abbrev pub setpointDuration : Amount → ℕ
+setpointDuration Absent = forgotten
+setpointDuration (Is d) = d
+
 -- WHAT IS ANSWERED
 -- "below minimum 0 (status 14), above contractual 1 (status 0), invalid 2 (13), override 3 (12), not supported 4 (11)"
 unfoldable pub reasonOf : ℕ → Bool → Amount

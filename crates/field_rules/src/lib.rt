@@ -10,6 +10,7 @@ pub use fields::field_too_low;
 pub use fields::is_negative;
 pub use fields::natural_of;
 pub use numbers::reason_of;
+pub use numbers::setpoint_duration;
 pub use numbers::stated;
 pub use numbers::until_of;
 pub use params::aim_field;

@@ -1,12 +1,12 @@
--- A flat request whose yes and values are known by other names.
+-- A flat request whose yeses and values are known by other names.
 use mathlib.Core.Bool.{Bool}
 use mathlib.Core.Path.{_≡_}
 use lib.IntN.{ℤ}
 use Rattle.flat.specs.declared.requests.FlatRequest.{FlatRequest}
 
--- the request q with this yes and these values
-abbrev pub valued : FlatRequest → Bool → ℤ → ℤ → ℤ → ℤ → ℤ → FlatRequest
-valued q o f g x y z =
+-- the request q with these yeses and values
+abbrev pub valued : FlatRequest → Bool → Bool → ℤ → ℤ → ℤ → ℤ → ℤ → FlatRequest
+valued q o l f g x y z =
     record {
       id = q .id;
       endpoint = q .endpoint;
@@ -21,9 +21,10 @@ valued q o f g x y z =
       a = record { kind = q .a .kind; value = x };
       b = record { kind = q .b .kind; value = y };
       c = record { kind = q .c .kind; value = z };
+      lasting = l;
     }
 
-pub made : (q : FlatRequest) {o : Bool} {f g x y z : ℤ}
-    → o ≡ q .directed → f ≡ q .consumption .value → g ≡ q .production .value → x ≡ q .a .value → y ≡ q .b .value → z ≡ q .c .value
-    → valued q o f g x y z ≡ q
-made q p a b c d e = rw (p, a, b, c, d, e)
+pub made : (q : FlatRequest) {o l : Bool} {f g x y z : ℤ}
+    → o ≡ q .directed → l ≡ q .lasting → f ≡ q .consumption .value → g ≡ q .production .value → x ≡ q .a .value → y ≡ q .b .value → z ≡ q .c .value
+    → valued q o l f g x y z ≡ q
+made q p l a b c d e = rw (p, l, a, b, c, d, e)

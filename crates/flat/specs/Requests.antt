@@ -8,6 +8,7 @@ use lib.ListN.{getD}
 use Rattle.messages.specs.declared.Field.{Field}
 use Rattle.messages.specs.declared.Target.{Target}
 use Rattle.messages.specs.declared.Aim.{Aim}
+use Rattle.messages.specs.declared.Amount.{Amount}
 use Rattle.messages.specs.declared.Limits.{Limits}
 use Rattle.messages.specs.declared.Setpoints.{Setpoints}
 use Rattle.messages.specs.declared.Phases.{Phases}
@@ -31,8 +32,18 @@ aimOf has d = cond has (Aim.One d) Aim.Both
 unfoldable pub limitsOf : FlatRequest → Limits
 limitsOf q = record { consumption = fieldOf (q .consumption); production = fieldOf (q .production); duration = q .duration; cause = q .cause }
 
+-- SetSetpoint's duration: a 0 is left out, but where the setpoint is to last until it is replaced
+unfoldable pub setpointTime : Bool → ℕ → Amount
+setpointTime lasting d = cond (eqb d 0) (cond lasting (Amount.Is 0) Amount.Absent) (Amount.Is d)
+
 unfoldable pub setpointsOf : FlatRequest → Setpoints
-setpointsOf q = record { consumption = targetOf (q .consumption); production = targetOf (q .production); duration = q .duration; cause = q .cause }
+setpointsOf q =
+    record {
+      consumption = targetOf (q .consumption);
+      production = targetOf (q .production);
+      duration = setpointTime (q .lasting) (q .duration);
+      cause = q .cause;
+    }
 
 unfoldable pub phasesOf : FlatRequest → Phases
 phasesOf q = record { a = fieldOf (q .a); b = fieldOf (q .b); c = fieldOf (q .c) }
@@ -88,9 +99,18 @@ abbrev pub aimed : Aim → ℕ
 aimed Aim.Both = 0
 aimed (Aim.One d) = d
 
--- a Set command, by its number, fields, duration and cause
-unfoldable pub flatSet : Request → ℕ → FlatField → FlatField → ℕ → ℕ → FlatRequest
-flatSet r n f g d k =
+-- a setpoint's duration as a number, and whether it is a 0 that was written
+abbrev pub timeOf : Amount → ℕ
+timeOf Amount.Absent = 0
+timeOf (Amount.Is d) = d
+
+abbrev pub isLasting : Amount → Bool
+isLasting Amount.Absent = false
+isLasting (Amount.Is d) = eqb d 0
+
+-- SetLimit or SetSetpoint, by its number, fields, duration, whether it lasts, and cause
+unfoldable pub flatSet : Request → ℕ → FlatField → FlatField → ℕ → Bool → ℕ → FlatRequest
+flatSet r n f g d l k =
     record {
       id = r .id;
       endpoint = r .endpoint;
@@ -105,6 +125,7 @@ flatSet r n f g d k =
       a = noField;
       b = noField;
       c = noField;
+      lasting = l;
     }
 
 -- SetCurrentLimits, with a field for each phase
@@ -124,6 +145,7 @@ flatCurrents r m f =
       a = flatField (f .a);
       b = flatField (f .b);
       c = flatField (f .c);
+      lasting = false;
     }
 
 -- a clear, by its number and what it names
@@ -143,12 +165,14 @@ flatClear r n x =
       a = noField;
       b = noField;
       c = noField;
+      lasting = false;
     }
 
 unfoldable pub flatRequest : Request → Command → FlatRequest
-flatRequest r (Command.SetLimit m) = flatSet r 1 (flatField (m .consumption)) (flatField (m .production)) (m .duration) (m .cause)
+flatRequest r (Command.SetLimit m) = flatSet r 1 (flatField (m .consumption)) (flatField (m .production)) (m .duration) false (m .cause)
 flatRequest r (Command.ClearLimit a) = flatClear r 2 a
-flatRequest r (Command.SetSetpoint m) = flatSet r 3 (flatTarget (m .consumption)) (flatTarget (m .production)) (m .duration) (m .cause)
+flatRequest r (Command.SetSetpoint m) =
+    flatSet r 3 (flatTarget (m .consumption)) (flatTarget (m .production)) (timeOf (m .duration)) (isLasting (m .duration)) (m .cause)
 flatRequest r (Command.ClearSetpoint a) = flatClear r 4 a
 flatRequest r (Command.SetCurrentLimits m) = flatCurrents r m (m .phases)
 flatRequest r (Command.ClearCurrentLimits a) = flatClear r 6 a
@@ -171,10 +195,11 @@ noRequest =
       a = noField;
       b = noField;
       c = noField;
+      lasting = false;
     }
 
--- AS WORDS: id, endpoint, feature, command, the fields' kinds, duration, cause, directed, direction, the phases' kinds; the fields' and
--- the phases' values beside them
+-- AS WORDS: id, endpoint, feature, command, the fields' kinds, duration, cause, directed, direction, the phases' kinds, lasting; the fields'
+-- and the phases' values beside them
 unfoldable pub requestIn : List ℕ → List ℤ → FlatRequest
 requestIn ws vs =
     record {
@@ -191,12 +216,13 @@ requestIn ws vs =
       a = record { kind = at ws 10; value = getD vs 2 (pos 0) };
       b = record { kind = at ws 11; value = getD vs 3 (pos 0) };
       c = record { kind = at ws 12; value = getD vs 4 (pos 0) };
+      lasting = yes ws 13;
     }
 
 unfoldable pub requestWords : FlatRequest → List ℕ
 requestWords q =
     q .id ∷ q .endpoint ∷ q .feature ∷ q .command ∷ q .consumption .kind ∷ q .production .kind ∷ q .duration ∷ q .cause
-    ∷ word (q .directed) ∷ q .direction ∷ q .a .kind ∷ q .b .kind ∷ q .c .kind ∷ []
+    ∷ word (q .directed) ∷ q .direction ∷ q .a .kind ∷ q .b .kind ∷ q .c .kind ∷ word (q .lasting) ∷ []
 
 unfoldable pub requestValues : FlatRequest → List ℤ
 requestValues q = q .consumption .value ∷ q .production .value ∷ q .a .value ∷ q .b .value ∷ q .c .value ∷ []

@@ -2,6 +2,7 @@
 use crate::marks::is_yes;
 use crate::marks::word_of;
 use messages::Aim;
+use messages::Amount;
 use messages::Command;
 use messages::CurrentLimits;
 use messages::Field;
@@ -12,11 +13,12 @@ use messages::Setpoints;
 use messages::Target;
 ghost use mathlib.Core.Path.{_≡_};
 ghost use mathlib.Core.Bool.{_&&_};
-ghost use Rattle.flat.specs.Requests.{fieldOf, targetOf, aimOf, limitsOf, setpointsOf, phasesOf, currentsOf, limitKind, setpointKind, currentCommand, commandOf, requestOf};
-ghost use Rattle.flat.specs.Requests.{noField, flatField, flatTarget, hasAim, aimed, flatSet, flatCurrents, flatClear, flatRequest, noRequest, requestIn, requestWords, requestValues};
+ghost use Rattle.messages.specs.declared.Command.{Command};
+ghost use Rattle.flat.specs.Requests.{fieldOf, targetOf, aimOf, limitsOf, setpointTime, setpointsOf, phasesOf, currentsOf, limitKind, setpointKind, currentCommand, commandOf, requestOf};
+ghost use Rattle.flat.specs.Requests.{noField, flatField, flatTarget, hasAim, aimed, timeOf, isLasting, flatSet, flatCurrents, flatClear, flatRequest, noRequest, requestIn, requestWords, requestValues};
 
-// Words of a request: id, endpoint, feature, command, the fields' kinds, duration, cause, directed, direction, the phases' kinds.
-pub const REQUEST: usize = 13;
+// Words of a request: id, endpoint, feature, command, the fields' kinds, duration, cause, directed, direction, the phases' kinds, lasting.
+pub const REQUEST: usize = 14;
 
 // The fields' values: consumption, production, and the phases A, B, C.
 pub const FIELDS: usize = 5;
@@ -28,7 +30,7 @@ pub struct FlatField {
 }
 
 // SetLimit and SetSetpoint use consumption and production, SetCurrentLimits a, b, c and the direction, all three duration and
-// cause; clears what is directed.
+// cause; clears what is directed. A SetSetpoint is lasting where its duration of 0 is written.
 pub struct FlatRequest {
     pub id: u64,
     pub endpoint: u64,
@@ -43,6 +45,7 @@ pub struct FlatRequest {
     pub a: FlatField,
     pub b: FlatField,
     pub c: FlatField,
+    pub lasting: bool,
 }
 
 fn field_of(f: FlatField) -> Field
@@ -88,6 +91,19 @@ fn limits_of(q: FlatRequest) -> Limits
     }
 }
 
+// A duration of 0 is left out, but where the setpoint is to last.
+fn setpoint_time(lasting: bool, duration: u64) -> Amount
+    ensures { λ r. ⌜ r ≡ setpointTime lasting duration ⌝ }
+{
+    if duration == 0 {
+        if lasting {
+            return Amount::Is(0);
+        }
+        return Amount::Absent;
+    }
+    Amount::Is(duration)
+}
+
 fn setpoints_of(q: FlatRequest) -> Setpoints
     ensures { λ r. ⌜ r ≡ setpointsOf q ⌝ }
 {
@@ -96,7 +112,7 @@ fn setpoints_of(q: FlatRequest) -> Setpoints
     Setpoints {
         consumption: target_of(a),
         production: target_of(b),
-        duration: q.duration,
+        duration: setpoint_time(q.lasting, q.duration),
         cause: q.cause,
     }
 }
@@ -245,15 +261,34 @@ fn aimed(a: Aim) -> u64
     }
 }
 
+fn time_of(a: Amount) -> u64
+    ensures { λ r. ⌜ r ≡ timeOf a ⌝ }
+{
+    match a {
+        Amount::Absent => 0,
+        Amount::Is(d) => d,
+    }
+}
+
+fn is_lasting(a: Amount) -> bool
+    ensures { λ r. ⌜ r ≡ isLasting a ⌝ }
+{
+    match a {
+        Amount::Absent => false,
+        Amount::Is(d) => d == 0,
+    }
+}
+
 fn flat_set(
     r: Request,
     command: u64,
     a: FlatField,
     b: FlatField,
     duration: u64,
+    lasting: bool,
     cause: u64,
 ) -> FlatRequest
-    ensures { λ q. ⌜ q ≡ flatSet r command a b duration cause ⌝ }
+    ensures { λ q. ⌜ q ≡ flatSet r command a b duration lasting cause ⌝ }
 {
     let none = no_field();
     FlatRequest {
@@ -270,6 +305,7 @@ fn flat_set(
         a: none,
         b: none,
         c: none,
+        lasting: lasting,
     }
 }
 
@@ -294,6 +330,7 @@ fn flat_currents(r: Request, m: CurrentLimits, f: Phases) -> FlatRequest
         a: flat_field(a),
         b: flat_field(b),
         c: flat_field(c),
+        lasting: false,
     }
 }
 
@@ -315,24 +352,50 @@ fn flat_clear(r: Request, command: u64, a: Aim) -> FlatRequest
         a: none,
         b: none,
         c: none,
+        lasting: false,
     }
+}
+
+fn flat_limits(r: Request, m: Limits) -> FlatRequest
+    ensures { λ q. ⌜ q ≡ flatRequest r (Command.SetLimit m) ⌝ }
+{
+    let a = m.consumption;
+    let b = m.production;
+    flat_set(
+        r,
+        1,
+        flat_field(a),
+        flat_field(b),
+        m.duration,
+        false,
+        m.cause,
+    )
+}
+
+fn flat_setpoints(r: Request, m: Setpoints) -> FlatRequest
+    ensures { λ q. ⌜ q ≡ flatRequest r (Command.SetSetpoint m) ⌝ }
+{
+    let a = m.consumption;
+    let b = m.production;
+    let d = m.duration;
+    flat_set(
+        r,
+        3,
+        flat_target(a),
+        flat_target(b),
+        time_of(d),
+        is_lasting(d),
+        m.cause,
+    )
 }
 
 pub fn flat_request(r: Request, c: Command) -> FlatRequest
     ensures { λ q. ⌜ q ≡ flatRequest r c ⌝ }
 {
     match c {
-        Command::SetLimit(m) => {
-            let a = m.consumption;
-            let b = m.production;
-            flat_set(r, 1, flat_field(a), flat_field(b), m.duration, m.cause)
-        }
+        Command::SetLimit(m) => flat_limits(r, m),
         Command::ClearLimit(a) => flat_clear(r, 2, a),
-        Command::SetSetpoint(m) => {
-            let a = m.consumption;
-            let b = m.production;
-            flat_set(r, 3, flat_target(a), flat_target(b), m.duration, m.cause)
-        }
+        Command::SetSetpoint(m) => flat_setpoints(r, m),
         Command::ClearSetpoint(a) => flat_clear(r, 4, a),
         Command::SetCurrentLimits(m) => {
             let f = m.phases;
@@ -361,6 +424,7 @@ pub fn no_request() -> FlatRequest
         a: none,
         b: none,
         c: none,
+        lasting: false,
     }
 }
 
@@ -397,6 +461,7 @@ pub fn request_in(w: [u64; REQUEST], v: [i64; FIELDS]) -> FlatRequest
             kind: w[12],
             value: v[4],
         },
+        lasting: is_yes(w[13]),
     }
 }
 
@@ -417,6 +482,7 @@ pub fn request_words(q: FlatRequest) -> [u64; REQUEST]
         q.a.kind,
         q.b.kind,
         q.c.kind,
+        word_of(q.lasting),
     ]
 }
 

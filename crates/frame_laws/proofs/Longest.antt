@@ -39,7 +39,7 @@ use Rattle.frames.specs.Requests.{commandFields, requestFields, requestItem, re
 use Rattle.frames.specs.Responses.{limitFields, setpointFields, currentFields, clearFields, outcomeItem, responseFields, responseItem, responseNumber, responseFits, fits, stands, goesWith, limitInRange, currentInRange, amountUpTo, isStatus, isNothing, statusAlone, statusFits, statusNumber}
 use Rattle.frame_laws.specs.Longest.{RequestLongest, RequestReached, ResponseLongest, ResponseReached, StatusLongest}
 use Rattle.frame_laws.proofs.Maps.{count-fields}
-use Rattle.frame_laws.proofs.RequestBack.{request-ranges, request-served, is-served, wire-served, command-few, wide-parts, wide-currents}
+use Rattle.frame_laws.proofs.RequestBack.{request-ranges, request-served, is-served, wire-served, command-few, duration-range, wide-parts, wide-setpoints, wide-currents}
 use Rattle.frame_laws.proofs.ResponseBack.{limit-range, limit-few, setpoint-few, current-few, clear-few, status-small, response-ranges, no-test, one-test}
 
 -- HEADS
@@ -98,13 +98,10 @@ module _ (k : ℕ) (low : k < 24) where
   value-long (Field.Value (pos n)) = uint-long n 9 (head-short n)
   value-long (Field.Value (negsuc n)) = rw length-append (omega (arith, head-length 0 k, len-1 k low, head-length 1 n, head-short n))
 
-  duration-long : (d : ℕ) → d ≤ most32 → length (fieldBytes k (amountItem (durationAmount d))) ≤ 6
+  duration-long : (a : Amount) → amountUpTo most32 a ≡ true → length (fieldBytes k (amountItem a)) ≤ 6
   unfolding amountItem
-  duration-long d h = go (eqb d 0)
-    where
-      go : (b : Bool) → length (fieldBytes k (amountItem (cond b Amount.Absent (Amount.Is d)))) ≤ 6
-      go true = omega (arith, none-long)
-      go false = uint-long d 5 (len-5 d (omega arith))
+  duration-long Amount.Absent h = omega (arith, none-long)
+  duration-long (Amount.Is d) h = uint-long d 5 (len-5 d (omega (arith, leb-true d most32 h)))
 
   aim-long : (a : Aim) → aimWide a ≡ false → length (fieldBytes k (aimItem a)) ≤ 2
   unfolding aimItem
@@ -130,8 +127,8 @@ module _ (k : ℕ) (low : k < 24) where
   phases-long a b c x y z = below-long (phaseFields a b c) 30 (omega arith) (pairs-more 0 a _ 10 20 x (pairs-more 1 b _ 10 10 y (pairs-more 2 c [] 10 0 z pairs-none)))
 
 -- REQUESTS
-setting-long : (c p : Field) (d k : ℕ) → d ≤ most32 → k ≤ 255
-    → length (encodePairs (present (settingFields (record { consumption = c; production = p; duration = durationAmount d; cause = k })))) ≤ 29
+setting-long : (c p : Field) (d : Amount) (k : ℕ) → amountUpTo most32 d ≡ true → k ≤ 255
+    → length (encodePairs (present (settingFields (record { consumption = c; production = p; duration = d; cause = k })))) ≤ 29
 unfolding settingFields
 setting-long c p d k hd hk =
     pairs-more 1 _ _ 10 19 (value-long 1 (omega arith) c)
@@ -145,7 +142,7 @@ current-long l w =
     let p = l .phases in
     pairs-more 1 _ _ 32 11 (phases-long 1 (omega arith) _ _ _ (value-long 0 (omega arith) (p .a)) (value-long 1 (omega arith) (p .b)) (value-long 2 (omega arith) (p .c)))
     (pairs-more 2 _ _ 2 9 (uint-long 2 (omega arith) (l .direction) 1 (len-1 (l .direction) (omega (arith, w .0))))
-    (pairs-more 3 _ _ 6 3 (duration-long 3 (omega arith) (l .duration) (w .1))
+    (pairs-more 3 _ _ 6 3 (duration-long 3 (omega arith) (durationAmount (l .duration)) (duration-range (l .duration) (w .1)))
     (pairs-more 4 _ _ 3 0 (uint-long 4 (omega arith) (l .cause) 2 (len-2 (l .cause) (omega (arith, w .2)))) pairs-none)))
 
 one-aim : (a : Aim) → aimWide a ≡ false → length (encodePairs (present ((1, aimItem a) ∷ []))) ≤ 43
@@ -155,10 +152,10 @@ command-long : (c : Command) → commandWide c ≡ false → length (encodePairs
 unfolding commandFields commandWide settingOfLimits settingOfSetpoints
 command-long (Command.SetLimit l) w =
     let x = wide-parts (l .duration) (l .cause) w in
-    omega (arith, setting-long (l .consumption) (l .production) (l .duration) (l .cause) (x .0) (x .1))
+    omega (arith, setting-long (l .consumption) (l .production) (durationAmount (l .duration)) (l .cause) (duration-range (l .duration) (x .0)) (x .1))
 command-long (Command.ClearLimit a) w = one-aim a w
 command-long (Command.SetSetpoint l) w =
-    let x = wide-parts (l .duration) (l .cause) w in
+    let x = wide-setpoints (l .duration) (l .cause) w in
     omega (arith, setting-long (fieldOf (l .consumption)) (fieldOf (l .production)) (l .duration) (l .cause) (x .0) (x .1))
 command-long (Command.ClearSetpoint a) w = one-aim a w
 command-long (Command.SetCurrentLimits l) w = current-long l (wide-currents (l .direction) (l .duration) (l .cause) w)

@@ -25,9 +25,9 @@ use Rattle.frames.specs.Settings.{settingIn, durationOf, durationAmount, target
 use Rattle.frames.specs.Settings.{currentLimitsIn, currentLimitFields}
 use Rattle.request_reader.specs.declared.settings.Setting.{Setting}
 use Rattle.frames.specs.Responses.{amountUpTo}
-use Rattle.frames.specs.Requests.{Envelope, envelopeIn, commandIn, servedAt, servedCommand, withCommand, fromEnvelope, fromPayload, readRequest, commandFields, requestFields, requestItem, commandWide, aimWide, isServed, requestWide, requestUnserved, requestNumber}
+use Rattle.frames.specs.Requests.{Envelope, envelopeIn, commandIn, servedAt, servedCommand, withCommand, fromEnvelope, fromPayload, readRequest, commandFields, requestFields, requestItem, durationWide, commandWide, aimWide, isServed, requestWide, requestUnserved, requestNumber}
 use Rattle.frames.specs.Writing.{itemFrame}
-use Rattle.frame_laws.specs.RoundTrips.{Field64, Target64, Command64, KeysTo, parameterKeys, PlainRequest, RequestWritable, RequestWritesAgain}
+use Rattle.frame_laws.specs.RoundTrips.{Field64, Target64, Command64, KeysTo, parameterKeys, omitsZero, PlainRequest, RequestWritable, RequestWritesAgain}
 use Rattle.request_reader.specs.declared.requests.Reading.{Reading}
 use Rattle.map_fields.proofs.Joined.{no-both, and-left, and-right}
 use Rattle.frame_laws.proofs.Maps.{OkFields, same-map, no-known}
@@ -48,13 +48,13 @@ six c a b d e f x y = least c y (past 5 c (past 4 c (past 3 c (past 2 c (past 1 
     least c y z = omega arith
 
 -- THE PARAMETERS
--- what was read of a command's parameters, and that they are its fields where no key is unknown and no zero duration is written
+-- what was read of a command's parameters, and that they are its fields where no key is unknown and no zero duration is written that the command omits
 pub record Again (c : ℕ) (ps : Pairs) (x : Command) : Type 0 where
   pub number : wireNumber x ≡ c
   pub served : isServed x ≡ true
   pub range : commandWide x ≡ false
   pub bits : Command64 x
-  pub same : (lo d : ℕ) → OkPairs ps lo d → KeysTo (parameterKeys c) ps → (valueOf ps 3 ≡ some (Item.uint 0) → ⊥) → present (commandFields x) ≡ ps
+  pub same : (lo d : ℕ) → OkPairs ps lo d → KeysTo (parameterKeys c) ps → (omitsZero c ≡ true → valueOf ps 3 ≡ some (Item.uint 0) → ⊥) → present (commandFields x) ≡ ps
 
 -- the same of the parameters of a Set command, which keep their duration as it was written
 pub record AgainSet (null : Bool) (ps : Pairs) (s : Setting) : Type 0 where
@@ -107,6 +107,10 @@ duration-small (Amount.Is d) h = leb-true d most32 h
 not-wide : (a : Amount) (k : ℕ) → amountUpTo most32 a ≡ true → k ≤ 255 → (ltb most32 (durationOf a) || ltb 255 k) ≡ false
 not-wide a k h g = rw (le-ltb most32 (durationOf a) (duration-small a h), le-ltb 255 k g)
 
+not-wide-setpoint : (a : Amount) (k : ℕ) → amountUpTo most32 a ≡ true → k ≤ 255 → (durationWide a || ltb 255 k) ≡ false
+not-wide-setpoint Amount.Absent k h g = rw (le-ltb 255 k g)
+not-wide-setpoint (Amount.Is d) k h g = rw (le-ltb most32 d (leb-true d most32 h), le-ltb 255 k g)
+
 target-64 : (f : Field) → Field64 f → Target64 (targetOf f)
 target-64 Field.Absent h = tt
 target-64 Field.Null h = tt
@@ -123,9 +127,9 @@ same-limits : (s : Setting) → durationAmount (durationOf (s .duration)) ≡ s 
 unfolding settingOfLimits limitsFrom
 same-limits s e = rw e
 
-same-setpoints : (s : Setting) → durationAmount (durationOf (s .duration)) ≡ s .duration → Allowed false (s .consumption) → Allowed false (s .production) → settingOfSetpoints (setpointsFrom s) ≡ s
+same-setpoints : (s : Setting) → Allowed false (s .consumption) → Allowed false (s .production) → settingOfSetpoints (setpointsFrom s) ≡ s
 unfolding settingOfSetpoints setpointsFrom
-same-setpoints s e a b = rw (same-field (s .consumption) a, same-field (s .production) b, e)
+same-setpoints s a b = rw (same-field (s .consumption) a, same-field (s .production) b)
 
 -- the parameters of a clear
 clear-same : (ps : Pairs) (a : Aim) → valueOf ps 1 ≡ aimItem a → (lo d : ℕ) → OkPairs ps lo d → KeysTo 1 ps → OkFields ((1, aimItem a) ∷ []) d → present ((1, aimItem a) ∷ []) ≡ ps
@@ -144,7 +148,7 @@ module _ (ps : Pairs) where
         range = not-wide (p .0 .duration) (p .0 .cause) (s .range .0) (s .range .1);
         bits = (s .first .0, s .second .0);
         same = λ lo d ok keys z.
-            ap (λ (l : Setting). present (settingFields l)) (same-limits (p .0) (duration-again (p .0 .duration) (λ q. z (s .third ∙ q)))) ∙ s .same lo d ok keys;
+            ap (λ (l : Setting). present (settingFields l)) (same-limits (p .0) (duration-again (p .0 .duration) (λ q. z refl (s .third ∙ q)))) ∙ s .same lo d ok keys;
       })
 
   again-setpoint : (x : Command) → Option·map (λ s. Command.SetSetpoint (setpointsFrom s)) (settingIn false ps) ≡ some x → Again 3 ps x
@@ -156,10 +160,10 @@ module _ (ps : Pairs) where
       (record {
         number = refl;
         served = refl;
-        range = not-wide (p .0 .duration) (p .0 .cause) (s .range .0) (s .range .1);
+        range = not-wide-setpoint (p .0 .duration) (p .0 .cause) (s .range .0) (s .range .1);
         bits = (target-64 (p .0 .consumption) (s .first .0), target-64 (p .0 .production) (s .second .0));
         same = λ lo d ok keys z.
-            ap (λ (l : Setting). present (settingFields l)) (same-setpoints (p .0) (duration-again (p .0 .duration) (λ q. z (s .third ∙ q))) (s .first .1) (s .second .1))
+            ap (λ (l : Setting). present (settingFields l)) (same-setpoints (p .0) (s .first .1) (s .second .1))
             ∙ s .same lo d ok keys;
       })
 
@@ -208,7 +212,7 @@ module _ (ps : Pairs) where
         bits = a .bits;
         same = λ lo d ok keys z.
             let p = a .same d (held-ok ps lo d 1 _ ok refl) in
-            let t = c .0 ∙ ap amountItem (sym (duration-again n (λ q. z (c .0 ∙ q)))) in
+            let t = c .0 ∙ ap amountItem (sym (duration-again n (λ q. z refl (c .0 ∙ q)))) in
             same-map ps (currentLimitFields l) lo d ok (current-ascend l)
             (omega arith, held-ok ps lo d 1 _ ok p, (omega arith, held-ok ps lo d 2 _ ok (b .0), (omega arith, held-ok ps lo d 3 _ ok t, (omega arith, held-ok ps lo d 4 _ ok (e .0), tt))))
             (p, (b .0, (t, (e .0, tt)))) (λ j h. keys j (no-known (currentLimitFields l) j (refl, (refl, (refl, (refl, tt)))) h));

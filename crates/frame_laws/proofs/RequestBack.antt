@@ -25,7 +25,7 @@ use Rattle.frames.specs.Settings.{settingIn, durationOf, durationAmount, target
 use Rattle.frames.specs.Settings.{currentLimitsIn, currentLimitFields}
 use Rattle.request_reader.specs.declared.settings.Setting.{Setting}
 use Rattle.frames.specs.Responses.{amountUpTo}
-use Rattle.frames.specs.Requests.{envelopeIn, commandIn, servedAt, servedCommand, fromEnvelope, readRequest, commandFields, requestFields, requestItem, commandWide, isServed, requestWide, requestUnserved, requestNumber}
+use Rattle.frames.specs.Requests.{envelopeIn, commandIn, servedAt, servedCommand, fromEnvelope, readRequest, commandFields, requestFields, requestItem, durationWide, commandWide, isServed, requestWide, requestUnserved, requestNumber}
 use Rattle.map_fields.specs.Puts.{fieldBytes}
 use Rattle.frames.specs.Writing.{itemFrame}
 use Rattle.frame_laws.specs.RoundTrips.{Field64, Target64, Phases64, Command64, RequestReadsBack, OneRequest}
@@ -67,7 +67,7 @@ module _ (s : Setting) where
       rw (v 1, v 2, v 3, v 4, value-back null (s .consumption) p a, value-back null (s .production) q b, amount-back most32 (s .duration) x, uint-back 255 (s .cause) y)
 
 -- a duration, written and read
-duration-range : (d : ℕ) → d ≤ most32 → amountUpTo most32 (durationAmount d) ≡ true
+pub duration-range : (d : ℕ) → d ≤ most32 → amountUpTo most32 (durationAmount d) ≡ true
 duration-range d h = go (eqb d 0)
   where
     go : (b : Bool) → amountUpTo most32 (cond b Amount.Absent (Amount.Is d)) ≡ true
@@ -99,7 +99,7 @@ same-target (Target.Value z) = refl
 
 same-setpoints : (l : Setpoints) → setpointsFrom (settingOfSetpoints l) ≡ l
 unfolding setpointsFrom settingOfSetpoints
-same-setpoints l = rw (same-target (l .consumption), same-target (l .production), same-duration (l .duration))
+same-setpoints l = rw (same-target (l .consumption), same-target (l .production))
 
 allowed-all : (f : Field) → Allowed true f
 allowed-all Field.Absent = tt
@@ -109,6 +109,13 @@ allowed-all (Field.Value z) = tt
 -- THE PARAMETERS OF SETCURRENTLIMITS
 pub wide-parts : (d k : ℕ) → (ltb most32 d || ltb 255 k) ≡ false → (d ≤ most32) × (k ≤ 255)
 wide-parts d k h = (ltb-false most32 d (or-left _ _ h), ltb-false 255 k (or-right (ltb most32 d) _ h))
+
+duration-in : (a : Amount) → durationWide a ≡ false → amountUpTo most32 a ≡ true
+duration-in Amount.Absent h = refl
+duration-in (Amount.Is d) h = le-leb d most32 (ltb-false most32 d h)
+
+pub wide-setpoints : (a : Amount) (k : ℕ) → (durationWide a || ltb 255 k) ≡ false → (amountUpTo most32 a ≡ true) × (k ≤ 255)
+wide-setpoints a k h = (duration-in a (or-left _ _ h), ltb-false 255 k (or-right (durationWide a) _ h))
 
 pub wide-currents : (x d k : ℕ) → (ltb 1 x || (ltb most32 d || ltb 255 k)) ≡ false → (x ≤ 1) × (d ≤ most32) × (k ≤ 255)
 wide-currents x d k h = let w = wide-parts d k (or-right (ltb 1 x) _ h) in (ltb-false 1 x (or-left _ _ h), w .0, w .1)
@@ -177,8 +184,8 @@ command-ok (Command.SetLimit l) d w h =
     setting-ok (settingOfLimits l) (suc d) (h .0) (h .1) (duration-range (l .duration) (x .0)) (x .1)
 command-ok (Command.ClearLimit a) d w h = (omega arith, ok-aim a (suc d) w, tt)
 command-ok (Command.SetSetpoint l) d w h =
-    let x = wide-parts (l .duration) (l .cause) w in
-    setting-ok (settingOfSetpoints l) (suc d) (field-64 (l .consumption) (h .0)) (field-64 (l .production) (h .1)) (duration-range (l .duration) (x .0)) (x .1)
+    let x = wide-setpoints (l .duration) (l .cause) w in
+    setting-ok (settingOfSetpoints l) (suc d) (field-64 (l .consumption) (h .0)) (field-64 (l .production) (h .1)) (x .0) (x .1)
 command-ok (Command.ClearSetpoint a) d w h = (omega arith, ok-aim a (suc d) w, tt)
 command-ok (Command.SetCurrentLimits l) d w h = current-ok l h (wide-currents (l .direction) (l .duration) (l .cause) w) d
 command-ok (Command.ClearCurrentLimits a) d w h = (omega arith, ok-aim a (suc d) w, tt)
@@ -211,10 +218,10 @@ command-back (Command.SetLimit l) s w h =
     rw (setting-back (settingOfLimits l) true (allowed-all (l .consumption)) (allowed-all (l .production)) (h .0) (h .1) (duration-range (l .duration) (x .0)) (x .1), same-limits l)
 command-back (Command.ClearLimit a) s w h = rw (values ((1, aimItem a) ∷ []) 0 1 (omega arith, tt), aim-back a w)
 command-back (Command.SetSetpoint l) s w h =
-    let x = wide-parts (l .duration) (l .cause) w in
+    let x = wide-setpoints (l .duration) (l .cause) w in
     rw (
       setting-back (settingOfSetpoints l) false (allowed-target (l .consumption)) (allowed-target (l .production))
-          (field-64 (l .consumption) (h .0)) (field-64 (l .production) (h .1)) (duration-range (l .duration) (x .0)) (x .1),
+          (field-64 (l .consumption) (h .0)) (field-64 (l .production) (h .1)) (x .0) (x .1),
       same-setpoints l,
     )
 command-back (Command.ClearSetpoint a) s w h = rw (values ((1, aimItem a) ∷ []) 0 1 (omega arith, tt), aim-back a w)

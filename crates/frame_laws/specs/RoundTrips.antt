@@ -2,7 +2,7 @@
 -- Assumes nothing: these are statements.
 use Prim.Native.Nat.{ℕ, _^_, _≤_, _<_}
 use mathlib.Core.Path.{_≡_}
-use mathlib.Core.Bool.{true, false, cond, _&&_, _||_}
+use mathlib.Core.Bool.{Bool, true, false, cond, _&&_, _||_}
 use mathlib.Core.Logic.{_↔_}
 use mathlib.Core.List.{List}
 use mathlib.Core.Option.{some, none}
@@ -104,10 +104,15 @@ parameterKeys c = cond (eqb c 1 || eqb c 3 || eqb c 5) 4 1
 abbrev pub resultKeys : ℕ → ℕ
 resultKeys c = cond (eqb c 1) 5 (cond (eqb c 3) 3 (cond (eqb c 5) 2 1))
 
--- "no unknown key and no written zero duration"
+-- the commands that omit a duration of 0: those that set limits and current limits
+abbrev pub omitsZero : ℕ → Bool
+omitsZero c = eqb c 1 || eqb c 5
+
+-- "no unknown key and no written zero duration", the latter of the commands that omit it
 pub record PlainRequest (ps : Pairs) : Type 0 where
   pub envelope : KeysTo 5 ps
-  pub parameters : (c : ℕ) (m : Pairs) → valueOf ps 4 ≡ some (Item.uint c) → valueOf ps 5 ≡ some (Item.map m) → KeysTo (parameterKeys c) m × (valueOf m 3 ≡ some (Item.uint 0) → ⊥)
+  pub parameters : (c : ℕ) (m : Pairs) → valueOf ps 4 ≡ some (Item.uint c) → valueOf ps 5 ≡ some (Item.map m)
+      → KeysTo (parameterKeys c) m × (omitsZero c ≡ true → valueOf m 3 ≡ some (Item.uint 0) → ⊥)
 
 pub record PlainResponse (c : ℕ) (ps : Pairs) : Type 0 where
   pub envelope : KeysTo 3 ps

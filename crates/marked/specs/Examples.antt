@@ -1,4 +1,4 @@
--- Document 01's marked examples P1 to P10, the bench's, and those of L3 and L5: one table of cases, over the definitions that the calls' contracts cite. d is the direction.
+-- Document 01's marked examples P1 to P10, the bench's, and those of L3, L5 and L8: one table of cases, over the definitions that the calls' contracts cite. d is the direction.
 use Prim.Native.Nat.{ℕ, _+_, _-_, _<_}
 use mathlib.Core.Path.{_≡_}
 use mathlib.Core.Bool.{true, false, cond}
@@ -91,21 +91,24 @@ lost z t = λ d. linkAfter d z false t
 abbrev pub tell : ℕ → ℕ → Command → Step
 tell z t c = λ d. commandAfter d z t c
 
--- SetLimit with one field, for direction d; SetSetpoint likewise
+-- SetLimit with one field, for direction d; SetSetpoint likewise, until replaced or with a duration as it stands
 abbrev pub limit : ℕ → Field → ℕ → Command
 limit d f n = Command.SetLimit (record { consumption = cond (eqb d 0) f Field.Absent; production = cond (eqb d 0) Field.Absent f; duration = n; cause = 0 })
 
 abbrev pub mw : ℕ → Field
 mw v = Field.Value (pos v)
 
-abbrev pub setpoint : ℕ → ℕ → Command
-setpoint d v =
+abbrev pub setpointFor : Amount → ℕ → ℕ → Command
+setpointFor n d v =
     Command.SetSetpoint (record {
       consumption = cond (eqb d 0) (Target.Value (pos v)) Target.Absent;
       production = cond (eqb d 0) Target.Absent (Target.Value (pos v));
-      duration = 0;
+      duration = n;
       cause = 0;
     })
+
+abbrev pub setpoint : ℕ → ℕ → Command
+setpoint = setpointFor (Amount.Is 0)
 
 -- SetCurrentLimits with a field for phase p (none where there is no such phase), in direction d
 abbrev pub current : ℕ → ℕ → Field → ℕ → Command
@@ -190,6 +193,13 @@ commandCases d =
     -- P2 set at 100 for 60: there at 159, gone at 160
     ∷ case free (two (tell 3 100 (limit d (mw 9000) 60) ∷ [])) (limitAt d 159) (pos 9000 ∷ [])
     ∷ case free (two (tell 3 100 (limit d (mw 9000) 60) ∷ [])) (limitAt d 160) (absent ∷ [])
+    -- L8 a setpoint set at 100 with an omitted duration: there at 3,699, gone at 3,700; with a 0 it stays; replaced in time it stays, and
+    -- a limit with an omitted duration, which is 0, stays
+    ∷ case free (two (tell 3 100 (setpointFor Amount.Absent d 9000) ∷ [])) (setpointAt d 3699) (pos 9000 ∷ [])
+    ∷ case free (two (tell 3 100 (setpointFor Amount.Absent d 9000) ∷ [])) (setpointAt d 3700) (absent ∷ [])
+    ∷ case free (two (tell 3 100 (setpoint d 9000) ∷ [])) (setpointAt d 3700) (pos 9000 ∷ [])
+    ∷ case free (two (tell 3 100 (setpointFor Amount.Absent d 9000) ∷ tell 3 3000 (setpointFor Amount.Absent d 8000) ∷ [])) (setpointAt d 3700) (pos 8000 ∷ [])
+    ∷ case free (two (tell 3 100 (limit d (mw 9000) 0) ∷ [])) (limitAt d 3700) (pos 9000 ∷ [])
     -- P3 leave and rejoin: absent
     ∷ case free (two (tell 3 10 (limit d (mw 9000) 0) ∷ leave 3 20 ∷ join 3 1 30 ∷ [])) (limitAt d 30) (absent ∷ [])
     ∷ case free (two (tell 3 10 (setpoint d 9000) ∷ leave 3 20 ∷ join 3 1 30 ∷ [])) (setpointAt d 30) (absent ∷ [])

@@ -46,11 +46,11 @@ pub struct Limits {
     pub cause: u64,
 }
 
-// The parameters of SetSetpoint. An omitted duration is 0.
+// The parameters of SetSetpoint. Its duration is as it stands on the wire: an omitted one is not 0.
 pub struct Setpoints {
     pub consumption: Target,
     pub production: Target,
-    pub duration: u64,
+    pub duration: Amount,
     pub cause: u64,
 }
 

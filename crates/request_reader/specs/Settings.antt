@@ -23,7 +23,7 @@ settingIn null ps =
     bind (needed (upTo 255) (valueOf ps 4)) (λ k.
     some (record { consumption = c; production = p; duration = d; cause = k })))))
 
--- an omitted duration and 0 are alike
+-- of limits and current limits: an omitted duration and 0 are alike
 abbrev pub durationOf : Amount → ℕ
 durationOf Amount.Absent = 0
 durationOf (Amount.Is d) = d
@@ -36,10 +36,10 @@ targetOf Field.Absent = Target.Absent
 targetOf Field.Null = Target.Absent
 targetOf (Field.Value z) = Target.Value z
 
--- "SetSetpoint has the same keys, without null"
+-- "SetSetpoint has the same keys, without null"; L8: "distinguishes omitted from 0", so its duration is kept as it stands
 unfoldable pub setpointsFrom : Setting → Setpoints
 setpointsFrom s =
-    record { consumption = targetOf (s .consumption); production = targetOf (s .production); duration = durationOf (s .duration); cause = s .cause }
+    record { consumption = targetOf (s .consumption); production = targetOf (s .production); duration = s .duration; cause = s .cause }
 
 -- SetCurrentLimits: "1 a map of phase (A 0, B 1, C 2) to mA or null, 2 direction, 3 duration, 4 cause"; 3 may be absent
 unfoldable pub currentLimitsIn : Pairs → Option CurrentLimits

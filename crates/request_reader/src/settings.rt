@@ -15,7 +15,7 @@ pub struct Setting {
     pub cause: u64,
 }
 
-// An omitted duration is 0.
+// An omitted duration of limits is 0.
 pub fn duration_of(a: Amount) -> u64
     ensures { λ r. ⌜ r ≡ durationOf a ⌝ }
 {
@@ -50,7 +50,7 @@ pub fn limits_from(s: Setting) -> Limits
     }
 }
 
-// What SetSetpoint makes of its parameters, which have no null.
+// What SetSetpoint makes of its parameters, which have no null and keep their duration as it stands.
 pub fn setpoints_from(s: Setting) -> Setpoints
     ensures { λ r. ⌜ r ≡ setpointsFrom s ⌝ }
 {
@@ -60,7 +60,7 @@ pub fn setpoints_from(s: Setting) -> Setpoints
     Setpoints {
         consumption: target_of(c),
         production: target_of(p),
-        duration: duration_of(d),
+        duration: d,
         cause: s.cause,
     }
 }

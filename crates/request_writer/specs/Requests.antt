@@ -8,6 +8,7 @@ use Rattle.cbor.specs.Item.{Item}
 use Rattle.messages.specs.Refusals.{firstOf}
 use Rattle.messages.specs.Numbers.{wireNumber, servedAt}
 use Rattle.messages.specs.declared.Aim.{Aim}
+use Rattle.messages.specs.declared.Amount.{Amount}
 use Rattle.messages.specs.declared.Command.{Command}
 use Rattle.messages.specs.declared.Request.{Request}
 use Rattle.map_fields.specs.Fields.{most32, aimItem, Fields, present}
@@ -35,11 +36,16 @@ abbrev pub aimWide : Aim → Bool
 aimWide Aim.Both = false
 aimWide (Aim.One d) = ltb 1 d
 
+-- a duration that 32 bits do not hold; an omitted one is none
+abbrev pub durationWide : Amount → Bool
+durationWide Amount.Absent = false
+durationWide (Amount.Is d) = ltb most32 d
+
 -- a number of the command that the wire does not hold
 unfoldable pub commandWide : Command → Bool
 commandWide (Command.SetLimit l) = ltb most32 (l .duration) || ltb 255 (l .cause)
 commandWide (Command.ClearLimit a) = aimWide a
-commandWide (Command.SetSetpoint l) = ltb most32 (l .duration) || ltb 255 (l .cause)
+commandWide (Command.SetSetpoint l) = durationWide (l .duration) || ltb 255 (l .cause)
 commandWide (Command.ClearSetpoint a) = aimWide a
 commandWide (Command.SetCurrentLimits l) = ltb 1 (l .direction) || (ltb most32 (l .duration) || ltb 255 (l .cause))
 commandWide (Command.ClearCurrentLimits a) = aimWide a

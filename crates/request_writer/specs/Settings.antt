@@ -15,7 +15,7 @@ use Rattle.map_fields.specs.Fields.{valueItem, amountItem, Fields}
 use Rattle.map_fields.specs.ByPhase.{phasesItem}
 use Rattle.request_reader.specs.declared.settings.Setting.{Setting}
 
--- "A zero duration is omitted"
+-- "A zero duration is omitted", of limits and current limits
 abbrev pub durationAmount : ℕ → Amount
 durationAmount d = cond (eqb d 0) Amount.Absent (Amount.Is d)
 
@@ -26,9 +26,10 @@ abbrev pub fieldOf : Target → Field
 fieldOf Target.Absent = Field.Absent
 fieldOf (Target.Value z) = Field.Value z
 
+-- L8: "for setpoints it must now write the 0": the duration is written as it stands
 unfoldable pub settingOfSetpoints : Setpoints → Setting
 settingOfSetpoints l =
-    record { consumption = fieldOf (l .consumption); production = fieldOf (l .production); duration = durationAmount (l .duration); cause = l .cause }
+    record { consumption = fieldOf (l .consumption); production = fieldOf (l .production); duration = l .duration; cause = l .cause }
 
 unfoldable pub settingFields : Setting → Fields
 settingFields s =

@@ -8,7 +8,7 @@ use request_reader::Setting;
 ghost use mathlib.Core.Path.{_≡_};
 ghost use Rattle.request_writer.specs.Settings.{durationAmount, fieldOf, settingOfLimits, settingOfSetpoints};
 
-// A duration of 0 is omitted.
+// A duration of 0 is omitted, of limits and current limits.
 pub fn duration_amount(d: u64) -> Amount
     ensures { λ r. ⌜ r ≡ durationAmount d ⌝ }
 {
@@ -41,16 +41,17 @@ pub fn setting_of_limits(l: Limits) -> Setting
     }
 }
 
-// The parameters of SetSetpoint.
+// The parameters of SetSetpoint, with the duration as it stands: a 0 is written.
 pub fn setting_of_setpoints(l: Setpoints) -> Setting
     ensures { λ r. ⌜ r ≡ settingOfSetpoints l ⌝ }
 {
     let c = l.consumption;
     let p = l.production;
+    let d = l.duration;
     Setting {
         consumption: field_of(c),
         production: field_of(p),
-        duration: duration_amount(l.duration),
+        duration: d,
         cause: l.cause,
     }
 }

@@ -18,17 +18,20 @@ use messages::Amount;
 use messages::Command;
 use messages::CurrentLimits;
 use messages::Request;
+use messages::Setpoints;
 use messages::is_served;
 use request_reader::Setting;
 use sender::Written;
 use sender::refused;
 use sender::send;
 ghost use mathlib.Core.Path.{_≡_};
+ghost use mathlib.Core.Bool.{_||_};
+ghost use lib.Dec.{ltb};
 ghost use Prim.Native.Nat.{_+_};
 ghost use lib.ListN.{length};
 ghost use Rattle.cbor.specs.Item.{encode, encodePairs, countPairs};
 ghost use Rattle.map_fields.specs.Fields.{present, aimItem, amountItem};
-ghost use Rattle.request_writer.specs.Requests.{commandFields, requestItem, aimWide, commandWide, isServed, requestWide, requestNumber};
+ghost use Rattle.request_writer.specs.Requests.{commandFields, requestItem, aimWide, durationWide, commandWide, isServed, requestWide, requestNumber};
 ghost use Rattle.map_fields.specs.Puts.{Puts};
 ghost use Rattle.request_writer.specs.Settings.{settingFields, currentLimitFields};
 ghost use Rattle.request_writer.specs.Sizes.{paramsRoom, payloadRoom};
@@ -135,6 +138,23 @@ fn aim_wide(a: Aim) -> bool
     }
 }
 
+fn duration_wide(a: Amount) -> bool
+    ensures { λ r. ⌜ r ≡ durationWide a ⌝ }
+{
+    match a {
+        Amount::Absent => false,
+        Amount::Is(d) => MOST32 < d,
+    }
+}
+
+// Whether the duration or the cause of a SetSetpoint is out of the wire's range.
+fn setpoints_wide(l: Setpoints) -> bool
+    ensures { λ r. ⌜ r ≡ (durationWide (l .duration) || ltb 255 (l .cause)) ⌝ }
+{
+    let d = l.duration;
+    either(duration_wide(d), 255 < l.cause)
+}
+
 // Whether a number of the command is out of the wire's range.
 fn command_wide(c: Command) -> bool
     ensures { λ r. ⌜ r ≡ commandWide c ⌝ }
@@ -142,7 +162,7 @@ fn command_wide(c: Command) -> bool
     match c {
         Command::SetLimit(l) => either(MOST32 < l.duration, 255 < l.cause),
         Command::ClearLimit(a) => aim_wide(a),
-        Command::SetSetpoint(l) => either(MOST32 < l.duration, 255 < l.cause),
+        Command::SetSetpoint(l) => setpoints_wide(l),
         Command::ClearSetpoint(a) => aim_wide(a),
         Command::SetCurrentLimits(l) => either(
             1 < l.direction,

@@ -1,4 +1,4 @@
--- Each field is the number at its place; directed is a yes.
+-- Each field is the number at its place; directed and lasting are yeses.
 use Rattle.flat.specs.Requests.{requestIn}
 use mir.Val.{SFits}
 use mir.Syntax.{w64}
@@ -18,13 +18,11 @@ request-in-spec =
     (λ c. search needs) (λ c. search needs) (λ c. search needs) (λ c. search needs) (λ c. search needs) (λ c. search needs)
     (λ c. search needs) (λ c. search needs) (λ c. search needs) (λ c. search needs) (λ c. search needs) (λ c κs. search needs)
     (λ c. search needs) (λ c. search needs) (λ c. search needs) (λ c. search needs) (λ c. search needs) (λ c. search needs)
-    (λ c. search needs)
+    (λ c. search needs) (λ c. search needs) (λ c κs. search needs)
     (λ c.
-    let at-is-yes = c .before .before .before .is-yes in
-    let at-args = c .before .before .before .before .before .before .args in
-    let f : SFits w64 (getD (at-args .t2) 0 (pos 0)) = search needs in
-    let g : SFits w64 (getD (at-args .t2) 1 (pos 0)) = search needs in
-    let x : SFits w64 (getD (at-args .t2) 2 (pos 0)) = search needs in
-    let y : SFits w64 (getD (at-args .t2) 3 (pos 0)) = search needs in
-    let z : SFits w64 (getD (at-args .t2) 4 (pos 0)) = search needs in
-    made _ (at-is-yes .ensures) (toZ-ofZ f) (toZ-ofZ g) (toZ-ofZ x) (toZ-ofZ y) (toZ-ofZ z)))
+    let f : SFits w64 (getD (c .before .before .before .before .before .before .before .args .t2) 0 (pos 0)) = search needs in
+    let g : SFits w64 (getD (c .before .before .before .before .before .before .before .args .t2) 1 (pos 0)) = search needs in
+    let x : SFits w64 (getD (c .before .before .before .before .before .before .before .args .t2) 2 (pos 0)) = search needs in
+    let y : SFits w64 (getD (c .before .before .before .before .before .before .before .args .t2) 3 (pos 0)) = search needs in
+    let z : SFits w64 (getD (c .before .before .before .before .before .before .before .args .t2) 4 (pos 0)) = search needs in
+    made _ (c .before .before .before .before .is-yes .ensures) (c .is-yes2 .ensures) (toZ-ofZ f) (toZ-ofZ g) (toZ-ofZ x) (toZ-ofZ y) (toZ-ofZ z)))

@@ -1,4 +1,4 @@
--- Each word is a field; directed is a yes as a word.
+-- Each word is a field; directed and lasting are yeses as words.
 use Rattle.flat.specs.Requests.{requestWords}
 use borrow.Author.Needs.{needs}
 use Rattle.flat.proofs.requests.request_words.Statement.{statement}
@@ -9,5 +9,5 @@ unfolding requestWords
 request-words-spec =
     tie.close
     (tie.spec
-    (λ c κs. search needs)
-    (λ c. rw (c .word-of .ensures)))
+    (λ c κs. search needs) (λ c κs. search needs)
+    (λ c. rw (c .before .word-of .ensures, c .word-of2 .ensures)))

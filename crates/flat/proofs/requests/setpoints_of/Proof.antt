@@ -1,4 +1,4 @@
--- Each field is read by its kind.
+-- Each field is read by its kind, the duration by whether it lasts.
 use Rattle.flat.specs.Requests.{setpointsOf}
 use borrow.Author.Needs.{needs}
 use Rattle.flat.proofs.requests.setpoints_of.Statement.{statement}
@@ -9,5 +9,5 @@ unfolding setpointsOf
 setpoints-of-spec =
     tie.close
     (tie.spec
-    (λ c κs. search needs) (λ c κs. search needs)
-    (λ c. rw (c .before .target-of .ensures, c .target-of2 .ensures)))
+    (λ c κs. search needs) (λ c κs. search needs) (λ c κs. search needs)
+    (λ c. rw (c .before .before .target-of .ensures, c .before .target-of2 .ensures, c .setpoint-time .ensures)))

@@ -9,7 +9,5 @@ unfolding setpointsFrom
 setpoints-from-spec =
     tie.close
     (tie.spec
-    (λ c κs. search needs) (λ c κs. search needs) (λ c κs. search needs)
-    (λ c.
-    let at-target-of = c .before .before .target-of in
-    rw (at-target-of .ensures, c .before .target-of2 .ensures, c .duration-of .ensures)))
+    (λ c κs. search needs) (λ c κs. search needs)
+    (λ c. rw (c .before .target-of .ensures, c .target-of2 .ensures)))

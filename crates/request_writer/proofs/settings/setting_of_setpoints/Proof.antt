@@ -9,7 +9,5 @@ unfolding settingOfSetpoints
 setting-of-setpoints-spec =
     tie.close
     (tie.spec
-    (λ c κs. search needs) (λ c κs. search needs) (λ c κs. search needs)
-    (λ c.
-    let at-field-of = c .before .before .field-of in
-    rw (at-field-of .ensures, c .before .field-of2 .ensures, c .duration-amount .ensures)))
+    (λ c κs. search needs) (λ c κs. search needs)
+    (λ c. rw (c .before .field-of .ensures, c .field-of2 .ensures)))

@@ -19,14 +19,14 @@ command-wide-spec =
     let at-c2 = c .before .before .c2 in
     rw (at-c2 .given .1) (c .aim-wide .ensures))
     (λ c.
-    let at-c3 = c .before .before .before .before .c3 in
-    rw (at-c3 .given .1) (c .either2 .ensures))
+    let at-c3 = c .before .before .c3 in
+    rw (at-c3 .given .1) (c .setpoints-wide .ensures))
     (λ c.
     let at-c4 = c .before .before .c4 in
     rw (at-c4 .given .1) (c .aim-wide2 .ensures))
     (λ c.
     let at-c5 = c .before .before .before .before .before .before .c5 in
-    rw (at-c5 .given .1, c .either4 .ensures, c .before .either3 .ensures))
+    rw (at-c5 .given .1, c .either3 .ensures, c .before .either2 .ensures))
     (λ c.
     let at-c6 = c .before .before .c6 in
     rw (at-c6 .given .1) (c .aim-wide3 .ensures))
