@@ -1,11 +1,14 @@
 -- A request made flat and taken back: its fields one by one, and its command by its number.
 use Prim.Native.Nat.{ℕ}
-use mathlib.Core.Path.{_≡_, refl, ap}
+use mathlib.Core.Path.{_≡_, refl, sym, ap}
 use mathlib.Core.Bool.{Bool, true, false, cond, not, _&&_}
 use native.Mathlib.Omega.{arith}
+use lib.Dec.{eqb}
+use borrow.Author.Tests.{eqb-true}
 use Rattle.messages.specs.declared.Field.{Field}
 use Rattle.messages.specs.declared.Target.{Target}
 use Rattle.messages.specs.declared.Aim.{Aim}
+use Rattle.messages.specs.declared.Amount.{Amount}
 use Rattle.messages.specs.declared.Limits.{Limits}
 use Rattle.messages.specs.declared.Setpoints.{Setpoints}
 use Rattle.messages.specs.declared.Phases.{Phases}
@@ -18,8 +21,8 @@ use Rattle.frames.specs.Writing.{itemFrame}
 use Rattle.request_reader.specs.declared.requests.Reading.{Reading}
 use Rattle.frame_laws.proofs.RequestBack.{request-reads-back}
 use Rattle.frame_laws.proofs.RequestAgain.{request-writable}
-use Rattle.flat.specs.Requests.{fieldOf, targetOf, aimOf, limitsOf, setpointsOf, phasesOf, currentsOf, limitKind, setpointKind, currentCommand, commandOf, requestOf}
-use Rattle.flat.specs.Requests.{flatField, flatTarget, hasAim, aimed, flatSet, flatCurrents, flatClear, flatRequest}
+use Rattle.flat.specs.Requests.{fieldOf, targetOf, aimOf, limitsOf, setpointTime, setpointsOf, phasesOf, currentsOf, limitKind, setpointKind, currentCommand, commandOf, requestOf}
+use Rattle.flat.specs.Requests.{flatField, flatTarget, hasAim, aimed, timeOf, isLasting, flatSet, flatCurrents, flatClear, flatRequest}
 use Rattle.capi.specs.Requests.{flatReading}
 use Rattle.capi_laws.specs.Inverse.{RequestKept, Plain, ReadPlain, FlatReadsBack}
 
@@ -38,6 +41,15 @@ aim-kept : (a : Aim) → aimOf (hasAim a) (aimed a) ≡ a
 unfolding aimOf
 aim-kept Aim.Both = refl
 aim-kept (Aim.One d) = refl
+
+time-kept : (a : Amount) → setpointTime (isLasting a) (timeOf a) ≡ a
+unfolding setpointTime
+time-kept Amount.Absent = refl
+time-kept (Amount.Is d) = go (eqb d 0) refl
+  where
+    go : (b : Bool) → eqb d 0 ≡ b → cond b (cond b (Amount.Is 0) Amount.Absent) (Amount.Is d) ≡ Amount.Is d
+    go true e = ap Amount.Is (sym (eqb-true d 0 e))
+    go false e = refl
 
 field-kind : (f : Field) → limitKind (flatField f .kind) ≡ true
 unfolding limitKind flatField
@@ -62,7 +74,7 @@ command-kept r (Command.SetLimit m) e =
     rw (field-kind (m .consumption), field-kind (m .production)) (unfold limitsOf in rw (field-kept (m .consumption), field-kept (m .production)))
 command-kept r (Command.ClearLimit a) e = rw (aim-kept a)
 command-kept r (Command.SetSetpoint m) e =
-    rw (target-kind (m .consumption), target-kind (m .production)) (unfold setpointsOf in rw (target-kept (m .consumption), target-kept (m .production)))
+    rw (target-kind (m .consumption), target-kind (m .production)) (unfold setpointsOf in rw (target-kept (m .consumption), target-kept (m .production), time-kept (m .duration)))
 command-kept r (Command.ClearSetpoint a) e = rw (aim-kept a)
 command-kept r (Command.SetCurrentLimits m) e = currents-kept r m
 command-kept r (Command.ClearCurrentLimits a) e = rw (aim-kept a)
