@@ -1,5 +1,6 @@
-/* A small driver of a three-phase box: two zones join, set limits of power and of current by frames that come in scraps, a display
-   polls, and the plan says what will change, as numbers and as records, and comes true. */
+/* A small driver of a three-phase box: two zones join, set limits of power and of current by frames that come in scraps, and
+   setpoints, of which one is forgotten and ends; a display polls, and the plan says what will change, as numbers and as records,
+   and comes true. */
 #include "cekarum.h"
 #include <stdio.h>
 #include <string.h>
@@ -32,6 +33,14 @@ static uint64_t current_frame(uint64_t id, int64_t a, int64_t b, int64_t c, uint
     request.phases[0] = (struct cekarum_field){CEKARUM_NUMBER, a};
     request.phases[1] = (struct cekarum_field){CEKARUM_NUMBER, b};
     request.phases[2] = (struct cekarum_field){CEKARUM_NUMBER, c};
+    return cekarum_write_request(request, frame, room).length;
+}
+
+/* SetSetpoint of one direction, with no number of seconds: until replaced if it is to last, else it ends after 3,600. */
+static uint64_t setpoint_frame(uint64_t id, int direction, int64_t setpoint, bool lasting, uint8_t *frame, uint64_t room)
+{
+    struct cekarum_request request = {.id = id, .endpoint = 1, .feature = 5, .command = 3, .lasting = lasting};
+    *(direction == 0 ? &request.consumption : &request.production) = (struct cekarum_field){CEKARUM_NUMBER, setpoint};
     return cekarum_write_request(request, frame, room).length;
 }
 
@@ -141,6 +150,14 @@ static void poll_and_obey(uint64_t *device, struct connection *c, uint64_t now)
     poll_display(device);
 }
 
+/* A phone app sets a charge target and is deleted: the target ends. The home manager means its own to stand, and says so. */
+static void set_targets(uint64_t *device, struct connection *manager, struct connection *app, uint64_t now)
+{
+    uint8_t sent[CEKARUM_REQUEST_MAX];
+    stream(device, app, now, sent, setpoint_frame(13, 0, 7400000, false, sent, sizeof sent));
+    stream(device, manager, now, sent, setpoint_frame(14, 1, 2000000, true, sent, sizeof sent));
+}
+
 /* Whether an ask shows these values once the clock alone has moved to a second. */
 static const char *comes_true(uint64_t *device, uint64_t second, const int64_t *values)
 {
@@ -185,6 +202,7 @@ int main(void)
     say("clock to 110", cekarum_move(device, 110));
     print_currents(device);
     poll_and_obey(device, &nine, 110);
+    set_targets(device, &three, &nine, 110);
     print_plan(device);
     print_rows(device);
     live_through(device);

@@ -298,8 +298,11 @@ struct cekarum_field {
 };
 
 /* Commands 1 SetLimit and 3 SetSetpoint use the two fields, 5 SetCurrentLimits the phases and the direction, all three duration
- * (0: until replaced) and cause; 2 ClearLimit, 4 ClearSetpoint and 6 ClearCurrentLimits use the direction if directed. The
- * other members are 0 when read and passed over when written. */
+ * and cause, and SetSetpoint alone lasting; 2 ClearLimit, 4 ClearSetpoint and 6 ClearCurrentLimits use the direction if directed.
+ * The other members are 0 or no when read and passed over when written.
+ * A duration of 0: limits and currents stand until replaced, and so does a lasting setpoint, whose 0 is written. A setpoint that
+ * is not lasting goes out without a duration and ends after 3,600 s: a request that starts all zero is such a one until it says
+ * otherwise. Beside another duration lasting is no when read and passed over when written. */
 struct cekarum_request {
     uint64_t id;       /* 32 bits */
     uint64_t endpoint; /* 1 is served; 8 bits */
@@ -312,6 +315,7 @@ struct cekarum_request {
     bool directed;      /* whether a clear names a direction; if not, it clears both */
     uint64_t direction; /* 0 or 1 */
     struct cekarum_field phases[3]; /* mA by phase: A, B, C */
+    bool lasting; /* whether a setpoint with duration 0 stands until replaced; if not, it ends after 3,600 s */
 };
 
 struct cekarum_request_read {
@@ -323,7 +327,7 @@ struct cekarum_request_read {
 static inline struct cekarum_request_read cekarum_read_request(const uint8_t *in, uint64_t in_length)
 {
     struct cekarum_request_read read;
-    uint64_t words[13];
+    uint64_t words[14];
     int64_t values[5];
     read.number = cekarum_raw_read_request(in, in_length, words, values);
     read.request.id = words[0];
@@ -342,15 +346,17 @@ static inline struct cekarum_request_read cekarum_read_request(const uint8_t *in
         read.request.phases[phase].kind = words[10 + phase];
         read.request.phases[phase].value = values[2 + phase];
     }
+    read.request.lasting = words[13] != 0;
     return read;
 }
 
-/* Writes a request frame; a duration of 0 is left out. Refuses: 3 for a value out of range (a kind above 2, or null in
- * SetSetpoint, included), 4 for an endpoint, feature or command that is not served, 15. Negative values and a Set command that
- * names nothing are written: a device refuses them with 13. CEKARUM_REQUEST_MAX bytes of room are always enough. */
+/* Writes a request frame; a duration of 0 is left out, save that of a lasting SetSetpoint. Refuses: 3 for a value out of range (a
+ * kind above 2, or null in SetSetpoint, included), 4 for an endpoint, feature or command that is not served, 15. Negative values
+ * and a Set command that names nothing are written: a device refuses them with 13. CEKARUM_REQUEST_MAX bytes of room are always
+ * enough. */
 static inline struct cekarum_written cekarum_write_request(struct cekarum_request request, uint8_t *out, uint64_t out_length)
 {
-    const uint64_t words[13] = {request.id,
+    const uint64_t words[14] = {request.id,
                                 request.endpoint,
                                 request.feature,
                                 request.command,
@@ -362,7 +368,8 @@ static inline struct cekarum_written cekarum_write_request(struct cekarum_reques
                                 request.direction,
                                 request.phases[0].kind,
                                 request.phases[1].kind,
-                                request.phases[2].kind};
+                                request.phases[2].kind,
+                                request.lasting};
     const int64_t values[5] = {request.consumption.value, request.production.value, request.phases[0].value,
                                request.phases[1].value, request.phases[2].value};
     struct cekarum_written written;

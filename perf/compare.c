@@ -95,6 +95,7 @@ static struct ask ask;
 static struct plain_settings settings; /* of the device as it is */
 static uint64_t compared, differ, most_rows, most_lost, most_pairs, longest_in, clock_now;
 static uint64_t counts[CALLS][NUMBERS], answered[NUMBERS], unanswered[NUMBERS];
+static uint64_t setpoints[3]; /* accepted ones, by their duration: left out, 0, another */
 
 static uint64_t call_one(struct side *s, const struct ask *q)
 {
@@ -161,13 +162,13 @@ static bool same_fields(const struct plain_field *x, const struct plain_field *y
     return true;
 }
 
-/* What a command does not use is absent or 0 when read. */
+/* What a command does not use is absent, 0 or no when read. */
 static bool same_request(const struct plain_request *x, const struct plain_request *y)
 {
     if (x->id != y->id || x->endpoint != y->endpoint || x->feature != y->feature || x->command != y->command)
         return false;
     return same_fields(x->field, y->field, 2) && same_fields(x->phase, y->phase, PLAIN_PHASES) && x->duration == y->duration &&
-           x->cause == y->cause && x->has_direction == y->has_direction && x->direction == y->direction;
+           x->cause == y->cause && x->has_direction == y->has_direction && x->direction == y->direction && x->lasting == y->lasting;
 }
 
 static bool same_response(const struct plain_response *x, const struct plain_response *y)
@@ -243,6 +244,13 @@ static void judge_one(const struct side *s)
         complain("the device changed");
 }
 
+static void tally_setpoint(void)
+{
+    struct plain_request r;
+    if (first_kernel.read_request(ask.in.at, ask.in.n, &r) == 0 && r.command == 3)
+        setpoints[r.duration != 0 ? 2 : r.lasting]++;
+}
+
 static void tally(const struct side *s)
 {
     if (s->number < NUMBERS) {
@@ -250,6 +258,8 @@ static void tally(const struct side *s)
         if (ask.call == FRAME)
             *(s->length > 0 ? &answered[s->number] : &unanswered[s->number]) += 1;
     }
+    if (ask.call == FRAME && s->number == 0)
+        tally_setpoint();
     if (ask.call == PLAN && s->length > most_rows)
         most_rows = s->length;
     if (ask.call == REPORT && s->length > most_pairs)
@@ -315,6 +325,8 @@ static uint64_t some_time(void)
         return PLAIN_LAST_SECOND - mix_below(mix_chance(200) ? 2 : 8000);
     case 992 ... 995:
         return mix_any();
+    case 996 ... 997:
+        return clock_now + 3598 + mix_below(5);
     default:
         return clock_now + 7198 + mix_below(5);
     }
@@ -476,11 +488,12 @@ static void start(bool sound)
     both();
 }
 
-/* A Set command that gives one quantity a value, written with the first kernel's writer. */
+/* A Set command that gives one quantity a value, written with the first kernel's writer; one of two without a duration lasts. */
 static void set_frame(unsigned quantity, uint64_t value, uint64_t lasts)
 {
     struct plain_request r = {.id = mix_any() >> 32, .endpoint = 1, .feature = 5, .duration = lasts};
     struct plain_field f = {PLAIN_NUMBER, (int64_t)value};
+    r.lasting = mix_chance(500);
     r.command = quantity < 2 ? 1 : quantity < 4 ? 3 : 5;
     if (quantity < 4) {
         r.field[quantity % 2] = f;
@@ -576,7 +589,7 @@ static void crowd(void)
     }
     for (unsigned i = 0; i < 8; i++)
         for (unsigned j = 0; j < PLAIN_HELDS; j++) {
-            uint64_t lasts = even ? 1 + PLAIN_HELDS * i + j : 1 + mix_below(100);
+            uint64_t lasts = even ? 1 + PLAIN_HELDS * i + j : mix_below(100);
             set_frame(j, settings.minimum + (even ? i : mix_below(9)), lasts);
             ask.zone = 1 + i;
             both();
@@ -621,6 +634,8 @@ static void print_counts(void)
             printf(" %u: %llu (and %llu without room)", n, U(answered[n]), U(unanswered[n]));
     printf("\nlongest plan %llu rows (%llu in the failsafe), longest report %llu pairs, longest accepted frame %llu bytes\n",
            U(most_rows), U(most_lost), U(most_pairs), U(longest_in));
+    printf("accepted setpoints: %llu without a duration, %llu with 0, %llu with another\n", U(setpoints[0]), U(setpoints[1]),
+           U(setpoints[2]));
     printf("every number reached: %s\n", all ? "yes" : "NO");
 }
 

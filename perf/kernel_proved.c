@@ -106,7 +106,8 @@ static uint64_t read_request(const uint8_t *in, size_t n, struct plain_request *
                                 .duration = q.duration,
                                 .cause = q.cause,
                                 .has_direction = q.directed,
-                                .direction = q.direction};
+                                .direction = q.direction,
+                                .lasting = q.lasting};
     for (unsigned i = 0; i < PLAIN_PHASES; i++)
         r->phase[i] = (struct plain_field){q.phases[i].kind, q.phases[i].value};
     return got.number;
@@ -123,7 +124,8 @@ static struct plain_written write_request(const struct plain_request *r, uint8_t
                                 .duration = r->duration,
                                 .cause = r->cause,
                                 .directed = r->has_direction,
-                                .direction = r->direction};
+                                .direction = r->direction,
+                                .lasting = r->lasting};
     for (unsigned i = 0; i < PLAIN_PHASES; i++)
         q.phases[i] = (struct cekarum_field){r->phase[i].kind, r->phase[i].value};
     return written(cekarum_write_request(q, out, room));

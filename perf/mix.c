@@ -76,7 +76,7 @@ static int64_t current(const struct plain_settings *s)
 
 static uint64_t duration(void)
 {
-    static const uint64_t usual[] = {1, 2, 3, 5, 10, 20, 50, 60, 100, 7200, 4294967295};
+    static const uint64_t usual[] = {1, 2, 3, 5, 10, 20, 50, 60, 100, 3599, 3600, 3601, 7200, 4294967295};
     return mix_chance(700) ? mix_below(120) : PICK(usual);
 }
 
@@ -290,6 +290,13 @@ static void phase_map(struct entries *e, uint64_t k, const struct plain_settings
     close_map(&e->body, &phases);
 }
 
+/* Of a Set command: often left out, and now and then a 0. */
+static void duration_field(struct entries *e)
+{
+    if (mix_chance(600))
+        field(e, 3, mix_chance(200) ? 0 : duration(), 2);
+}
+
 static void parameters(struct entries *e, uint64_t command, const struct plain_settings *s)
 {
     if (mix_chance(20))
@@ -297,14 +304,12 @@ static void parameters(struct entries *e, uint64_t command, const struct plain_s
     if (command == 1 || command == 3) {
         amount_field(e, 1, s, command == 1);
         amount_field(e, 2, s, command == 1);
-        if (mix_chance(600))
-            field(e, 3, duration(), 2);
+        duration_field(e);
         field(e, 4, mix_below(6), 2);
     } else if (command == 5) {
         phase_map(e, 1, s, true);
         field(e, 2, mix_chance(970) ? mix_below(2) : 2, 2);
-        if (mix_chance(600))
-            field(e, 3, duration(), 2);
+        duration_field(e);
         field(e, 4, mix_below(6), 2);
     } else {
         if (mix_chance(600))
@@ -507,6 +512,7 @@ void mix_request_fields(struct plain_request *r, const struct plain_settings *s)
     r->endpoint = spoil(usually(1, 255));
     r->feature = spoil(usually(5, 65535));
     r->command = spoil(usually(1 + mix_below(6), 9));
+    r->lasting = mix_chance(500); /* beside every command and every duration */
     if (r->command == 1 || r->command == 3) {
         for (unsigned i = 0; i < 2; i++) {
             r->field[i].kind = mix_chance(600) ? PLAIN_NUMBER : r->command == 1 ? mix_below(2) : PLAIN_ABSENT;

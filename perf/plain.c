@@ -316,6 +316,7 @@ static uint64_t read_ends(const struct item *i, struct plain_request *r)
     if ((i[3].kind != NONE && !fits(&i[3], UINT32_MAX)) || !fits(&i[4], 255))
         return 3;
     r->duration = i[3].argument;
+    r->lasting = r->command == 3 && i[3].kind != NONE && i[3].argument == 0;
     r->cause = i[4].argument;
     return 0;
 }
@@ -396,10 +397,16 @@ static unsigned standing(const struct plain_field *f, unsigned n)
     return count;
 }
 
-/* Duration and cause of a Set command; a duration of 0 is left out. */
+/* Whether a Set command's duration is written: a 0 is left out, save a lasting setpoint's. */
+static bool has_duration(const struct plain_request *r)
+{
+    return r->duration != 0 || (r->command == 3 && r->lasting);
+}
+
+/* Duration and cause of a Set command. */
 static uint8_t *put_ends(uint8_t *to, const struct plain_request *r)
 {
-    if (r->duration != 0)
+    if (has_duration(r))
         to = put(put(to, 0, 3), 0, r->duration);
     return put(put(to, 0, 4), 0, r->cause);
 }
@@ -407,13 +414,13 @@ static uint8_t *put_ends(uint8_t *to, const struct plain_request *r)
 static uint8_t *put_parameters(uint8_t *to, const struct plain_request *r)
 {
     if (sets_power(r->command)) {
-        to = put(to, 5, 1 + standing(r->field, 2) + (r->duration != 0));
+        to = put(to, 5, 1 + standing(r->field, 2) + has_duration(r));
         for (unsigned i = 0; i < 2; i++)
             to = put_field(to, i + 1, &r->field[i]);
         return put_ends(to, r);
     }
     if (r->command == 5) {
-        to = put(to, 5, 3 + (r->duration != 0));
+        to = put(to, 5, 3 + has_duration(r));
         to = put(put(to, 0, 1), 5, standing(r->phase, PLAIN_PHASES));
         for (unsigned i = 0; i < PLAIN_PHASES; i++)
             to = put_field(to, i, &r->phase[i]);
@@ -964,6 +971,17 @@ static inline bool store(struct plain_held *h, const struct plain_field *f, uint
     return value > most;
 }
 
+/* Seconds after which a setpoint ends whose duration was left out. */
+enum { FORGOTTEN = 3600 };
+
+/* The second at which what a Set command sets ends. */
+static uint64_t end_of(const struct plain_request *r, uint64_t time)
+{
+    if (r->duration != 0)
+        return time + r->duration;
+    return r->command == 3 && !r->lasting ? time + FORGOTTEN : FOREVER;
+}
+
 /* Applies an accepted command to its zone; whether a limit was capped. */
 static bool apply(const struct plain *d, struct plain_held *held, const struct plain_request *r, uint64_t time)
 {
@@ -976,7 +994,7 @@ static bool apply(const struct plain *d, struct plain_held *held, const struct p
                 h[i] = (struct plain_held){0, 0};
         return false;
     }
-    uint64_t until = r->duration == 0 ? FOREVER : time + r->duration;
+    uint64_t until = end_of(r, time);
     if (r->command == 5) {
         for (unsigned i = 0; i < PLAIN_PHASES; i++)
             store(&held[4 + 2 * i + r->direction], &r->phase[i], FOREVER, until);

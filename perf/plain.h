@@ -67,7 +67,7 @@ struct plain_field {
 };
 
 /* Commands 1 and 3 use field, duration and cause; 5 uses phase, direction, duration and cause; 2, 4 and 6 use direction (0, 1,
-   or absent: has_direction false). */
+   or absent: has_direction false). lasting, of 3 alone: a duration of 0 stands in the frame, and means until replaced. */
 struct plain_request {
     uint64_t id, endpoint, feature, command;
     struct plain_field field[2];
@@ -75,6 +75,7 @@ struct plain_request {
     bool has_direction;
     uint64_t direction;
     struct plain_field phase[PLAIN_PHASES];
+    bool lasting;
 };
 
 /* value: limits or setpoints, current: by phase, -1 is absent; reason: -1 is absent. */
