@@ -4,7 +4,7 @@ use mathlib.Core.List.{List}
 use lib.IntN.{ℤ}
 use Rattle.kernel.specs.Door.{Answer, Written, responseNumber, responseItem, itemFrame, writtenOf, leftBy}
 use Rattle.frames.specs.Responses.{answerNumber}
-use Rattle.flat.specs.Responses.{responseOf, flatResponse, noResponse, responseIn}
+use Rattle.flat_responses.specs.Responses.{responseOf, flatResponse, noResponse, responseIn}
 use Rattle.capi.specs.declared.responses.FlatAnswer.{FlatAnswer}
 
 unfoldable pub flatAnswer : Answer → FlatAnswer

@@ -1,18 +1,18 @@
 // Responses for C: words and values, read and written as the kernel reads and writes.
-use flat::AMOUNTS;
-use flat::FlatResponse;
-use flat::RESPONSE;
-use flat::flat_response;
-use flat::no_response;
-use flat::response_in;
-use flat::response_of;
-use flat::response_values;
-use flat::response_words;
+use flat_responses::AMOUNTS;
+use flat_responses::FlatResponse;
+use flat_responses::RESPONSE;
+use flat_responses::flat_response;
+use flat_responses::no_response;
+use flat_responses::response_in;
+use flat_responses::response_of;
+use flat_responses::response_values;
+use flat_responses::response_words;
 use kernel::Answer;
 ghost use mathlib.Core.Path.{_≡_};
 ghost use lib.ListN.{length};
 ghost use Rattle.kernel.specs.Door.{readResponse};
-ghost use Rattle.flat.specs.Responses.{responseWords, responseValues};
+ghost use Rattle.flat_responses.specs.Responses.{responseWords, responseValues};
 ghost use Rattle.capi.specs.Responses.{flatAnswer, responseWritten, responseLeft};
 
 pub struct FlatAnswer {

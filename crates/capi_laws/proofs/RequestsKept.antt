@@ -21,8 +21,8 @@ use Rattle.frames.specs.Writing.{itemFrame}
 use Rattle.request_reader.specs.declared.requests.Reading.{Reading}
 use Rattle.frame_laws.proofs.RequestBack.{request-reads-back}
 use Rattle.frame_laws.proofs.RequestAgain.{request-writable}
-use Rattle.flat.specs.Requests.{fieldOf, targetOf, aimOf, limitsOf, setpointTime, setpointsOf, phasesOf, currentsOf, limitKind, setpointKind, currentCommand, commandOf, requestOf}
-use Rattle.flat.specs.Requests.{flatField, flatTarget, hasAim, aimed, timeOf, isLasting, flatSet, flatCurrents, flatClear, flatRequest}
+use Rattle.flat_fields.specs.Fields.{fieldOf, targetOf, aimOf, setpointTime, limitKind, setpointKind, flatField, flatTarget, hasAim, aimed, timeOf, isLasting}
+use Rattle.flat_requests.specs.Requests.{limitsOf, setpointsOf, phasesOf, currentsOf, currentCommand, commandOf, requestOf, flatSet, flatCurrents, flatClear, flatRequest}
 use Rattle.capi.specs.Requests.{flatReading}
 use Rattle.capi_laws.specs.Inverse.{RequestKept, Plain, ReadPlain, FlatReadsBack}
 

@@ -20,8 +20,8 @@ use Rattle.response_reader.specs.declared.responses.Answer.{Answer}
 use Rattle.frame_laws.proofs.ResponseBack.{response-reads-back}
 use Rattle.frame_laws.proofs.ResponseAgain.{response-writable}
 use Rattle.holds.specs.Holds.{shown}
-use Rattle.flat.specs.Amounts.{valueEnd, amountOf, flatAmount}
-use Rattle.flat.specs.Responses.{limitOf, setpointOf, currentOf, outcomeOf, responseOf, flat, flatCurrent, flatResponse}
+use Rattle.flat_fields.specs.Amounts.{valueEnd, amountOf, flatAmount}
+use Rattle.flat_responses.specs.Responses.{limitOf, setpointOf, currentOf, outcomeOf, responseOf, flat, flatCurrent, flatResponse}
 use Rattle.capi.specs.Responses.{flatAnswer}
 use Rattle.capi_laws.specs.Inverse.{AmountShown, ResponseKept, AnswerPlain, FlatAnswerReadsBack}
 

@@ -14,11 +14,11 @@ use Rattle.frames.specs.Writing.{itemFrame}
 use Rattle.request_reader.specs.declared.requests.Reading.{Reading}
 use Rattle.response_reader.specs.declared.responses.Answer.{Answer}
 use Rattle.holds.specs.Holds.{shown}
-use Rattle.flat.specs.Amounts.{flatAmount}
-use Rattle.flat.specs.Requests.{requestOf, flatRequest}
-use Rattle.flat.specs.Responses.{responseOf, flatResponse}
-use Rattle.flat.specs.declared.requests.FlatRequest.{FlatRequest}
-use Rattle.flat.specs.declared.responses.FlatResponse.{FlatResponse}
+use Rattle.flat_fields.specs.Amounts.{flatAmount}
+use Rattle.flat_requests.specs.Requests.{requestOf, flatRequest}
+use Rattle.flat_responses.specs.Responses.{responseOf, flatResponse}
+use Rattle.flat_requests.specs.declared.FlatRequest.{FlatRequest}
+use Rattle.flat_responses.specs.declared.FlatResponse.{FlatResponse}
 use Rattle.capi.specs.Requests.{flatReading}
 use Rattle.capi.specs.Responses.{flatAnswer}
 

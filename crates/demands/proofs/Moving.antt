@@ -12,7 +12,7 @@ use lib.Seq.{set-out}
 use borrow.Author.Tests.{le-leb, lt-leb, le-ltb, leb-true, leb-false, ltb-false}
 use Rattle.messages.specs.Refusals.{firstOf}
 use Rattle.store.specs.Sizes.{end, slots, words}
-use Rattle.store.specs.Times.{late}
+use Rattle.rules.specs.Rules.{late}
 use Rattle.store.specs.Zones.{freeZone}
 use Rattle.store.specs.Words.{clockOf, sinceOf, overrideOf, settingsOf, zonesOf, headChange, applied, after}
 use Rattle.store.proofs.Lens.{zones-length}

@@ -6,7 +6,7 @@ use mathlib.Core.List.{List}
 use lib.Dec.{ltb, leb, eqb}
 use lib.ListN.{getD}
 unfoldable pub use Rattle.messages.specs.Refusals.{firstOf}
-unfoldable pub use Rattle.store.specs.Times.{late}
+unfoldable pub use Rattle.rules.specs.Rules.{late}
 use Rattle.store.specs.Sizes.{end}
 use Rattle.store.specs.Zones.{any}
 

@@ -66,7 +66,7 @@ pub fn join(d: &mut State, zone: u64, rank: u64, t: u64) -> u64
     ensures { λ r. ⌜ r ≡ joinNumber (now (d .entry)) zone rank t ⌝ }
     ensures { λ _. ⌜ now (d .exit) ≡ joinAfter (now (d .entry)) zone rank t ⌝ }
 {
-    if store::is_late(store::clock(d), t) {
+    if rules::is_late(store::clock(d), t) {
         return 5;
     }
     if rules::is_bad_join(zone, rank) {
@@ -95,7 +95,7 @@ pub fn leave(d: &mut State, zone: u64, t: u64) -> u64
     ensures { λ r. ⌜ r ≡ leaveNumber (now (d .entry)) zone t ⌝ }
     ensures { λ _. ⌜ now (d .exit) ≡ leaveAfter (now (d .entry)) zone t ⌝ }
 {
-    if store::is_late(store::clock(d), t) {
+    if rules::is_late(store::clock(d), t) {
         return 5;
     }
     let slot = store::slot_of_joined(d, zone);
@@ -147,7 +147,7 @@ fn link(d: &mut State, zone: u64, up: bool, t: u64) -> u64
     ensures { λ r. ⌜ r ≡ linkNumber (now (d .entry)) zone up t ⌝ }
     ensures { λ _. ⌜ now (d .exit) ≡ linkAfter (now (d .entry)) zone up t ⌝ }
 {
-    if store::is_late(store::clock(d), t) {
+    if rules::is_late(store::clock(d), t) {
         return 5;
     }
     let slot = store::slot_of_joined(d, zone);
@@ -196,7 +196,7 @@ pub fn set_override(d: &mut State, reason: u64, direction: u64, t: u64) -> u64
     ensures { λ r. ⌜ r ≡ overrideNumber (now (d .entry)) reason direction t ⌝ }
     ensures { λ _. ⌜ now (d .exit) ≡ overrideAfter (now (d .entry)) reason direction t ⌝ }
 {
-    if store::is_late(store::clock(d), t) {
+    if rules::is_late(store::clock(d), t) {
         return 5;
     }
     if rules::go_together(store::is_manager(d), reason, direction) {
@@ -211,7 +211,7 @@ pub fn clear_override(d: &mut State, t: u64) -> u64
     ensures { λ r. ⌜ r ≡ clearNumber (now (d .entry)) t ⌝ }
     ensures { λ _. ⌜ now (d .exit) ≡ clearAfter (now (d .entry)) t ⌝ }
 {
-    if store::is_late(store::clock(d), t) {
+    if rules::is_late(store::clock(d), t) {
         return 5;
     }
     if store::overridden(d) == 0 {
@@ -233,7 +233,7 @@ pub fn move_clock(d: &mut State, t: u64) -> u64
     ensures { λ r. ⌜ r ≡ moveNumber (now (d .entry)) t ⌝ }
     ensures { λ _. ⌜ now (d .exit) ≡ moveAfter (now (d .entry)) t ⌝ }
 {
-    if store::is_late(store::clock(d), t) {
+    if rules::is_late(store::clock(d), t) {
         return 5;
     }
     let o = store::overridden(d);

@@ -26,7 +26,7 @@ fn number_of(
     if command::is_unserved(c) {
         return 4;
     }
-    if store::is_late(clock, t) {
+    if rules::is_late(clock, t) {
         return 5;
     }
     if !there {

@@ -1,11 +1,15 @@
--- What a start, a join and an override may say. Assumes nothing: these are definitions.
+-- What a call's second, a start, a join and an override may say. Assumes nothing: these are definitions.
 use Prim.Native.Nat.{ℕ}
 use mathlib.Core.Bool.{Bool, not, _&&_, _||_}
 use lib.Dec.{ltb, leb, eqb}
 use lib.ListN.{getD}
 use Rattle.quantities.specs.Quantities.{phases}
-use Rattle.store.specs.Sizes.{most, valueEnd}
+use Rattle.store.specs.Sizes.{most, end, valueEnd}
 use Rattle.store.specs.declared.Settings.{Settings}
+
+-- 5: "A time below the last accepted call's, or past the end"
+unfoldable pub late : ℕ → ℕ → Bool
+late clock t = ltb t clock || leb end t
 
 -- "a contractual maximum per direction or none"
 unfoldable pub badMaximum : ℕ → Bool

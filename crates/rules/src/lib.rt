@@ -1,13 +1,21 @@
-// What a start, a join and an override may say: one function for each rule of a refusal, over plain numbers.
+// What a call's second, a start, a join and an override may say: one function for each rule of a refusal, over plain numbers.
 ghost use mathlib.Core.Path.{_≡_};
-ghost use Rattle.rules.specs.Rules.{badJoin, goTogether};
+ghost use Rattle.rules.specs.Rules.{late, badJoin, goTogether};
 ghost use Rattle.rules.specs.Rules.{badMaximum, outside, badSettings};
+use store::END;
 use store::MOST;
 use store::Settings;
 use store::VALUE_END;
 
 // As many phases as a current limit can name.
 const MOST_PHASES: u64 = 3;
+
+// 5: whether a call at t comes before the last accepted one, or past the end of time.
+pub fn is_late(clock: u64, t: u64) -> bool
+    ensures { λ r. ⌜ r ≡ late clock t ⌝ }
+{
+    t < clock || END <= t
+}
 
 // 6: an id outside 1 to 255, or a rank outside 1 to 4.
 pub fn is_bad_join(zone: u64, rank: u64) -> bool

@@ -1,11 +1,9 @@
 -- How a call ends: refused, with every word as it was, or accepted, with its one change applied.
 use Prim.Native.Nat.{ℕ}
-use mathlib.Core.Bool.{Bool}
 use mathlib.Core.Path.{_≡_, sym, _∙_}
 use mathlib.Core.List.{List}
 use borrow.Author.Tests.{eq-eqb, ne-eqb}
 use Rattle.store.specs.Words.{applied, after}
-use Rattle.store.specs.Times.{late}
 use Rattle.store.specs.declared.Change.{Change}
 
 -- "State, clock and lent buffers stay unchanged at every refusal"
@@ -19,7 +17,3 @@ refused ws k n c e z = (e, sym (refusal-keeps ws n c (λ q. z (e ∙ q))))
 pub accepted : (ws us : List ℕ) (n : ℕ) (b c : Change) → 0 ≡ n → us ≡ applied ws b → b ≡ c → (0 ≡ n) × (us ≡ after ws n c)
 unfolding after
 accepted ws us n b c e a q = (e, rw (eq-eqb n 0 (sym e), ← q) a)
-
--- the test of the time, taken on the clock that was read
-pub timed : (k k′ t : ℕ) (r b : Bool) → k ≡ k′ → r ≡ late k t → r ≡ b → late k′ t ≡ b
-timed k k′ t r b e f g = rw (← e) (sym f ∙ g)

@@ -1,7 +1,6 @@
 // The device as words that the driver lends: settings, zones and what they hold, behind lenses. No other room knows the layout.
 mod lenses;
 mod puts;
-mod times;
 
 pub use lenses::all;
 pub use lenses::clock;
@@ -22,7 +21,6 @@ pub use puts::apply;
 pub use puts::apply_head;
 pub use puts::fresh;
 pub use quantities::HELDS;
-pub use times::is_late;
 
 // How many zones there are, and the words of a zone, of the head and of the whole device.
 pub const SLOTS: usize = 8;

@@ -4,7 +4,8 @@ use native.Mathlib.Omega.{arith}
 use borrow.Author.Tests.{eq-eqb, ne-eqb}
 use Rattle.device.specs.Refusals.{firstOf}
 use Rattle.device.specs.Calls.{clearNumber, clearAfter}
-use Rattle.store.proofs.Answered.{refused, accepted, timed}
+use Rattle.store.proofs.Answered.{refused, accepted}
+use Rattle.device.proofs.Late.{timed}
 use Rattle.device.proofs.calls.clear_override.Statement.{statement}
 use Rattle.device.proofs.calls.clear_override.Tie as tie
 

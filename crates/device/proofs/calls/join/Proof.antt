@@ -6,7 +6,8 @@ use borrow.Author.Tests.{le-leb, lt-leb}
 use Rattle.device.specs.Refusals.{firstOf}
 use Rattle.device.specs.Calls.{joinNumber, joinAfter}
 use Rattle.store.proofs.Tests.{via}
-use Rattle.store.proofs.Answered.{refused, accepted, timed}
+use Rattle.store.proofs.Answered.{refused, accepted}
+use Rattle.device.proofs.Late.{timed}
 use Rattle.device.proofs.Changes.{up-change, join-range, join-up}
 use Rattle.device.proofs.calls.join.Statement.{statement}
 use Rattle.device.proofs.calls.join.Tie as tie

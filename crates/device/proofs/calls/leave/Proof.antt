@@ -4,7 +4,8 @@ use Rattle.store.specs.Words.{zonesOf}
 use Rattle.device.specs.Refusals.{firstOf}
 use Rattle.device.specs.Calls.{leaveNumber, leaveAfter, zoneChange}
 use Rattle.store.proofs.Slots.{found, not-found, found-slot}
-use Rattle.store.proofs.Answered.{refused, accepted, timed}
+use Rattle.store.proofs.Answered.{refused, accepted}
+use Rattle.device.proofs.Late.{timed}
 use Rattle.device.proofs.calls.leave.Statement.{statement}
 use Rattle.device.proofs.calls.leave.Tie as tie
 

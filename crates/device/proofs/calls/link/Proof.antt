@@ -7,7 +7,8 @@ use Rattle.device.specs.Refusals.{firstOf}
 use Rattle.device.specs.Calls.{linkNumber, linkAfter}
 use Rattle.store.proofs.Tests.{via}
 use Rattle.store.proofs.Slots.{found, not-found, found-slot}
-use Rattle.store.proofs.Answered.{refused, accepted, timed}
+use Rattle.store.proofs.Answered.{refused, accepted}
+use Rattle.device.proofs.Late.{timed}
 use Rattle.device.proofs.Changes.{link-change, joined-there}
 use Rattle.device.proofs.calls.link.Statement.{statement}
 use Rattle.device.proofs.calls.link.Tie as tie

@@ -2,7 +2,8 @@
 use native.Mathlib.Omega.{arith}
 use Rattle.device.specs.Refusals.{firstOf}
 use Rattle.device.specs.Calls.{moveNumber, moveAfter}
-use Rattle.store.proofs.Answered.{refused, accepted, timed}
+use Rattle.store.proofs.Answered.{refused, accepted}
+use Rattle.device.proofs.Late.{timed}
 use Rattle.device.proofs.calls.move_clock.Statement.{statement}
 use Rattle.device.proofs.calls.move_clock.Tie as tie
 

@@ -9,7 +9,8 @@ use Rattle.device.specs.Refusals.{firstOf}
 use Rattle.device.specs.Calls.{overrideNumber, overrideAfter}
 use Rattle.rules.specs.Rules.{goTogether}
 use Rattle.store.proofs.Tests.{via}
-use Rattle.store.proofs.Answered.{refused, accepted, timed}
+use Rattle.store.proofs.Answered.{refused, accepted}
+use Rattle.device.proofs.Late.{timed}
 use Rattle.device.proofs.calls.set_override.Statement.{statement}
 use Rattle.device.proofs.calls.set_override.Tie as tie
 

@@ -1,4 +1,0 @@
--- What the proofs of several functions use.
-pub mod Signed
-pub mod Chosen
-pub mod Made

@@ -1,4 +1,0 @@
-pub mod Amounts
-pub mod Words
-pub mod Requests
-pub mod Responses

@@ -1,0 +1,3 @@
+pub mod Amounts
+pub mod Words
+pub mod Fields
