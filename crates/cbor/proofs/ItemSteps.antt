@@ -10,14 +10,15 @@ use lib.ListN.{length, take, drop, length-append}
 use lib.Dec.{leb, eqb}
 use borrow.Author.Tests.{ne-eqb, lt-leb}
 use Rattle.bytes.specs.Bytes.{Bytes}
-use Rattle.cbor.specs.Head.{headBytes, headAt}
-use Rattle.cbor.specs.Item.{Item, Items, Pairs, Got, got, bad, andThen, keyAt, itemsAt, pairsAt, stringAt, fromHead, itemAt, restAt, endOf, pastOf, levels, payloadOf, isSome, encode, encodeItems, encodePairs, count, countPairs}
-use Rattle.cbor.specs.declared.heads.Head.{Head}
-use Rattle.cbor.specs.declared.items.Key.{Key}
+use Rattle.heads.specs.Head.{headBytes, headAt}
+use Rattle.cbor.specs.Item.{Item, Items, Pairs, Got, got, bad, andThen, itemsAt, pairsAt, stringAt, fromHead, itemAt, restAt, endOf, pastOf, levels, payloadOf, isSome, encode, encodeItems, encodePairs, count, countPairs}
+use Rattle.heads.specs.Key.{keyAt}
+use Rattle.heads.specs.declared.reading.Head.{Head}
+use Rattle.heads.specs.declared.keys.Key.{Key}
 use Rattle.cbor.specs.declared.items.End.{End}
 use Rattle.bytes.proofs.Order.{below, one-more}
-use Rattle.cbor.proofs.Widths.{head-length, len-positive}
-use Rattle.cbor.proofs.HeadLaws.{head-found}
+use Rattle.heads.proofs.Widths.{head-length, len-positive}
+use Rattle.heads.proofs.HeadLaws.{head-found}
 use Rattle.cbor.proofs.Sound.{Sound, item-sound, key-found, allowed-rest}
 
 -- what only wraps a value ends where it ended

@@ -10,12 +10,13 @@ use lib.ListN.{length}
 use lib.Dec.{eqb, ltb}
 use borrow.Author.Tests.{lt-ltb, le-ltb, ltb-true, eq-eqb, eqb-true}
 use Rattle.bytes.specs.Bytes.{Bytes}
-use Rattle.cbor.specs.Head.{headAt}
-use Rattle.cbor.specs.Item.{Item, Pairs, Got, got, bad, keyAt, pairsAt, itemAt, pastOf, levels, payloadOf, isSome, Ok}
+use Rattle.heads.specs.Head.{headAt}
+use Rattle.cbor.specs.Item.{Item, Pairs, Got, got, bad, pairsAt, itemAt, pastOf, levels, payloadOf, isSome, Ok}
+use Rattle.heads.specs.Key.{keyAt}
 use Rattle.cbor.specs.Scan.{KEYS, LEVELS, STEP, sight, sightOf, pairsIn, sightsOf, wordsOf}
 use Rattle.cbor.specs.Pass.{blank, noteAt, noted, noteHead, noteKey, noteFrom, Left}
-use Rattle.cbor.specs.declared.heads.Head.{Head}
-use Rattle.cbor.specs.declared.items.Key.{Key}
+use Rattle.heads.specs.declared.reading.Head.{Head}
+use Rattle.heads.specs.declared.keys.Key.{Key}
 use Rattle.bytes.proofs.Order.{below, one-more}
 use Rattle.cbor.proofs.Sound.{then-inv, key-found, Sound, item-sound}
 use Rattle.cbor.proofs.ItemSteps.{pairs-none, pairs-more, pairs-next, by-head, rest-map, item-bad, item-got}

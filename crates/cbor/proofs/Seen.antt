@@ -7,11 +7,12 @@ use native.Mathlib.Omega.{arith}
 use lib.ListN.{length, drop}
 use borrow.Author.Tests.{le-leb, eq-eqb, ne-eqb}
 use Rattle.bytes.specs.Bytes.{Bytes}
-use Rattle.cbor.specs.Head.{headBytes, headAt, headLen}
-use Rattle.cbor.specs.Item.{Item, Pairs, Got, got, keyAt, pairsAt, itemAt, encode, encodeItems, encodePairs, count, countPairs, Ok, OkPairs}
+use Rattle.heads.specs.Head.{headBytes, headAt, headLen}
+use Rattle.cbor.specs.Item.{Item, Pairs, Got, got, pairsAt, itemAt, encode, encodeItems, encodePairs, count, countPairs, Ok, OkPairs}
+use Rattle.heads.specs.Key.{keyAt}
 use Rattle.cbor.specs.Find.{valueOf}
-use Rattle.cbor.specs.declared.heads.Head.{Head}
-use Rattle.cbor.proofs.HeadLaws.{head-reads-back}
+use Rattle.heads.specs.declared.reading.Head.{Head}
+use Rattle.heads.proofs.HeadLaws.{head-reads-back}
 use Rattle.cbor.proofs.Sound.{Sound, item-sound, then-inv, keyed-inv, key-found}
 
 -- the major type and the argument of an item's head, and the bytes behind it

@@ -10,13 +10,14 @@ use lib.Seq.{drop-drop, getD-take, getD-drop}
 use lib.Dec.{leb, eqb}
 use borrow.Author.Tests.{leb-true, eqb-true, eqb-false, lt-leb}
 use Rattle.bytes.specs.Bytes.{Bytes, Stands}
-use Rattle.cbor.specs.Head.{headBytes, headAt, Within}
-use Rattle.cbor.specs.Item.{Item, Items, Pairs, Got, got, bad, andThen, keyOf, keyAt, keyed, itemsAt, pairsAt, fromHead, itemAt, encode, encodeItems, encodePairs, count, countPairs, Ok, OkItems, OkPairs}
-use Rattle.cbor.specs.declared.heads.Head.{Head}
-use Rattle.cbor.specs.declared.items.Key.{Key}
+use Rattle.heads.specs.Head.{headBytes, headAt, Within}
+use Rattle.cbor.specs.Item.{Item, Items, Pairs, Got, got, bad, andThen, keyed, itemsAt, pairsAt, fromHead, itemAt, encode, encodeItems, encodePairs, count, countPairs, Ok, OkItems, OkPairs}
+use Rattle.heads.specs.Key.{keyOf, keyAt}
+use Rattle.heads.specs.declared.reading.Head.{Head}
+use Rattle.heads.specs.declared.keys.Key.{Key}
 use Rattle.bytes.proofs.Order.{below}
 use Rattle.bytes.proofs.NumberLaws.{zero-past}
-use Rattle.cbor.proofs.HeadLaws.{HeadFound, head-found}
+use Rattle.heads.proofs.HeadLaws.{HeadFound, head-found}
 
 -- one run of bytes behind the other
 pub join : (s a b : List ℕ) (p q e : ℕ) → Stands s p a q → Stands s q b e → Stands s p (a ++ b) e

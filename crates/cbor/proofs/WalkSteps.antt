@@ -4,9 +4,10 @@ use mathlib.Core.Path.{_≡_, sym, ap, _∙_}
 use mathlib.Core.Bool.{true, false}
 use mathlib.Core.List.{List}
 use borrow.Author.Tests.{lt-ltb, le-ltb, eq-eqb, ne-eqb}
-use Rattle.cbor.specs.Item.{itemAt, keyAt, endOf}
+use Rattle.cbor.specs.Item.{itemAt, endOf}
+use Rattle.heads.specs.Key.{keyAt}
 use Rattle.cbor.specs.Find.{passed, stepAt, stopped, onward, seekAt}
-use Rattle.cbor.specs.declared.items.Key.{Key}
+use Rattle.heads.specs.declared.keys.Key.{Key}
 use Rattle.cbor.specs.declared.items.End.{End}
 use Rattle.cbor.specs.declared.pairs.Step.{Step}
 use Rattle.bytes.proofs.Order.{one-more}

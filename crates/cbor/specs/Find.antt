@@ -4,8 +4,9 @@ use mathlib.Core.Bool.{Bool, true, false, cond}
 use mathlib.Core.List.{List}
 use mathlib.Core.Option.{Option, some, none}
 use lib.Dec.{ltb, eqb}
-use Rattle.cbor.specs.Item.{Item, Pairs, itemAt, keyAt, endOf}
-use Rattle.cbor.specs.declared.items.Key.{Key}
+use Rattle.cbor.specs.Item.{Item, Pairs, itemAt, endOf}
+use Rattle.heads.specs.Key.{keyAt}
+use Rattle.heads.specs.declared.keys.Key.{Key}
 use Rattle.cbor.specs.declared.items.End.{End}
 use Rattle.cbor.specs.declared.pairs.Step.{Step}
 use Rattle.cbor.specs.declared.pairs.Stop.{Stop}

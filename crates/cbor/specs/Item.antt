@@ -6,9 +6,10 @@ use mathlib.Core.Option.{Option, some, none as nothing}
 use lib.ListN.{length, take, drop}
 use lib.Dec.{leb, eqb}
 use Rattle.bytes.specs.Bytes.{Bytes}
-use Rattle.cbor.specs.Head.{headBytes, headAt}
-use Rattle.cbor.specs.declared.heads.Head.{Head}
-use Rattle.cbor.specs.declared.items.Key.{Key}
+use Rattle.heads.specs.Head.{headBytes, headAt}
+use Rattle.heads.specs.Key.{keyAt}
+use Rattle.heads.specs.declared.reading.Head.{Head}
+use Rattle.heads.specs.declared.keys.Key.{Key}
 use Rattle.cbor.specs.declared.items.End.{End}
 
 mutual
@@ -93,18 +94,6 @@ unfoldable pub itemsAt : (ℕ → Got Item) → ℕ → ℕ → Got Items
 itemsAt f zero p = got none p
 itemsAt f (suc n) p = andThen (f p) (λ i e. andThen (itemsAt f n e) (λ is e′. got (more i is) e′))
 
-abbrev pub keyFrom : ℕ → ℕ → ℕ → Key
-keyFrom lo k e = cond (leb lo k) (Key.Is k e) Key.Bad
-
--- a key is an unsigned number, not below lo
-abbrev pub keyOf : ℕ → Head → Key
-keyOf lo (Head.Is m k e) = cond (eqb m 0) (keyFrom lo k e) Key.Bad
-keyOf lo Head.Bad = Key.Bad
-
--- the key at p
-unfoldable pub keyAt : List ℕ → ℕ → ℕ → Key
-keyAt s lo p = keyOf lo (headAt s p)
-
 abbrev pub keyed : {X : Type 0} → Key → (ℕ → ℕ → Got X) → Got X
 keyed (Key.Is k e) f = f k e
 keyed Key.Bad f = bad
@@ -158,11 +147,6 @@ endOf bad = End.Bad
 abbrev pub pastOf : {X : Type 0} → Got X → ℕ
 pastOf (got x e) = e
 pastOf bad = 0
-
--- the least key that may come first, or behind the last
-abbrev pub least : Bool → ℕ → ℕ
-least true last = 0
-least false last = last + 1
 
 -- nesting of maps and arrays: at most 8
 abbrev pub levels : ℕ

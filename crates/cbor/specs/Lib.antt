@@ -1,4 +1,3 @@
-pub mod Head
 pub mod Item
 pub mod Find
 pub mod Scan

@@ -1,16 +1,17 @@
 // Items, arrays and maps, checked: each calls the others, with a loop over the elements, so that the stack grows with nesting alone.
 // They answer the position past what they checked, and 0 where it is bad: nothing ends at 0.
-use crate::heads::Head;
-use crate::heads::read_head;
-use crate::heads::wide;
-use crate::heads::width_of;
+use heads::Head;
+use heads::Key;
+use heads::read_head;
+use heads::read_key;
 ghost use mathlib.Core.Path.{_≡_};
 ghost use mathlib.Core.Bool.{cond};
 ghost use Prim.Native.Nat.{_+_, _-_, _≤_};
 ghost use lib.ListN.{length};
 ghost use lib.Dec.{leb};
-ghost use Rattle.cbor.specs.Item.{keyFrom, keyAt, itemAt, restAt, itemsAt, pairsAt, endOf, pastOf, least, payloadOf, isSome};
-ghost use Rattle.cbor.specs.declared.heads.Head.{Head};
+ghost use Rattle.cbor.specs.Item.{itemAt, restAt, itemsAt, pairsAt, endOf, pastOf, payloadOf, isSome};
+ghost use Rattle.heads.specs.Key.{least};
+ghost use Rattle.heads.specs.declared.reading.Head.{Head};
 
 // How many maps and arrays may stand within each other.
 pub const DEPTH: u64 = 8;
@@ -19,46 +20,6 @@ pub const DEPTH: u64 = 8;
 pub enum End {
     At(usize),
     Bad,
-}
-
-// A key and the position past it.
-pub enum Key {
-    Is(u64, usize),
-    Bad,
-}
-
-// A key and the position past it: any if it is the first, else above the last.
-fn later(first: bool, last: u64, key: u64, next: usize) -> Key
-    ensures { λ r. ⌜ r ≡ keyFrom (least first last) key next ⌝ }
-{
-    if first {
-        return Key::Is(key, next);
-    }
-    if last < key {
-        return Key::Is(key, next);
-    }
-    Key::Bad
-}
-
-// The key at `at`, whose major type is 0: its first byte is its additional information.
-pub(crate) fn read_key(s: &[u8], at: usize, first: bool, last: u64) -> Key
-    ensures { λ r. ⌜ r ≡ keyAt (now (s .entry)) (least first last) at ⌝ }
-{
-    if s.len() <= at {
-        return Key::Bad;
-    }
-    let b = s[at] as u64;
-    if b < 24 {
-        return later(first, last, b, at + 1);
-    }
-    if b < 28 {
-        let key = wide(s, at + 1, b);
-        if key == 0 {
-            return Key::Bad;
-        }
-        return later(first, last, key, at + 1 + width_of(b));
-    }
-    Key::Bad
 }
 
 // The position past a string of n bytes at `at`; 0 where it does not fit.

@@ -1,13 +1,8 @@
-// RFC 8949's strict subset: heads read and written, items checked, a key of a map sought, a payload scanned.
-mod heads; // heads.rt: heads, read and written
+// RFC 8949's strict subset: items checked, a key of a map sought, a payload scanned.
 mod items; // items.rt: items, arrays and maps, checked
 mod pairs; // pairs.rt: the value under a key of a map
 mod sights; // sights.rt: one pass that checks a payload and keeps the heads under its small keys
 
-pub use heads::Head;
-pub use heads::head_len;
-pub use heads::put_head;
-pub use heads::read_head;
 pub use items::DEPTH;
 pub use items::End;
 pub use items::check_item;

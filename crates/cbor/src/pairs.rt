@@ -1,8 +1,8 @@
 // The value under a key of a map.
 use crate::items::End;
-use crate::items::Key;
+use heads::Key;
 use crate::items::check_item;
-use crate::items::read_key;
+use heads::read_key;
 ghost use mathlib.Core.Path.{_≡_};
 ghost use Rattle.cbor.specs.Find.{stepAt, stopped, seekAt};
 

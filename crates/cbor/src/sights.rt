@@ -1,11 +1,11 @@
 // One pass over a payload, which checks it and keeps the heads under its small keys and under those of the maps along a path.
-use crate::heads::Head;
-use crate::heads::read_head;
+use heads::Head;
+use heads::read_head;
 use crate::items::DEPTH;
-use crate::items::Key;
+use heads::Key;
 use crate::items::past_pairs;
 use crate::items::past_rest;
-use crate::items::read_key;
+use heads::read_key;
 ghost use mathlib.Core.Path.{_≡_};
 ghost use Prim.Native.Nat.{_+_, _%_, _<_};
 ghost use mathlib.Core.Bool.{cond, false};

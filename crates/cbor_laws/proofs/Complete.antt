@@ -6,13 +6,14 @@ use native.Mathlib.Omega.{arith}
 use lib.ListN.{length, drop, length-append}
 use lib.Seq.{take-append-seam}
 use borrow.Author.Tests.{le-leb}
-use Rattle.cbor.specs.Head.{headBytes, headLen, headAt, Within}
-use Rattle.cbor.specs.Item.{Item, Items, Pairs, Got, got, bad, keyAt, itemsAt, pairsAt, fromHead, itemAt, encode, encodeItems, encodePairs, count, countPairs, Ok, OkItems, OkPairs}
+use Rattle.heads.specs.Head.{headBytes, headLen, headAt, Within}
+use Rattle.cbor.specs.Item.{Item, Items, Pairs, Got, got, bad, itemsAt, pairsAt, fromHead, itemAt, encode, encodeItems, encodePairs, count, countPairs, Ok, OkItems, OkPairs}
+use Rattle.heads.specs.Key.{keyAt}
 use Rattle.cbor_laws.specs.Laws.{ItemReadsBack}
-use Rattle.cbor.specs.declared.heads.Head.{Head}
+use Rattle.heads.specs.declared.reading.Head.{Head}
 use Rattle.bytes.proofs.NumberLaws.{past, room}
-use Rattle.cbor.proofs.Widths.{head-length}
-use Rattle.cbor.proofs.HeadLaws.{head-reads-back}
+use Rattle.heads.proofs.Widths.{head-length}
+use Rattle.heads.proofs.HeadLaws.{head-reads-back}
 
 alone : (s t : List ℕ) (p m v : ℕ) → Within m v → v < 2 ^ 64 → drop p s ≡ headBytes m v ++ t → headAt s p ≡ Head.Is m v (p + length (headBytes m v))
 alone s t p m v ok small e = head-reads-back s t p m v ok small e ∙ ap (λ (n : ℕ). Head.Is m v (p + n)) (sym (head-length m v))

@@ -9,12 +9,12 @@ use lib.ListN.{length, drop}
 use lib.Seq.{drop-length}
 use lib.Dec.{eqb}
 use borrow.Author.Tests.{eqb-true, eq-eqb}
-use Rattle.cbor.specs.Head.{headBytes}
+use Rattle.heads.specs.Head.{headBytes}
 use Rattle.cbor.specs.Item.{Item, Got, got, bad, itemAt, encode, Ok, levels, endsAt, payloadOf}
 use Rattle.cbor_laws.specs.Laws.{ItemExact, PayloadExact, NoneBeginsAnother, OneItem, HeadWritten, ItemWritten}
-use Rattle.cbor.proofs.Widths.{head-length}
+use Rattle.heads.proofs.Widths.{head-length}
 use Rattle.bytes.proofs.PutLaws.{put-stands}
-use Rattle.cbor.proofs.HeadLaws.{head-reads-back}
+use Rattle.heads.proofs.HeadLaws.{head-reads-back}
 use Rattle.cbor.proofs.Sound.{Sound, item-sound}
 use Rattle.cbor_laws.proofs.Complete.{item-reads-back}
 

@@ -8,12 +8,13 @@ use native.Mathlib.Omega.{arith}
 use lib.ListN.{drop}
 use borrow.Author.Tests.{le-leb, lt-ltb, le-ltb, eq-eqb, ne-eqb}
 use Rattle.bytes.specs.Bytes.{Bytes}
-use Rattle.cbor.specs.Head.{headAt, headLen}
-use Rattle.cbor.specs.Item.{Item, Pairs, Got, got, keyAt, pairsAt, fromHead, itemAt, countPairs}
+use Rattle.heads.specs.Head.{headAt, headLen}
+use Rattle.cbor.specs.Item.{Item, Pairs, Got, got, pairsAt, fromHead, itemAt, countPairs}
+use Rattle.heads.specs.Key.{keyAt}
 use Rattle.cbor.specs.Find.{valueOf, stepAt, seekAt}
 use Rattle.cbor_laws.specs.Laws.{Sought, WalkStarts, SeekExact}
-use Rattle.cbor.specs.declared.heads.Head.{Head}
-use Rattle.cbor.specs.declared.items.Key.{Key}
+use Rattle.heads.specs.declared.reading.Head.{Head}
+use Rattle.heads.specs.declared.keys.Key.{Key}
 use Rattle.cbor.specs.declared.pairs.Stop.{Stop}
 use Rattle.bytes.proofs.Order.{below}
 use Rattle.cbor.proofs.Sound.{then-inv}

@@ -8,10 +8,10 @@ use mathlib.Core.List.{List, _++_}
 use mathlib.Core.Option.{Option, some, none}
 use lib.ListN.{length, drop}
 use Rattle.bytes.specs.Bytes.{Bytes, Stands, putWhole}
-use Rattle.cbor.specs.Head.{headBytes, headAt, headLen, Within}
+use Rattle.heads.specs.Head.{headBytes, headAt, headLen, Within}
 use Rattle.cbor.specs.Item.{Item, Pairs, got, itemAt, pairsAt, encode, Ok, OkPairs, levels, payloadOf}
 use Rattle.cbor.specs.Find.{valueOf, seekAt}
-use Rattle.cbor.specs.declared.heads.Head.{Head}
+use Rattle.heads.specs.declared.reading.Head.{Head}
 use Rattle.cbor.specs.declared.pairs.Stop.{Stop}
 
 -- an item whose encoding stands in a list is read there

@@ -8,9 +8,9 @@ use lib.Dec.{eqb}
 use lib.IntN.{pos, negsuc}
 use lib.ListN.{length, length-append}
 use borrow.Author.Tests.{eqb-true, le-leb, lt-ltb, leb-true, ltb-false}
-use Rattle.cbor.specs.Head.{headBytes}
+use Rattle.heads.specs.Head.{headBytes}
 use Rattle.cbor.specs.Item.{Item, Ok, encode}
-use Rattle.cbor.proofs.Widths.{head-length, head-short}
+use Rattle.heads.proofs.Widths.{head-length, head-short}
 use Rattle.messages.specs.declared.Field.{Field}
 use Rattle.messages.specs.declared.Aim.{Aim}
 use Rattle.messages.specs.declared.Amount.{Amount}

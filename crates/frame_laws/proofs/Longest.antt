@@ -11,9 +11,9 @@ use lib.IntN.{pos, negsuc}
 use borrow.Author.Tests.{leb-true, ltb-false, eqb-true}
 use Rattle.bytes.specs.Bytes.{bytesOf}
 use Rattle.bytes.proofs.NumberLaws.{bytes-length}
-use Rattle.cbor.specs.Head.{infoOf, widthOf, headLen, headBytes}
+use Rattle.heads.specs.Head.{infoOf, widthOf, headLen, headBytes}
 use Rattle.cbor.specs.Item.{Item, encode, encodePairs, countPairs}
-use Rattle.cbor.proofs.Widths.{by-width, head-length, head-short}
+use Rattle.heads.proofs.Widths.{by-width, head-length, head-short}
 use Rattle.messages.specs.declared.Field.{Field}
 use Rattle.messages.specs.declared.Amount.{Amount}
 use Rattle.messages.specs.declared.Aim.{Aim}

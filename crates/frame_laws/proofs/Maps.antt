@@ -8,10 +8,10 @@ use native.Mathlib.Omega.{arith}
 use lib.ListN.{length, length-append}
 use lib.Dec.{leb, eqb}
 use borrow.Author.Tests.{eqb-true, eqb-false, leb-true, ne-eqb}
-use Rattle.cbor.specs.Head.{headBytes}
+use Rattle.heads.specs.Head.{headBytes}
 use Rattle.cbor.specs.Item.{Item, Pairs, encode, encodePairs, countPairs, Ok, OkPairs}
 use Rattle.cbor.specs.Find.{valueOf}
-use Rattle.cbor.proofs.Widths.{head-length, head-short, len-positive}
+use Rattle.heads.proofs.Widths.{head-length, head-short, len-positive}
 use Rattle.cbor_laws.proofs.SameValues.{same-values}
 use Rattle.map_fields.specs.Fields.{Fields, withField, present}
 use Rattle.map_fields.specs.Puts.{fieldBytes}

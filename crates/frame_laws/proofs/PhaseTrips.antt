@@ -9,7 +9,7 @@ use lib.Dec.{ltb, eqb}
 use borrow.Author.Tests.{eqb-false, eq-eqb, ne-eqb, ltb-true}
 use Rattle.cbor.specs.Item.{Item, Pairs, countPairs, Ok, OkPairs}
 use Rattle.cbor.specs.Find.{valueOf}
-use Rattle.cbor.proofs.Widths.{head-length, head-short}
+use Rattle.heads.proofs.Widths.{head-length, head-short}
 use Rattle.messages.specs.declared.Phases.{Phases}
 use Rattle.messages.specs.declared.CurrentResult.{CurrentResult}
 use Rattle.map_fields.specs.Fields.{Fields, mapIn, needed, present, valueIn, amountIn, valueItem, amountItem}

@@ -9,7 +9,7 @@ use lib.ListN.{length, length-append}
 use lib.Dec.{ltb, eqb}
 use borrow.Author.Tests.{ltb-false, eqb-true, le-leb}
 use Rattle.cbor.specs.Item.{Item, Ok, encode, levels}
-use Rattle.cbor.proofs.Widths.{head-length, head-short}
+use Rattle.heads.proofs.Widths.{head-length, head-short}
 use Rattle.messages.specs.Numbers.{wireNumber}
 use Rattle.messages.specs.Refusals.{firstOf}
 use Rattle.messages.specs.declared.Field.{Field}

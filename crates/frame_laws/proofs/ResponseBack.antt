@@ -9,7 +9,7 @@ use lib.ListN.{length, length-append}
 use lib.Dec.{leb, eqb}
 use borrow.Author.Tests.{leb-true, eqb-true}
 use Rattle.cbor.specs.Item.{Item, Ok, encode, levels}
-use Rattle.cbor.proofs.Widths.{head-length, head-short}
+use Rattle.heads.proofs.Widths.{head-length, head-short}
 use Rattle.messages.specs.Refusals.{firstOf}
 use Rattle.messages.specs.declared.LimitResult.{LimitResult}
 use Rattle.messages.specs.declared.SetpointResult.{SetpointResult}

@@ -8,9 +8,9 @@ use lib.ListN.{length, take, drop, length-append}
 use lib.Seq.{sets-eq, take-at, length-take-le}
 use borrow.Author.Tests.{lt-ltb}
 use Rattle.bytes.specs.Bytes.{put, putWhole, pastWhole}
-use Rattle.cbor.specs.Head.{headBytes, headOf}
+use Rattle.heads.specs.Head.{headBytes, headOf}
 use Rattle.cbor.specs.Item.{Item, encode, encodePairs, countPairs}
-use Rattle.cbor.proofs.Widths.{head-length, head-short}
+use Rattle.heads.proofs.Widths.{head-length, head-short}
 use Rattle.bytes.proofs.PutLaws.{put-whole, length-put}
 use Rattle.map_fields.specs.Fields.{Fields, present, mapItem}
 use Rattle.map_fields.specs.Puts.{Adds, Puts, pairBytes, fieldBytes, pairsOf, pairRoom, putEach, pastEach, pairPieces, PutsField}

@@ -5,7 +5,7 @@ use mathlib.Core.List.{List, [], _∷_, _++_}
 use mathlib.Core.Option.{Option, some, none}
 use lib.ListN.{length, take}
 use Rattle.bytes.specs.Bytes.{putWhole, pastWhole}
-use Rattle.cbor.specs.Head.{headBytes, headOf}
+use Rattle.heads.specs.Head.{headBytes, headOf}
 use Rattle.cbor.specs.Item.{Item, encode}
 
 -- from s, written up to p, to t, written up to q: bs was added, of at most `most` bytes

@@ -13,8 +13,8 @@ fn put_pair(out: &mut [u8], at: usize, key: u64, major: u64, arg: u64) -> usize
     requires { ⌜ major < 8 ⌝ }
     ensures { λ r. ⌜ PutsField (now (out .entry)) at (pairPieces key major arg) (pairBytes key major arg) (now (out .exit)) r ⌝ }
 {
-    let behind = cbor::put_head(out, at, 0, key);
-    cbor::put_head(out, behind, major, arg)
+    let behind = heads::put_head(out, at, 0, key);
+    heads::put_head(out, behind, major, arg)
 }
 
 // The head of a map of n pairs, which stand behind it.

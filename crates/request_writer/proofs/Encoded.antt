@@ -4,7 +4,7 @@ use mathlib.Core.Path.{_≡_}
 use mathlib.Core.List.{_++_, append-assoc}
 use mathlib.Core.Option.{some}
 use native.Mathlib.Omega.{arith}
-use Rattle.cbor.specs.Head.{headBytes}
+use Rattle.heads.specs.Head.{headBytes}
 use Rattle.cbor.specs.Item.{Item, encode, encodePairs, countPairs}
 use Rattle.messages.specs.Numbers.{wireNumber}
 use Rattle.messages.specs.declared.Amount.{Amount}

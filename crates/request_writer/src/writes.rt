@@ -120,7 +120,7 @@ fn put_request(out: &mut [u8], r: Request) -> usize
     ensures { λ n. ⌜ Puts (now (out .entry)) 0 (encode (requestItem r)) payloadRoom (now (out .exit)) n ⌝ }
 {
     let command = r.command;
-    let a = cbor::put_head(out, 0, 5, 5);
+    let a = heads::put_head(out, 0, 5, 5);
     let b = put_uint(out, a, 1, r.id);
     let c = put_uint(out, b, 2, r.endpoint);
     let d = put_uint(out, c, 3, r.feature);

@@ -5,7 +5,7 @@ use mathlib.Core.Bool.{true}
 use mathlib.Core.List.{List, [], _∷_, _++_, append-assoc}
 use mathlib.Core.Option.{some}
 use native.Mathlib.Omega.{arith}
-use Rattle.cbor.specs.Head.{headBytes}
+use Rattle.heads.specs.Head.{headBytes}
 use Rattle.cbor.specs.Item.{Item, encode, encodePairs, countPairs}
 use Rattle.messages.specs.declared.Response.{Response}
 use Rattle.messages.specs.declared.LimitResult.{LimitResult}

@@ -109,7 +109,7 @@ fn put_response(out: &mut [u8], r: Response) -> usize
     ensures { λ n. ⌜ Puts (now (out .entry)) 0 (encode (responseItem r)) payloadRoom (now (out .exit)) n ⌝ }
 {
     let outcome = r.outcome;
-    let a = cbor::put_head(out, 0, 5, 2 + count_outcome(outcome));
+    let a = heads::put_head(out, 0, 5, 2 + count_outcome(outcome));
     let b = put_uint(out, a, 1, r.id);
     let c = put_uint(out, b, 2, r.status);
     put_outcome(out, c, outcome)

@@ -1,7 +1,7 @@
 // Runs vectors through the checker and the readers. A line of the input is a name and bytes in hex; a line of the output is the name and
 // `refused`, or `accepted` and the item's heads in order: integers, strings as h'..' and t'..', false, true, null, and an array or a map with
 // its count before its elements. Behind a map stand the keys 0 to 31 that are found in it, each with its value's position.
-use cbor::Head;
+use heads::Head;
 use cbor::Sight;
 use cbor::Stop;
 use libc::STDIN_FILENO;
@@ -177,7 +177,7 @@ fn show_simple(v: u64) {
 
 // Shows what the head at `at` says, and gives the position of the next head.
 fn show_head(s: &[u8], at: usize) -> usize {
-    match cbor::read_head(s, at) {
+    match heads::read_head(s, at) {
         Head::Bad => s.len(),
         Head::Is(major, v, next) => {
             if major < 2 {
@@ -221,7 +221,7 @@ fn show_heads(s: &[u8]) {
 }
 
 fn show_key(s: &[u8], key: u64) {
-    match cbor::read_head(s, 0) {
+    match heads::read_head(s, 0) {
         Head::Bad => {}
         Head::Is(major, n, next) => {
             if major == 5 {

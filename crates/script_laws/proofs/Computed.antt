@@ -17,8 +17,9 @@ use Rattle.records.specs.Records.{isMark, fieldsAt, good, recordAt}
 use Rattle.messages.specs.declared.Field.{Field}
 use Rattle.messages.specs.declared.Command.{Command}
 use Rattle.messages.specs.declared.Request.{Request}
-use Rattle.cbor.specs.Head.{infoOf, widthOf, argAt, headAt}
-use Rattle.cbor.specs.Item.{itemsAt, keyAt, pairsAt, fromHead, itemAt, payloadOf}
+use Rattle.heads.specs.Head.{infoOf, widthOf, argAt, headAt}
+use Rattle.cbor.specs.Item.{itemsAt, pairsAt, fromHead, itemAt, payloadOf}
+use Rattle.heads.specs.Key.{keyAt}
 use Rattle.cbor.specs.Find.{valueOf}
 use Rattle.frames.specs.Prefix.{framed}
 use Rattle.map_fields.specs.Fields.{upTo as fieldUpTo}

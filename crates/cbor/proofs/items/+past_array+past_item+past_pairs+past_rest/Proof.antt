@@ -6,7 +6,8 @@ use native.Mathlib.Omega.{arith}
 use borrow.Author.Needs.{needs}
 use lib.ListN.{length}
 use mathlib.Core.Path.{_≡_, refl, ap, _∙_}
-use Rattle.cbor.specs.Item.{itemAt, itemsAt, pairsAt, pastOf, least}
+use Rattle.cbor.specs.Item.{itemAt, itemsAt, pairsAt, pastOf}
+use Rattle.heads.specs.Key.{least}
 use Rattle.bytes.proofs.NumberLaws.{all-bytes}
 use borrow.Fn.Kinds.{In}
 use borrow.Fn.PlainCycle.{Measures, is, falls, and}
@@ -22,9 +23,9 @@ use Rattle.cbor.proofs.items.+past_array+past_item+past_pairs+past_rest
 use Rattle.cbor.proofs.items.past_rest.Reads as past-rest
 use Rattle.cbor.proofs.items.past_rest.Kinds as past-rest-kinds
 use Rattle.cbor.proofs.items.+past_array+past_item+past_pairs+past_rest.Lts-past_rest as past-rest-lts
-use Rattle.cbor.proofs.heads.read_head.Reads as read-head-reads
+use Rattle.heads.proofs.read_head.Reads as read-head-reads
 use Rattle.cbor.proofs.items.past_string.Reads as past-string-reads
-use Rattle.cbor.proofs.items.read_key.Reads as read-key-reads
+use Rattle.heads.proofs.read_key.Reads as read-key-reads
 use Rattle.cbor.proofs.items.+past_array+past_item+past_pairs+past_rest.{statement}
 use Rattle.cbor.proofs.items.+past_array+past_item+past_pairs+past_rest.Tie.{close}
 

@@ -5,7 +5,8 @@ use native.Mathlib.Omega.{arith}
 use borrow.Author.Needs.{needs}
 use lib.ListN.{length}
 use mathlib.Core.Path.{refl, sym, ap}
-use Rattle.cbor.specs.Item.{itemAt, pairsAt, pastOf, least}
+use Rattle.cbor.specs.Item.{itemAt, pairsAt, pastOf}
+use Rattle.heads.specs.Key.{least}
 use Rattle.cbor.specs.Pass.{noteFrom}
 use Rattle.bytes.proofs.NumberLaws.{all-bytes}
 use Rattle.cbor.proofs.ItemSteps.{item-ends, head-ends, key-ends, item-bad, item-got, head-rest, item-rest, pairs-key, pairs-bad, item-no-head, rest-flat, rest-deep, rest-pairs}
@@ -18,10 +19,10 @@ use Rattle.cbor.proofs.sights.+scan_map+scan_value.Lts-scan_map as scan
 use Rattle.cbor.proofs.sights.scan_value.Reads as scan-value
 use Rattle.cbor.proofs.sights.scan_value.Kinds as scan-value-kinds
 use Rattle.cbor.proofs.sights.+scan_map+scan_value.Lts-scan_value as scan-value-lts
-use Rattle.cbor.proofs.heads.read_head.Reads as read-head-reads
+use Rattle.heads.proofs.read_head.Reads as read-head-reads
 use Rattle.cbor.proofs.items.past_pairs.Reads as past-pairs-reads
 use Rattle.cbor.proofs.items.past_rest.Reads as past-rest-reads
-use Rattle.cbor.proofs.items.read_key.Reads as read-key-reads
+use Rattle.heads.proofs.read_key.Reads as read-key-reads
 use Rattle.cbor.proofs.sights.note.Reads as note-reads
 use Rattle.cbor.proofs.sights.opens.Reads as opens-reads
 use Rattle.cbor.proofs.sights.+scan_map+scan_value.{statement}
