@@ -18,7 +18,7 @@ use Rattle.store.specs.Sizes.{slots, helds, words}
 use Rattle.store.specs.Zones.{idOf, freeZone, newZone, linked, slotOf, zoneOf, anyUp}
 use Rattle.store.specs.Words.{clockOf, sinceOf, overrideOf, settingsOf, zonesOf, applied, after}
 use Rattle.holds.specs.Holds.{situationOf, valuesAt}
-use Rattle.holds.specs.Links.{sinceAfter}
+use Rattle.links.specs.Links.{sinceAfter}
 use Rattle.device.specs.Calls.{zoneChange}
 use Rattle.store.specs.Words.{headChange}
 use Rattle.command.specs.Obeys.{obeyed}

@@ -12,7 +12,7 @@ use Rattle.command_obeys.specs.declared.Action.{Action}
 use Rattle.store.specs.Sizes.{helds}
 use Rattle.store.specs.Zones.{upTo, nothing, seatOf}
 use Rattle.holds.specs.Holds.{Situation}
-use Rattle.holds.specs.Links.{sinceAfter}
+use Rattle.links.specs.Links.{sinceAfter}
 use Rattle.command.specs.Obeys.{action, untilOf}
 use Rattle.command.specs.Says.{durationOf}
 

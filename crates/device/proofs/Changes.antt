@@ -10,12 +10,12 @@ use lib.ListN.{getD, set}
 use Rattle.store.specs.Sizes.{slots}
 use Rattle.store.specs.Zones.{idOf, freeZone, newZone, linked, isJoined, isUp, slotOf, joined}
 use Rattle.store.specs.Words.{sinceOf, overrideOf, zonesOf}
-use Rattle.holds.specs.Links.{sinceAfter}
+use Rattle.links.specs.Links.{sinceAfter}
 use Rattle.device.specs.Calls.{zoneChange}
 use Rattle.rules.specs.Rules.{badJoin}
 use Rattle.store.specs.declared.Zone.{Zone}
 use Rattle.store.proofs.Tests.{never}
-use Rattle.holds.proofs.Since.{since-up, since-down}
+use Rattle.links.proofs.Since.{since-up, since-down}
 use Rattle.store.proofs.Slots.{new-id, slot-id, joined-above, joined-below}
 use Rattle.store.proofs.Lens.{zones-length}
 

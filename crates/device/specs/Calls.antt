@@ -8,7 +8,7 @@ use lib.IntN.{ℤ}
 use Rattle.store.specs.Sizes.{slots}
 use Rattle.store.specs.Zones.{freeZone, newZone, linked, slotOf, joined, zoneOf}
 use Rattle.store.specs.Words.{clockOf, sinceOf, overrideOf, settingsOf, zonesOf, headChange, after}
-use Rattle.holds.specs.Links.{sinceAfter}
+use Rattle.links.specs.Links.{sinceAfter}
 use Rattle.holds.specs.Holds.{situationOf, valuesAt}
 use Rattle.rules.specs.Rules.{badJoin, goTogether}
 use Rattle.device.specs.Refusals.{firstOf, late}

@@ -6,7 +6,7 @@ ghost use lib.ListN.{getD, set};
 ghost use Rattle.store.specs.Sizes.{ids};
 ghost use Rattle.store.specs.Zones.{freeZone, newZone, linked};
 ghost use Rattle.store.specs.Words.{sinceOf, zonesOf};
-ghost use Rattle.holds.specs.Links.{sinceAfter};
+ghost use Rattle.links.specs.Links.{sinceAfter};
 ghost use Rattle.device.specs.Calls.{joinNumber, joinAfter, leaveNumber, leaveAfter, same, linkNumber, linkAfter, overrideWord, overrideNumber, overrideAfter, clearNumber, clearAfter, askAnswer, moveNumber, moveAfter};
 ghost use Rattle.device.specs.Start.{refusedSettings, startNumber, startAfter};
 use crate::Change;
@@ -106,7 +106,7 @@ pub fn leave(d: &mut State, zone: u64, t: u64) -> u64
         time: t,
         slot: slot,
         zone: store::free_zone(),
-        since: holds::since_without(d, slot, t),
+        since: links::since_without(d, slot, t),
         overridden: store::overridden(d),
     };
     store::apply(d, change);
@@ -139,7 +139,7 @@ fn since_told(d: &State, slot: usize, up: bool, t: u64) -> u64
     if up {
         return store::since(d);
     }
-    holds::since_without(d, slot, t)
+    links::since_without(d, slot, t)
 }
 
 // A link is lost or back.

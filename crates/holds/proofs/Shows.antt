@@ -19,16 +19,17 @@ use Rattle.messages.specs.declared.Amount.the-variants.{Absent, Is}
 use Rattle.quantities.specs.Quantities.{helds, isLimit, isSetpoint, directionOf, supports}
 use Rattle.store.specs.Sizes.{most, end, valueEnd}
 use Rattle.store.specs.Zones.{upTo, anyJoined, anyUp}
-use Rattle.holds.specs.Links.{linkRow}
+use Rattle.links.specs.Links.{linkRow}
 use Rattle.holds.specs.Holds.{Claim, winner, amountOf, Situation, inFailsafe, smallestWith, failsafeValue, valueAt, present, stateAt, shown, valuesAt}
 use Rattle.holds.specs.Dues.{lowDues, leadDues, dues, nearer, nearest}
-use Rattle.holds.specs.Pass.{numberOf, LowsMet, LeadsMet, valuesUp, valuesNone, safeNumber, shownSafe, valuesDown}
+use Rattle.claims.specs.Pass.{numberOf, LowsMet, LeadsMet}
+use Rattle.holds.specs.Pass.{valuesUp, valuesNone, safeNumber, shownSafe, valuesDown}
 use Rattle.table_rules.specs.Leaves.{lesser, topOf, shownBelow, numberIn, shownIn, Filled, stateUp, stateDown}
 use Rattle.store.specs.declared.Settings.{Settings}
-use Rattle.holds.specs.declared.tops.Lows.{Lows}
-use Rattle.holds.specs.declared.tops.Leads.{Leads}
+use Rattle.claims.specs.declared.passes.Lows.{Lows}
+use Rattle.claims.specs.declared.passes.Leads.{Leads}
 use Rattle.table_rules.proofs.Ends.{lesser-swap}
-use Rattle.holds.proofs.Places.{setpoint-place, no-setpoint, limit-at, current-at}
+use Rattle.claims.proofs.Places.{setpoint-place, no-setpoint, limit-at, current-at}
 
 -- an array filled behind its first place, which is stored last
 pub filled : (n : ℕ) (f : ℕ → ℤ) (v : List ℤ) (a : ℤ) → length v ≡ 1 + n → Filled f v n → set v 0 a ≡ a ∷ upTo f n

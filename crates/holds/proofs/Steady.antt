@@ -20,7 +20,7 @@ use Rattle.messages.specs.declared.Amount.the-variants.{Absent, Is}
 use Rattle.store.specs.declared.Zone.{Zone}
 use Rattle.store.proofs.Runs.{length-upTo, upTo-cong}
 use Rattle.store.proofs.Lens.{zones-length}
-use Rattle.holds.proofs.Places.{setpoint-no-limit, low-of, lead-of}
+use Rattle.claims.proofs.Places.{setpoint-no-limit, low-of, lead-of}
 
 -- nothing is due at a second
 abbrev pub Idle : ℕ → List ℕ → Type 0

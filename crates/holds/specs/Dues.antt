@@ -2,28 +2,13 @@
 use Prim.Native.Nat.{ℕ, _+_}
 use mathlib.Core.Bool.{cond}
 use mathlib.Core.List.{List, [], _∷_, _++_, foldl}
-use Rattle.quantities.specs.Quantities.{lows, leads, lowAt, leadAt}
 use Rattle.store.specs.Sizes.{end}
-use Rattle.store.specs.Zones.{upTo, heldOf, isJoined, anyJoined, anyUp}
+use Rattle.store.specs.Zones.{anyJoined, anyUp}
 use Rattle.holds.specs.Holds.{Situation, valuesAt}
-use Rattle.store.specs.declared.Zone.{Zone}
 use Rattle.holds.specs.declared.View.{View}
+pub use Rattle.claims.specs.Ends.{lowDues, leadDues}
+unfoldable pub use Rattle.claims.specs.Ends.{zoneDues, heldDues}
 unfoldable pub use Rattle.table_rules.specs.Edges.{nearer}
-
--- the seconds at which the quantities at 0, at 1, .. at (n - 1) of a joined zone end
-unfoldable pub zoneDues : (ℕ → ℕ) → ℕ → Zone → List ℕ
-zoneDues at n x = cond (isJoined x) (upTo (λ k. heldOf x (at k) .until) n) []
-
-unfoldable pub heldDues : (ℕ → ℕ) → ℕ → List Zone → List ℕ
-heldDues at n [] = []
-heldDues at n (x ∷ xs) = zoneDues at n x ++ heldDues at n xs
-
--- the ends of all that go by the smallest, and of all that go by the seat
-abbrev pub lowDues : List Zone → List ℕ
-lowDues zs = heldDues lowAt lows zs
-
-abbrev pub leadDues : List Zone → List ℕ
-leadDues zs = heldDues leadAt leads zs
 
 -- the seconds at which what holds can change, links and override unmoved; with no link up no setpoint counts
 unfoldable pub dues : Situation → List ℕ

@@ -1,7 +1,7 @@
 -- What holds at a second t: document 01's table of links, and the control state.
 use Prim.Native.Nat.{ℕ, _+_}
-use mathlib.Core.Bool.{Bool, true, false, cond, not, _&&_, _||_}
-use mathlib.Core.List.{List, _∷_, foldl}
+use mathlib.Core.Bool.{Bool, false, cond, not, _&&_, _||_}
+use mathlib.Core.List.{List, _∷_}
 use lib.Dec.{ltb, eqb}
 use lib.ListN.{getD, set}
 use lib.IntN.{ℤ, pos}
@@ -10,45 +10,13 @@ use Rattle.messages.specs.declared.Amount.{Amount}
 use Rattle.messages.specs.declared.Amount.the-variants.{Absent, Is}
 use Rattle.quantities.specs.Quantities.{helds, isLimit, isSetpoint, directionOf, supports}
 use Rattle.store.specs.Sizes.{valueEnd}
-use Rattle.store.specs.Zones.{upTo, idOf, rankOf, isJoined, anyJoined, anyUp, heldOf}
+use Rattle.store.specs.Zones.{upTo, anyJoined, anyUp}
 use Rattle.store.specs.Words.{settingsOf, zonesOf, sinceOf, overrideOf}
 use Rattle.store.specs.declared.Zone.{Zone}
 use Rattle.store.specs.declared.Settings.{Settings}
+pub use Rattle.claims.specs.Claim.{Claim, noClaim, amountOf}
+unfoldable pub use Rattle.claims.specs.Claim.{claimOf, goesBefore, better, winner}
 unfoldable pub use Rattle.table_rules.specs.Edges.{shown}
-
--- what a zone claims for a quantity at a second
-pub record Claim : Type 0 where
-  pub there : Bool
-  pub value : ℕ
-  pub rank : ℕ
-  pub id : ℕ
-
--- "holds while t < n + d": what a zone claims for quantity q at second t
-abbrev pub noClaim : Claim
-noClaim = record { there = false; value = 0; rank = 0; id = 0 }
-
-unfoldable pub claimOf : ℕ → ℕ → Zone → Claim
-claimOf t q x =
-    cond (isJoined x && ltb t (heldOf x q .until))
-    (record { there = true; value = heldOf x q .value; rank = rankOf x; id = idOf x })
-    noClaim
-
--- of two setpoints "the best rank that has one; equal rank, smaller id"; of two power or current limits the smaller
-unfoldable pub goesBefore : ℕ → Claim → Claim → Bool
-goesBefore q a b =
-    cond (isSetpoint q) (ltb (a .rank) (b .rank) || (eqb (a .rank) (b .rank) && ltb (a .id) (b .id)))
-    (ltb (a .value) (b .value))
-
--- the winner so far, and one claim more; of two that neither goes before, as no history makes of setpoints, the later
-unfoldable pub better : ℕ → Claim → Claim → Claim
-better q a b = cond (b .there && not (a .there && goesBefore q a b)) b a
-
--- the claim that wins among all joined zones
-unfoldable pub winner : ℕ → ℕ → List Zone → Claim
-winner t q zs = foldl (λ a x. better q a (claimOf t q x)) noClaim zs
-
-abbrev pub amountOf : Claim → Amount
-amountOf c = cond (c .there) (Is (c .value)) Absent
 
 -- What the table reads: settings, zones, since when no link is up, the override.
 pub record Situation : Type 0 where

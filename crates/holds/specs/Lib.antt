@@ -1,4 +1,3 @@
 pub mod Holds
-pub mod Links
 pub mod Dues
 pub mod Pass

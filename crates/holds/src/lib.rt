@@ -1,9 +1,6 @@
-// What holds at a second: the links, the passes over the zones, the table, and the next second at which it can change.
-mod links;
-mod tops;
-mod values;
+// What holds at a second: the table of links over what the zones claim, and the next second at which it can change.
+mod values; // values.rt: the table
 
-pub use links::since_without;
 use store::VALUES;
 pub use table_rules::shown;
 pub use values::values_at;

@@ -9,7 +9,7 @@ use Rattle.holds.specs.Holds.{claimOf, goesBefore, better, winner, inFailsafe, 
 use Rattle.quantities.specs.Quantities.{lowAt, supports}
 use Rattle.holds.specs.Dues.{zoneDues, heldDues, dues, nearer, nearest}
 use Rattle.device.specs.Refusals.{firstOf, late}
-use Rattle.holds.specs.Links.{sinceAfter}
+use Rattle.links.specs.Links.{sinceAfter}
 use Rattle.device.specs.Calls.{zoneChange, joinNumber, joinAfter, leaveNumber, leaveAfter, same, linkNumber, linkAfter}
 use Rattle.rules.specs.Rules.{badJoin}
 use Rattle.store.specs.Words.{headChange}

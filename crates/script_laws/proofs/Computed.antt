@@ -36,7 +36,7 @@ use Rattle.quantities.specs.Quantities.{lowAt, supports}
 use Rattle.holds.specs.Holds.{claimOf, goesBefore, better, winner, inFailsafe, smallestWith, failsafeValue, valueAt, present, stateAt, shown, valuesAt}
 use Rattle.holds.specs.Dues.{zoneDues, heldDues, dues, nearer, nearest}
 use Rattle.device.specs.Refusals.{firstOf, late}
-use Rattle.holds.specs.Links.{sinceAfter}
+use Rattle.links.specs.Links.{sinceAfter}
 use Rattle.device.specs.Calls.{zoneChange, joinNumber, joinAfter, moveNumber, moveAfter}
 use Rattle.store.specs.Words.{headChange}
 use Rattle.rules.specs.Rules.{badJoin}

@@ -4,6 +4,7 @@ pub mod Folds
 pub mod Runs
 pub mod HeldWords
 pub mod Lens
+pub mod Placed
 pub mod Stores
 pub mod Effects
 pub mod Slots

@@ -1,0 +1,3 @@
+pub mod Claim
+pub mod Ends
+pub mod Pass
