@@ -1,7 +1,7 @@
 // The value under a key of a map.
 use crate::items::End;
-use heads::Key;
 use crate::items::check_item;
+use heads::Key;
 use heads::read_key;
 ghost use mathlib.Core.Path.{_≡_};
 ghost use Rattle.cbor.specs.Find.{stepAt, stopped, seekAt};

@@ -1,10 +1,10 @@
 // One pass over a payload, which checks it and keeps the heads under its small keys and under those of the maps along a path.
-use heads::Head;
-use heads::read_head;
 use crate::items::DEPTH;
-use heads::Key;
 use crate::items::past_pairs;
 use crate::items::past_rest;
+use heads::Head;
+use heads::Key;
+use heads::read_head;
 use heads::read_key;
 ghost use mathlib.Core.Path.{_≡_};
 ghost use Prim.Native.Nat.{_+_, _%_, _<_};

@@ -1,13 +1,13 @@
 // What holds at a second: the table of links, and the control state.
 use crate::View;
-use links::link_row;
-use links::link_row_with;
 use claims::Leads;
 use claims::Lows;
 use claims::leads_at;
 use claims::leads_with;
 use claims::lows_at;
 use claims::lows_with;
+use links::link_row;
+use links::link_row_with;
 use quantities::LEADS;
 use store::END;
 use store::MOST;

@@ -8,10 +8,10 @@ use lib.IntN.{ℤ, pos}
 use lib.ListN.{length, getD, take, drop}
 use Rattle.text.specs.Text.{mostDigits, decimal}
 use Rattle.text.specs.Pieces.{joined}
-use Rattle.store.specs.Sizes.{slots, helds, most}
+use Rattle.store.specs.Sizes.{slots, helds}
+pub use Rattle.bench_device.specs.Device.{benchSettings}
 use Rattle.device.specs.Calls.{joinNumber, joinAfter, leaveNumber, leaveAfter, linkNumber, linkAfter, overrideNumber, overrideAfter, clearNumber, clearAfter, moveNumber, moveAfter}
 use Rattle.device.specs.Start.{startAfter}
-use Rattle.store.specs.declared.Settings.{Settings}
 use Rattle.frames.specs.Requests.{readRequest}
 use Rattle.frames.specs.Sizes.{longestResponse}
 use Rattle.planner.specs.Plan.{rowSize, rowsFrom}
@@ -22,23 +22,6 @@ use Rattle.records.specs.declared.fields.Scan.{Scan}
 use Rattle.script.specs.Runs.{callOf, bodyOf}
 use Rattle.script.specs.Answers.{rowPieces}
 use Rattle.script.specs.declared.calls.Call.{Call}
-
--- "Its device: both directions, all accepted, minimum 1,380,000, contractual maxima 43,000,000 and none, failsafe 4,200,000 and 0, 7,200 s, no energy manager";
--- "The bench accepts all phases"
-abbrev pub benchSettings : Settings
-benchSettings =
-    record {
-      directions = 2;
-      limits = true;
-      setpoints = true;
-      minimum = 1380000;
-      maxima = 43000000 ∷ most ∷ [];
-      failsafe = 4200000 ∷ 0 ∷ [];
-      duration = 7200;
-      manager = false;
-      phases = 3;
-      currents = true;
-    }
 
 -- what a call answers and leaves where there is room for all that it writes: its number, a plan's rows, the device's words
 pub record Answered : Type 0 where

@@ -3,35 +3,15 @@ use crate::input::Input;
 use crate::input::fill;
 use crate::pieces::Place;
 use crate::pieces::run;
-use kernel::MOST;
 use kernel::PLAN;
 use kernel::RESPONSE;
-use kernel::Settings;
 use kernel::State;
 use kernel::WORDS;
 ghost use mathlib.Core.Path.{_≡_};
 ghost use mathlib.Core.Bool.{true};
 ghost use Prim.Native.Nat.{_≤_, _<_};
 ghost use lib.ListN.{length};
-ghost use Rattle.script.specs.Bench.{benchSettings, frameRoom, rowsRoom};
-
-// Bench's device.
-fn settings() -> Settings
-    ensures { λ r. ⌜ r ≡ benchSettings ⌝ }
-{
-    Settings {
-        directions: 2,
-        limits: true,
-        setpoints: true,
-        minimum: 1380000,
-        maxima: [43000000, MOST],
-        failsafe: [4200000, 0],
-        duration: 7200,
-        manager: false,
-        phases: 3,
-        currents: true,
-    }
-}
+ghost use Rattle.script.specs.Bench.{frameRoom, rowsRoom};
 
 // Writes the answers on a page, and the last line where a record was bad.
 fn show(page: &[u8], p: Place) {
@@ -92,7 +72,7 @@ fn play_with(
 // Plays a script of at most `limit` bytes on a fresh device, and says how many of them were not read.
 pub fn play(limit: u64) -> u64 {
     let mut d = [0u64; WORDS];
-    kernel::start(&mut d, settings());
+    kernel::start(&mut d, bench_device::bench_settings());
     let mut buf = io::large_buffer();
     let mut page = io::large_buffer();
     let mut out = [0u8; RESPONSE];
