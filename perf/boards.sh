@@ -122,12 +122,12 @@ code_bytes() { # TARGET FILE
     if command -v "${prefix}size" >/dev/null; then "${prefix}size" -A "$2" | awk '/^\.text/ { n += $2 } END { print n }'; fi
 }
 
-# Of the archive's, what the linked driver keeps: from the linker's map.
-kept_bytes() { # TARGET
+# Of the archive's, what a linked program keeps: from the linker's map.
+kept_bytes() { # TARGET PROGRAM
     local bytes sum=0
-    [ -f "$boards/$1/driver.map" ] || return 0
+    [ -f "$boards/$1/$2.map" ] || return 0
     while read -r bytes; do sum=$((sum + bytes)); done < <(awk '$1 ~ /^\.[a-zA-Z]/ { code = $1 ~ /^\.text/ }
-        /libcekarum\.a\(kernel\.o\)$/ && code && $(NF - 2) !~ /^0x0*$/ { print $(NF - 1) }' "$boards/$1/driver.map")
+        /libcekarum\.a\(kernel\.o\)$/ && code && $(NF - 2) !~ /^0x0*$/ { print $(NF - 1) }' "$boards/$1/$2.map")
     echo "$sum"
 }
 
@@ -185,10 +185,11 @@ board_count() { # TARGET [CASE...]
 
 # What a target's archive takes, where that can be measured.
 sizes() { # TARGET
-    local code plain kept stack
+    local code plain base kept stack
     code=$(code_bytes "$1" "$boards/$1/libcekarum.a") plain=$(code_bytes "$1" "$boards/$1/plain.o")
-    kept=$(kept_bytes "$1") stack=$(deepest "$1")
-    echo "$1: code ${code:-unknown}, in the driver ${kept:-unknown}, plain.c ${plain:-unknown}; deepest stack ${stack:-not measured}"
+    base=$(kept_bytes "$1" base) kept=$(kept_bytes "$1" driver) stack=$(deepest "$1")
+    echo "$1: code ${code:-unknown}, of document 01's calls ${base:-unknown}, in the driver ${kept:-unknown}, plain.c ${plain:-unknown};" \
+        "deepest stack ${stack:-not measured}"
 }
 
 board_run() { # TARGET PROGRAM WORDS...
@@ -211,8 +212,10 @@ board_build() { # TARGET
     local at=$boards/$1 part
     for part in plain kernel_plain kernel_proved mix compare; do board_cc "$1" "$here/$part.c" "$at/$part.o" || return 1; done
     board_cc "$1" "$root/examples/driver.c" "$at/driver.o" || return 1
+    board_cc "$1" "$here/base.c" "$at/base.o" || return 1
     [ "$1" != wasm32 ] || board_cc "$1" "$here/wasm.c" "$at/wasm.o" -fno-builtin || return 1
     board_link "$1" "$at/driver" "$at/driver.o" "$at/libcekarum.a" || return 1
+    board_link "$1" "$at/base" "$at/base.o" "$at/libcekarum.a" || return 1
     board_link "$1" "$at/compare" "$at/compare.o" "$at/mix.o" "$at/kernel_plain.o" "$at/plain.o" "$at/kernel_proved.o" "$at/libcekarum.a"
 }
 
