@@ -51,7 +51,8 @@ module _ (ws : List ℕ) (size : length ws ≡ words) where
   join-passed : (z k t : ℕ) → joinNumber ws z k t ≡ 0 → (badJoin z k ≡ false) × (joined (zonesOf ws) z ≡ false) × (slotOf (zonesOf ws) 0 < slots)
   unfolding joinNumber any
   join-passed z k t e =
-      let p : NoneHolds (joinTests (clockOf ws) (joined (zonesOf ws) z) (leb slots (slotOf (zonesOf ws) 0)) z k t) = accepted-exactly (joinTests (clockOf ws) (joined (zonesOf ws) z) (leb slots (slotOf (zonesOf ws) 0)) z k t) refl .0 e in
+      let tests = joinTests (clockOf ws) (joined (zonesOf ws) z) (leb slots (slotOf (zonesOf ws) 0)) z k t in
+      let p : NoneHolds tests = accepted-exactly tests refl .0 e in
       (p 1, p 2, leb-false slots _ (p 3))
 
   -- a joiner finds nothing of a former tenant

@@ -176,7 +176,8 @@ module _ (s : Settings) (ws : List ℕ) (h : Log) (z t : ℕ) (a : Agree s ws h)
   unfolding about saysOverride
   agree-obey c =
       let e : obeyed (settingsOf ws) c t (zoneOf (zonesOf ws) z) ≡ recordBy s ((t, commands z c) ∷ h) z = rw (a .settings, f .whole) (sym (record-command s h z t c)) in
-      agree-own (commands z c) (obeyed (settingsOf ws) c t (zoneOf (zonesOf ws) z)) refl (ap (λ (x : Zone). length (x .held)) e ∙ record-size s ((t, commands z c) ∷ h) z) (λ y n. ne-eqb z y (λ e. n (sym e)))
+      agree-own (commands z c) (obeyed (settingsOf ws) c t (zoneOf (zonesOf ws) z)) refl
+      (ap (λ (x : Zone). length (x .held)) e ∙ record-size s ((t, commands z c) ∷ h) z) (λ y n. ne-eqb z y (λ e. n (sym e)))
       (inr (joined-command h z t c ∙ j, e))
 
 -- a call's effect and the log, whether it is accepted or not

@@ -65,7 +65,11 @@ module _ (ws : List ℕ) (z t : ℕ) (out : List ℕ) where
 
       go : (b : Bool) → eqb n 0 ≡ b → (f : Bool) → leb (length bytes) (length out) ≡ f
           → Responds (cond b (cond (not f) 15 0) n) out (putWhole out 0 bytes) (cond (leb (length bytes) (length out)) (length bytes) 0)
-      go true e true f = record { none = λ q. unfold isStatus in never (sym q); some = λ q. unfold responseFrame responseTo in (responseTo ws z t r, eqb-true n 0 e, record { buffer = refl; counted = refl }) }
+      go true e true f =
+          record {
+            none = λ q. unfold isStatus in never (sym q);
+            some = λ q. unfold responseFrame responseTo in (responseTo ws z t r, eqb-true n 0 e, record { buffer = refl; counted = refl });
+          }
       go true e false f = record { none = λ q. leaves-nothing bytes out f; some = λ q. unfold isStatus in never q }
       go false e b f = record { none = λ q. never (sym q ∙ status); some = λ q. unfold responseFrame responseTo in (responseTo ws z t r, refl, record { buffer = refl; counted = refl }) }
 

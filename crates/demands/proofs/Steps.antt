@@ -183,7 +183,9 @@ module _ (s : Settings) (ws : List ℕ) (h : Log) (a : Agree s ws h) where
   agree-call (leave z t) = agree-after s ws h (leaveNumber ws z t) (zoneChange ws t (slotOf (zonesOf ws) z) freeZone) (t, leaves z) a (λ e. agree-leave s ws h z t a (leave-there z t e))
   agree-call (lost z t) = agree-link-call z false t
   agree-call (back z t) = agree-link-call z true t
-  agree-call (override r d t) = agree-after s ws h (overrideNumber ws r d t) (headChange ws t (overrideWord r d)) (t, overrides (overrideWord r d)) a (λ e. agree-override s ws h t (overrideWord r d) a)
+  agree-call (override r d t) =
+      agree-after s ws h (overrideNumber ws r d t) (headChange ws t (overrideWord r d)) (t, overrides (overrideWord r d)) a
+      (λ e. agree-override s ws h t (overrideWord r d) a)
   agree-call (clear t) = agree-after s ws h (clearNumber ws t) (headChange ws t 0) (t, overrides 0) a (λ e. agree-override s ws h t 0 a)
   agree-call (move t) = agree-after s ws h (moveNumber ws t) (headChange ws t (overrideOf ws)) (t, passes) a (λ e. agree-passes s ws h t a)
   agree-call (frame z t bytes room) = agree-reading z t (readRequest bytes) room (refuses bytes)

@@ -50,7 +50,15 @@ join-up z k e =
 
 -- a joined zone's link, told: x is the record of its slot i
 module _ (ws : List ℕ) (t i : ℕ) (x : Zone) (j : isJoined x ≡ true) where
-  pub link-change : (u : Bool) → zoneChange ws t i (linked x u) ≡ record { time = t; slot = i; zone = linked x u; since = cond u (sinceOf ws) (sinceAfter (zonesOf ws) (set (zonesOf ws) i freeZone) t (sinceOf ws)); overridden = overrideOf ws }
+  pub link-change : (u : Bool)
+      → zoneChange ws t i (linked x u)
+      ≡ record {
+        time = t;
+        slot = i;
+        zone = linked x u;
+        since = cond u (sinceOf ws) (sinceAfter (zonesOf ws) (set (zonesOf ws) i freeZone) t (sinceOf ws));
+        overridden = overrideOf ws;
+      }
   unfolding isUp isJoined idOf
   link-change true = up-change ws t i (linked x true) (rw j)
   link-change false = down-change ws t i (linked x false) (rw j)

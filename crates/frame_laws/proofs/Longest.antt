@@ -257,7 +257,8 @@ status-longest i s e =
 
 -- THE LONGEST ARE AS LONG
 pub request-reached : RequestReached
-unfolding itemFrame frameOf requestItem requestFields commandFields currentLimitFields phasesItem present valueItem amountItem encode encodePairs countPairs headBytes infoOf widthOf bytesOf requestNumber requestWide requestUnserved commandWide servedAt firstOf
+unfolding itemFrame frameOf requestItem requestFields commandFields currentLimitFields phasesItem present valueItem amountItem encode encodePairs
+    countPairs headBytes infoOf widthOf bytesOf requestNumber requestWide requestUnserved commandWide servedAt firstOf
 request-reached = (
   record {
     id = 4294967295;
@@ -275,7 +276,8 @@ request-reached = (
 )
 
 pub response-reached : ResponseReached
-unfolding itemFrame frameOf responseItem responseFields outcomeItem currentFields currentsItem amountItem present encode encodePairs countPairs headBytes infoOf widthOf bytesOf responseNumber responseFits fits stands goesWith currentInRange isStatus servedCommand firstOf
+unfolding itemFrame frameOf responseItem responseFields outcomeItem currentFields currentsItem amountItem present encode encodePairs countPairs
+    headBytes infoOf widthOf bytesOf responseNumber responseFits fits stands goesWith currentInRange isStatus servedCommand firstOf
 response-reached = (
   5,
   record {

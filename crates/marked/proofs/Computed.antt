@@ -42,7 +42,8 @@ part (suc (suc (suc k))) d = currentCases d
 
 -- each part is computed by itself; where a plan is asked for, by its walk
 right : (k d : ℕ) → d < 2 → Right (part k d)
-unfolding found reached part commandCases failsafeCases planCases currentCases numbersOf walk step nearest nearer alike sameNumber dues heldDues zoneDues upTo first any idOf rankOf isJoined isUp slotOf
+unfolding found reached part commandCases failsafeCases planCases currentCases numbersOf walk step nearest nearer alike sameNumber dues heldDues
+    zoneDues upTo first any idOf rankOf isJoined isUp slotOf
     joined zoneOf heldOf anyJoined anyUp settingsOf heldIn zoneAt zonesOf bit heldWords putZone applied after settingWords fresh supports lowAt
     claimOf goesBefore better winner inFailsafe smallestWith failsafeValue valueAt present stateAt shown valuesAt firstOf late sinceAfter zoneChange
     headChange badJoin joinNumber joinAfter leaveNumber leaveAfter same linkNumber linkAfter says someOf unsupported invalid tooLow

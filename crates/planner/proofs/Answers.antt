@@ -25,7 +25,8 @@ rows-numbers f each zero now = omega arith
 rows-numbers f each (suc n) now = go (List-discrete ℤ-discrete (f (suc now)) (f now)) (rows-numbers f each n (suc now))
   where
     go : (d : Dec (f (suc now) ≡ f now)) → length (numbersOf (rowsOf f (suc now) n)) ≡ length (rowsOf f (suc now) n) * rowSize
-        → length (numbersOf (ite d (rowsOf f (suc now) n) ((suc now, f (suc now)) ∷ rowsOf f (suc now) n))) ≡ length (ite d (rowsOf f (suc now) n) ((suc now, f (suc now)) ∷ rowsOf f (suc now) n)) * rowSize
+        → length (numbersOf (ite d (rowsOf f (suc now) n) ((suc now, f (suc now)) ∷ rowsOf f (suc now) n)))
+        ≡ length (ite d (rowsOf f (suc now) n) ((suc now, f (suc now)) ∷ rowsOf f (suc now) n)) * rowSize
     go (yes e) h = h
     go (no e) h = rw length-append (omega (arith, each (suc now)))
 

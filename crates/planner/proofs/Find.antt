@@ -116,8 +116,12 @@ module _ {ws : List ℕ} {t : ℕ} {out₀ out : List ℤ} {count : ℕ} {v : Vi
     pub finding-new : alike (w .values) (v .values) ≡ false → {out′ : List ℤ} → out′ ≡ sets out (count * rowSize) (pos (v .next) ∷ w .values) → Finding ws t out₀ out′ (count + 1) w
     unfolding numbersOf
     finding-new e put =
-        let k : (count + 1) * rowSize ≡ count * rowSize + length (pos (v .next) ∷ w .values) = omega (arith, ap length (values-here (so-far .counted) here low), values-length (situationOf ws) (v .next)) in
+        let k : (count + 1) * rowSize ≡ count * rowSize + length (pos (v .next) ∷ w .values) =
+        omega (arith, ap length (values-here (so-far .counted) here low), values-length (situationOf ws) (v .next))
+        in
         record {
           counted = counting-new (so-far .counted) here low e;
-          written = rw (put, k, ← sets-append out (pos (v .next) ∷ w .values) (numbersOf (left (situationOf ws) (w .values) (w .next))) (count * rowSize)) (rw (row-new (so-far .counted) here low e) at (so-far .written));
+          written =
+              rw (put, k, ← sets-append out (pos (v .next) ∷ w .values) (numbersOf (left (situationOf ws) (w .values) (w .next))) (count * rowSize))
+              (rw (row-new (so-far .counted) here low e) at (so-far .written));
         }

@@ -148,7 +148,9 @@ module _ (s : Situation) (t : ℕ) where
             same-value q x (w .2) (w .3) ∙ b .2,
             λ i h u.
                 let y : Zone = getD (s .zones) i freeZone in
-                let n : (best q .rank ≤ rankOf y) × (rankOf y ≡ best q .rank → best q .id ≤ idOf y) = not-earlier (rankOf y) (idOf y) (best q .rank) (best q .id) (rw (l, claim-there t q y u) at (wins t q (s .zones) .first i h u)) in
+                let n : (best q .rank ≤ rankOf y) × (rankOf y ≡ best q .rank → best q .id ≤ idOf y) =
+                not-earlier (rankOf y) (idOf y) (best q .rank) (best q .id) (rw (l, claim-there t q y u) at (wins t q (s .zones) .first i h u))
+                in
                 no-better x y (rw r (n .0)) (λ k. rw j (n .1 (k ∙ r))),
           ),
         )

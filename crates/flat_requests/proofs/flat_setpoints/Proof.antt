@@ -10,4 +10,7 @@ flat-setpoints-spec =
     tie.close
     (tie.spec
     (λ c κs. search needs) (λ c κs. search needs) (λ c κs. search needs) (λ c κs. search needs) (λ c κs. search needs)
-    (λ c. rw (c .flat-set .ensures, c .before .before .before .before .flat-target .ensures, c .before .before .before .flat-target2 .ensures, c .before .before .time-of .ensures, c .before .is-lasting .ensures)))
+    (λ c.
+    let at-time = c .before .before in
+    let at-second = at-time .before in
+    rw (c .flat-set .ensures, at-second .before .flat-target .ensures, at-second .flat-target2 .ensures, at-time .time-of .ensures, c .before .is-lasting .ensures)))

@@ -383,7 +383,8 @@ module _ {M : Type 1} (𝓤 : URA M) (H : Heap 𝓤) (A : Atoms 𝓤) (W : Given
         move ! (6 ∷ 0 ∷ []) $ use2 W (raw (Answer 𝓤 H A at-mem run .pre to-answer)) goes-answer $
         calls-at ! (fmOf 𝓤 H (W .laws) 𝓣) (Answer 𝓤 H A at-mem run) known-answer to-answer
         (and-then ! (load ! (from ! (stop !)) (look ! 24 refl)) (and-then ! (load ! (from ! (stop !)) (look ! 12 refl)) (no-more !))) (λ v.
-        use1 W (later (some (λ (r : Planned). ((‵ (flft κ₂ q₂) ⊛ ‵ ftrue) ⊛ ‵ (Q .own r (v ∷ []))) ⊛ raw (ensured 𝓤 H A answer.ended (answer.clauses 𝓤 H A at-mem run) (κ₂, tt) (s₂, (length ys, tt)) tt r))))
+        use1 W (later (some (λ (r : Planned).
+        ((‵ (flft κ₂ q₂) ⊛ ‵ ftrue) ⊛ ‵ (Q .own r (v ∷ []))) ⊛ raw (ensured 𝓤 H A answer.ended (answer.clauses 𝓤 H A at-mem run) (κ₂, tt) (s₂, (length ys, tt)) tt r))))
         (id⊢ 𝓤 _) $ await ! tt $ pick ! (λ r.
         split ! $ move ! (1 ∷ []) $ use1 W (raw (fact 𝓤 (r ≡ p))) (said-answer 𝓤 H A at-mem run κ₂ s₂ (length ys) r) $ heard ! (r ≡ p) (λ e. split ! $ move ! (1 ∷ []) $
         rewrite ! 0 (λ (h : Planned). ‵ (Q .own h (v ∷ []))) e refl $ peeks ! Q (Is Q) (shows 𝓤 H A Q) p (v ∷ []) (λ isP.

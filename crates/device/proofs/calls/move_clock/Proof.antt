@@ -15,4 +15,8 @@ move-clock-spec =
     (λ c κs. tt) (λ c κs. tt)
     (λ c. refused _ 5 _ _ (rw (timed _ _ _ _ _ (c .before .before .clock .ensures) (c .before .is-late .ensures) (c .if1 .taken))) (λ e. omega arith))
     (λ c κs. tt) (λ c κs. tt)
-    (λ c. accepted _ _ _ _ _ (rw (timed _ _ _ _ _ (c .before .before .before .before .before .before .clock .ensures) (c .before .before .before .before .before .is-late .ensures) (c .before .before .before .before .if1 .left))) (c .apply-head .ensures) (rw (c .before .before .overridden .ensures))))
+    (λ c.
+    let at-test = c .before .before .before .before in
+    let at-late = at-test .before in
+    accepted _ _ _ _ _ (rw (timed _ _ _ _ _ (at-late .before .clock .ensures) (at-late .is-late .ensures) (at-test .if1 .left)))
+    (c .apply-head .ensures) (rw (c .before .before .overridden .ensures))))
