@@ -9,7 +9,8 @@ use kernel::VALUES;
 ghost use mathlib.Core.Path.{_≡_};
 ghost use mathlib.Core.Bool.{true, false};
 ghost use lib.ListN.{length};
-ghost use Rattle.kernel.specs.Door.{startNumber, startAfter, joinNumber, joinAfter, leaveNumber, leaveAfter, linkNumber, linkAfter, overrideNumber, overrideAfter, clearNumber, clearAfter, moveNumber, moveAfter};
+ghost use Rattle.kernel.specs.Door.{startNumber, startAfter, joinNumber, joinAfter, leaveNumber, leaveAfter, linkNumber, linkAfter};
+ghost use Rattle.kernel.specs.Door.{overrideNumber, overrideAfter, clearNumber, clearAfter, moveNumber, moveAfter};
 ghost use Rattle.kernel.specs.Door.{askAnswer, planAnswer, planSlice, plainAnswer, plainSlice, reportOf, pairsAfter};
 ghost use Rattle.capi.specs.Words.{settingsOf, inputsOf};
 

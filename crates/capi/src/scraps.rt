@@ -2,9 +2,8 @@
 use receiver::COUNTS;
 use receiver::RECORD;
 ghost use mathlib.Core.Path.{_≡_};
-ghost use lib.Seq.{sets};
 ghost use Rattle.receiver.specs.Receive.{received};
-ghost use Rattle.receiver.specs.Words.{recordIn, recordWords, answerWords};
+ghost use Rattle.receiver.specs.Words.{recordIn, wordsLeft, countsLeft};
 
 #[no_mangle]
 pub extern "C" fn cekarum_raw_receive(
@@ -14,9 +13,9 @@ pub extern "C" fn cekarum_raw_receive(
     counts: &mut [u64; COUNTS],
 ) -> u64
     ensures { λ n. ⌜ n ≡ received (recordIn (now (words .entry))) (now (room .entry)) (now (scrap .entry)) .answer .number ⌝ }
-    ensures { λ _. ⌜ now (words .exit) ≡ sets (now (words .entry)) 0 (recordWords (received (recordIn (now (words .entry))) (now (room .entry)) (now (scrap .entry)) .after)) ⌝ }
+    ensures { λ _. ⌜ now (words .exit) ≡ wordsLeft (now (words .entry)) (now (room .entry)) (now (scrap .entry)) ⌝ }
     ensures { λ _. ⌜ now (room .exit) ≡ received (recordIn (now (words .entry))) (now (room .entry)) (now (scrap .entry)) .room ⌝ }
-    ensures { λ _. ⌜ now (counts .exit) ≡ sets (now (counts .entry)) 0 (answerWords (received (recordIn (now (words .entry))) (now (room .entry)) (now (scrap .entry)) .answer)) ⌝ }
+    ensures { λ _. ⌜ now (counts .exit) ≡ countsLeft (now (counts .entry)) (now (words .entry)) (now (room .entry)) (now (scrap .entry)) ⌝ }
 {
     receiver::receive_words(words, room, scrap, counts)
 }

@@ -15,7 +15,8 @@ ghost use mathlib.Core.Path.{_≡_};
 ghost use mathlib.Core.Bool.{not, _&&_};
 ghost use lib.Dec.{eqb};
 ghost use Rattle.messages.specs.Refusals.{firstOf};
-ghost use Rattle.command_tests.specs.Content.{accepts, aimUnsupported, unsupported, isUnserved, setsLimits, invalid, belowTheMinimum, contentTests, isCapped};
+ghost use Rattle.command_tests.specs.Content.{accepts, aimUnsupported, unsupported, isUnserved, setsLimits};
+ghost use Rattle.command_tests.specs.Content.{invalid, belowTheMinimum, contentTests, isCapped};
 
 fn accepts(s: Settings, k: Kind) -> bool
     ensures { λ r. ⌜ r ≡ accepts s k ⌝ }

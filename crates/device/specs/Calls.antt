@@ -20,6 +20,10 @@ unfoldable pub zoneChange : List ℕ → ℕ → ℕ → Zone → Change
 zoneChange ws t i x =
     record { time = t; slot = i; zone = x; since = sinceAfter (zonesOf ws) (set (zonesOf ws) i x) t (sinceOf ws); overridden = overrideOf ws }
 
+-- since when no link is up, once slot i's is told to be u at t: a link that comes up moves nothing
+abbrev pub sinceTold : List ℕ → ℕ → Bool → ℕ → ℕ
+sinceTold ws i u t = cond u (sinceOf ws) (sinceAfter (zonesOf ws) (set (zonesOf ws) i freeZone) t (sinceOf ws))
+
 -- join of zone z with rank k at t: "join of a joined id" is 7, "join with eight zones joined" 8
 abbrev pub joinTests : ℕ → Bool → Bool → ℕ → ℕ → ℕ → List (Bool × ℕ)
 joinTests clock there full z k t = (late clock t, 5) ∷ (badJoin z k, 6) ∷ (there, 7) ∷ (full, 8) ∷ []

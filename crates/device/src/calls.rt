@@ -1,13 +1,13 @@
 // The calls without a frame: start, join, leave, lost, back, override, clear, ask, and the clock moved.
 ghost use mathlib.Core.Path.{_≡_};
-ghost use mathlib.Core.Bool.{true, false, cond};
+ghost use mathlib.Core.Bool.{true, false};
 ghost use Prim.Native.Nat.{_<_};
-ghost use lib.ListN.{getD, set};
+ghost use lib.ListN.{getD};
 ghost use Rattle.store.specs.Sizes.{ids};
 ghost use Rattle.store.specs.Zones.{freeZone, newZone, linked};
-ghost use Rattle.store.specs.Words.{sinceOf, zonesOf};
-ghost use Rattle.links.specs.Links.{sinceAfter};
-ghost use Rattle.device.specs.Calls.{joinNumber, joinAfter, leaveNumber, leaveAfter, same, linkNumber, linkAfter, overrideWord, overrideNumber, overrideAfter, clearNumber, clearAfter, askAnswer, moveNumber, moveAfter};
+ghost use Rattle.store.specs.Words.{zonesOf};
+ghost use Rattle.device.specs.Calls.{joinNumber, joinAfter, leaveNumber, leaveAfter, same, linkNumber, linkAfter, sinceTold};
+ghost use Rattle.device.specs.Calls.{overrideWord, overrideNumber, overrideAfter, clearNumber, clearAfter, askAnswer, moveNumber, moveAfter};
 ghost use Rattle.device.specs.Start.{refusedSettings, startNumber, startAfter};
 use crate::Change;
 use crate::HELDS;
@@ -134,7 +134,7 @@ fn told(d: &State, slot: usize, up: bool) -> Zone
 
 // Since when no link is up, once this slot's is told to be.
 fn since_told(d: &State, slot: usize, up: bool, t: u64) -> u64
-    ensures { λ r. ⌜ r ≡ cond up (sinceOf (now (d .entry))) (sinceAfter (zonesOf (now (d .entry))) (set (zonesOf (now (d .entry))) slot freeZone) t (sinceOf (now (d .entry)))) ⌝ }
+    ensures { λ r. ⌜ r ≡ sinceTold (now (d .entry)) slot up t ⌝ }
 {
     if up {
         return store::since(d);

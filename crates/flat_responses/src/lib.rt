@@ -12,7 +12,8 @@ use messages::SetpointResult;
 ghost use mathlib.Core.Path.{_≡_};
 ghost use mathlib.Core.Bool.{not, _||_};
 ghost use lib.Dec.{eqb};
-ghost use Rattle.flat_responses.specs.Responses.{limitOf, setpointOf, currentOf, outcomeOf, responseOf, flat, flatCurrent, flatResponse, noResponse, responseIn, responseWords, responseValues};
+ghost use Rattle.flat_responses.specs.Responses.{limitOf, setpointOf, currentOf, outcomeOf, responseOf};
+ghost use Rattle.flat_responses.specs.Responses.{flat, flatCurrent, flatResponse, noResponse, responseIn, responseWords, responseValues};
 
 // Words of a response: id, status, result, applied, state.
 pub const RESPONSE: usize = 5;

@@ -2,6 +2,8 @@
 use Prim.Native.Nat.{ℕ}
 use mathlib.Core.List.{List, [], _∷_}
 use lib.ListN.{getD}
+use lib.Seq.{sets}
+use Rattle.receiver.specs.Receive.{received}
 use Rattle.receiver.specs.declared.record.Record.{Record}
 use Rattle.receiver.specs.declared.record.Answer.{Answer}
 
@@ -16,3 +18,10 @@ recordWords r = r .have ∷ r .need ∷ r .closed ∷ []
 -- the words of an answer, beside its number
 unfoldable pub answerWords : Answer → List ℕ
 answerWords a = a .taken ∷ a .length ∷ []
+
+-- what a call leaves of the record's words ws, given the room and the scrap; and of the words cs that its counts go into
+abbrev pub wordsLeft : List ℕ → List ℕ → List ℕ → List ℕ
+wordsLeft ws room scrap = sets ws 0 (recordWords (received (recordIn ws) room scrap .after))
+
+abbrev pub countsLeft : List ℕ → List ℕ → List ℕ → List ℕ → List ℕ
+countsLeft cs ws room scrap = sets cs 0 (answerWords (received (recordIn ws) room scrap .answer))

@@ -4,7 +4,7 @@ use crate::record::Record;
 ghost use mathlib.Core.Path.{_≡_};
 ghost use lib.Seq.{sets};
 ghost use Rattle.receiver.specs.Receive.{received};
-ghost use Rattle.receiver.specs.Words.{recordIn, recordWords, answerWords};
+ghost use Rattle.receiver.specs.Words.{recordIn, recordWords, wordsLeft, countsLeft};
 
 // How many words a record has: have, need, closed.
 pub const RECORD: usize = 3;
@@ -38,9 +38,9 @@ pub fn receive_words(
     counts: &mut [u64; COUNTS],
 ) -> u64
     ensures { λ n. ⌜ n ≡ received (recordIn (now (words .entry))) (now (room .entry)) (now (scrap .entry)) .answer .number ⌝ }
-    ensures { λ _. ⌜ now (words .exit) ≡ sets (now (words .entry)) 0 (recordWords (received (recordIn (now (words .entry))) (now (room .entry)) (now (scrap .entry)) .after)) ⌝ }
+    ensures { λ _. ⌜ now (words .exit) ≡ wordsLeft (now (words .entry)) (now (room .entry)) (now (scrap .entry)) ⌝ }
     ensures { λ _. ⌜ now (room .exit) ≡ received (recordIn (now (words .entry))) (now (room .entry)) (now (scrap .entry)) .room ⌝ }
-    ensures { λ _. ⌜ now (counts .exit) ≡ sets (now (counts .entry)) 0 (answerWords (received (recordIn (now (words .entry))) (now (room .entry)) (now (scrap .entry)) .answer)) ⌝ }
+    ensures { λ _. ⌜ now (counts .exit) ≡ countsLeft (now (counts .entry)) (now (words .entry)) (now (room .entry)) (now (scrap .entry)) ⌝ }
 {
     let r = record_in(words);
     let x = step(r, room, scrap);
