@@ -1,19 +1,25 @@
 -- Bytes added one after the other. Assumes nothing.
 use Prim.Native.Nat.{ℕ, _+_, _≤_, _<_}
 use mathlib.Core.Path.{_≡_, refl, sym, ap, subst, _∙_}
+use mathlib.Core.Bool.{Bool, cond}
 use mathlib.Core.List.{List, [], _∷_, _++_, append-nil, append-assoc}
 use mathlib.Core.Option.{Option, some, none}
 use native.Mathlib.Omega.{arith}
 use lib.ListN.{length, take, drop, length-append}
 use lib.Seq.{sets-eq, take-at, length-take-le}
-use borrow.Author.Tests.{lt-ltb}
+use borrow.Author.Tests.{lt-ltb, le-ltb}
+use lib.IntN.{pos, negsuc}
 use Rattle.bytes.specs.Bytes.{put, putWhole, pastWhole}
 use Rattle.heads.specs.Head.{headBytes, headOf}
 use Rattle.cbor.specs.Item.{Item, encode, encodePairs, countPairs}
+use Rattle.cbor.specs.Scan.{sightOf}
+use Rattle.cbor.specs.declared.sights.Sight.{Sight}
+use Rattle.messages.specs.declared.Field.{Field}
+use Rattle.messages.specs.declared.Amount.{Amount}
 use Rattle.heads.proofs.Widths.{head-length, head-short}
 use Rattle.bytes.proofs.PutLaws.{put-whole, length-put}
-use Rattle.map_fields.specs.Fields.{Fields, present, mapItem}
-use Rattle.map_fields.specs.Puts.{Adds, Puts, pairBytes, fieldBytes, pairsOf, pairRoom, putEach, pastEach, pairPieces, PutsField}
+use Rattle.map_fields.specs.Fields.{Fields, present, mapItem, valueItem, amountItem}
+use Rattle.map_fields.specs.Puts.{Adds, Puts, pairBytes, fieldBytes, sightBytes, pairsOf, pairRoom, putEach, pastEach, pairPieces, fieldPieces, sightPieces, PutsField}
 
 adds-none : (s : List ℕ) (p n : ℕ) → Adds s p [] n s p
 adds-none s p n = record { grows = sym (append-nil (take p s)); moved = omega arith; short = omega arith; kept = refl }
@@ -89,6 +95,72 @@ field-pair s t u p key m v q r lt w x =
 pub field-none : (s : List ℕ) (p : ℕ) → PutsField s p [] [] s p
 unfolding putEach pastEach
 field-none s p = record { left = refl; past = refl; puts = puts-none s p pairRoom }
+
+-- what is to be seen: a key and a head, or nothing
+module _ (key : ℕ) (k : Sight) where
+  pub sight-put : k .major < 8 → {s t : List ℕ} {p q : ℕ} → PutsField s p (pairPieces key (k .major) (k .arg)) (pairBytes key (k .major) (k .arg)) t q
+      → PutsField s p (sightPieces key k) (sightBytes key k) t q
+  unfolding sightPieces sightBytes
+  sight-put l {s} {t} {p} h =
+      let e = lt-ltb (k .major) 8 l in
+      let x : sightPieces key k ≡ pairPieces key (k .major) (k .arg) = ap (λ (b : Bool). cond b (pairPieces key (k .major) (k .arg)) []) e in
+      let y : sightBytes key k ≡ pairBytes key (k .major) (k .arg) = ap (λ (b : Bool). cond b (pairBytes key (k .major) (k .arg)) []) e in
+      record { left = h .left ∙ ap (putEach s p) (sym x); past = h .past ∙ ap (pastEach s p) (sym x); puts = puts-same (sym y) (h .puts) }
+
+  pub sight-none : 8 ≤ k .major → (s : List ℕ) (p : ℕ) → PutsField s p (sightPieces key k) (sightBytes key k) s p
+  unfolding sightPieces sightBytes
+  sight-none l s p = rw (le-ltb (k .major) 8 l) (field-none s p)
+
+-- ITEMS THAT ARE THEIR HEADS: numbers and simple values
+abbrev pub Flat : Option Item → Type 0
+Flat none = Unit {0}
+Flat (some (Item.uint v)) = Unit {0}
+Flat (some (Item.nint v)) = Unit {0}
+Flat (some (Item.bytes b)) = ⊥
+Flat (some (Item.text b)) = ⊥
+Flat (some (Item.array is)) = ⊥
+Flat (some (Item.map ps)) = ⊥
+Flat (some (Item.simple v)) = Unit {0}
+
+module _ (key : ℕ) where
+  pub flat-bytes : (o : Option Item) → Flat o → sightBytes key (sightOf o) ≡ fieldBytes key o
+  unfolding sightBytes pairBytes fieldBytes encode sightOf
+  flat-bytes none f = refl
+  flat-bytes (some (Item.uint v)) f = refl
+  flat-bytes (some (Item.nint v)) f = refl
+  flat-bytes (some (Item.bytes b)) f = absurd f
+  flat-bytes (some (Item.text b)) f = absurd f
+  flat-bytes (some (Item.array is)) f = absurd f
+  flat-bytes (some (Item.map ps)) f = absurd f
+  flat-bytes (some (Item.simple v)) f = refl
+
+  flat-pieces : (o : Option Item) → Flat o → sightPieces key (sightOf o) ≡ fieldPieces key o
+  unfolding sightPieces fieldPieces encode sightOf
+  flat-pieces none f = refl
+  flat-pieces (some (Item.uint v)) f = refl
+  flat-pieces (some (Item.nint v)) f = refl
+  flat-pieces (some (Item.bytes b)) f = absurd f
+  flat-pieces (some (Item.text b)) f = absurd f
+  flat-pieces (some (Item.array is)) f = absurd f
+  flat-pieces (some (Item.map ps)) f = absurd f
+  flat-pieces (some (Item.simple v)) f = refl
+
+  -- put by its head, it is put
+  pub flat-put : (o : Option Item) → Flat o → (k : Sight) → k ≡ sightOf o → {s t : List ℕ} {p q : ℕ} → PutsField s p (sightPieces key k) (sightBytes key k) t q
+      → PutsField s p (fieldPieces key o) (fieldBytes key o) t q
+  flat-put o f k e h = rw (← flat-bytes o f, ← flat-pieces o f, ← e) h
+
+pub flat-value : (f : Field) → Flat (valueItem f)
+unfolding valueItem
+flat-value Field.Absent = tt
+flat-value Field.Null = tt
+flat-value (Field.Value (pos n)) = tt
+flat-value (Field.Value (negsuc n)) = tt
+
+pub flat-amount : (a : Amount) → Flat (amountItem a)
+unfolding amountItem
+flat-amount Amount.Absent = tt
+flat-amount (Amount.Is v) = tt
 
 -- what was put at the front of a buffer that has the room
 pub puts-fit : {s t a : List ℕ} {q n : ℕ} → n ≤ length s → Puts s 0 a n t q → Adds s 0 a n t q

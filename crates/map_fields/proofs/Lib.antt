@@ -2,6 +2,7 @@
 pub mod Joined
 pub mod Signs
 pub mod BySight
+pub mod RangeLaws
 pub mod Parts
 pub mod Added
 pub mod PhaseLaws

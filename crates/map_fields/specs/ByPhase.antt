@@ -5,7 +5,7 @@ use mathlib.Core.Bool.{Bool, true, cond, _&&_}
 use mathlib.Core.List.{List, [], _∷_, _++_}
 use mathlib.Core.Option.{Option, some, none, bind}
 use lib.Dec.{ltb, eqb}
-use Rattle.cbor.specs.Item.{Item, Pairs, countPairs}
+use Rattle.cbor.specs.Item.{Item, Pairs, countPairs, isSome}
 use Rattle.cbor.specs.Find.{valueOf}
 use Rattle.cbor.specs.Scan.{sightOf, pairsIn}
 use Rattle.cbor.specs.declared.sights.Sight.{Sight}
@@ -14,8 +14,10 @@ use Rattle.messages.specs.declared.Amount.{Amount}
 use Rattle.messages.specs.declared.Phases.{Phases}
 use Rattle.messages.specs.declared.CurrentResult.{CurrentResult}
 use Rattle.map_fields.specs.Fields.{mapIn, needed, valueIn, amountIn, valueItem, amountItem, Fields, present}
-use Rattle.map_fields.specs.Puts.{Puts, pairRoom, pairsOf, pairPieces, fieldPieces, putEach, pastEach}
+use Rattle.map_fields.specs.Ranges.{numeric}
+use Rattle.map_fields.specs.Puts.{Puts, pairRoom, pairsOf, sightBytes, sightPieces, putEach, pastEach}
 use Rattle.map_fields.specs.Sights.{found}
+use Rattle.map_fields.specs.declared.ranges.Range.{Range}
 
 -- READING
 -- how many phases a map names
@@ -53,9 +55,21 @@ phasesIn null o = byPhase (valueIn null) phasesFrom o
 unfoldable pub currentsIn : ℕ → Option Item → Option CurrentResult
 currentsIn most o = byPhase (amountIn most) currentsFrom o
 
+-- whether it is such a map, each phase a number of a range, or null where that is allowed, or absent; every reader of phases goes by it (Laws)
+unfoldable pub phasesFit : Range → Bool → Option Item → Bool
+phasesFit g null o =
+    isSome (needed mapIn o)
+    && (onlyPhases (pairsIn o) && (numeric g null (valueOf (pairsIn o) 0) && (numeric g null (valueOf (pairsIn o) 1) && numeric g null (valueOf (pairsIn o) 2))))
+
 -- how many pairs a sight is of
 abbrev pub seenOf : Sight → ℕ
-seenOf k = cond (eqb (k .major) 8) 0 1
+seenOf k = cond (ltb (k .major) 8) 1 0
+
+-- of every field that is seen as k, its phases as a, b and c, that test is true or false
+unfoldable pub PhasesTell : Sight → Sight → Sight → Sight → (Option Item → Bool) → Bool → Type 0
+PhasesTell k a b c f r =
+    (o : Option Item) → k ≡ sightOf o → a ≡ sightOf (valueOf (pairsIn o) 0) → b ≡ sightOf (valueOf (pairsIn o) 1) → c ≡ sightOf (valueOf (pairsIn o) 2)
+    → f o ≡ r
 
 -- of every field that is seen as k, its phases as a, b and c, f makes that answer
 unfoldable pub PhasesRead : {Y : Type 0} → Sight → Sight → Sight → Sight → (Option Item → Option Y) → Bool → Y → Type 0
@@ -78,27 +92,16 @@ phasesItem p = phaseMap (valueItem (p .a)) (valueItem (p .b)) (valueItem (p .c))
 unfoldable pub currentsItem : CurrentResult → Option Item
 currentsItem p = phaseMap (amountItem (p .a)) (amountItem (p .b)) (amountItem (p .c))
 
--- a map and its fields, piece by piece
-unfoldable pub fieldsPieces : Fields → List (List ℕ)
-fieldsPieces [] = []
-fieldsPieces (f ∷ fs) = fieldPieces (f .0) (f .1) ++ fieldsPieces fs
-
-unfoldable pub mapPieces : ℕ → Fields → List (List ℕ)
-mapPieces key fs = pairPieces key 5 (countPairs (present fs)) ++ fieldsPieces fs
-
--- the pieces of those maps
-unfoldable pub phasesPieces : ℕ → Phases → List (List ℕ)
-phasesPieces key p = mapPieces key (phaseFields (valueItem (p .a)) (valueItem (p .b)) (valueItem (p .c)))
-
-unfoldable pub currentsPieces : ℕ → CurrentResult → List (List ℕ)
-currentsPieces key p = mapPieces key (phaseFields (amountItem (p .a)) (amountItem (p .b)) (amountItem (p .c)))
-
 -- the key with the head of the map, and three phases
 abbrev pub phasesRoom : ℕ
 phasesRoom = 4 * pairRoom
 
--- as PutsField, with room for a map of phases
-pub record PutsPhases (s : List ℕ) (p : ℕ) (pieces : List (List ℕ)) (bs : List ℕ) (t : List ℕ) (q : ℕ) : Type 0 where
-  pub left : t ≡ putEach s p pieces
-  pub past : q ≡ pastEach s p pieces
-  pub puts : Puts s p bs phasesRoom t q
+-- the pairs of a map of phases that are to be seen as a, b and c
+abbrev pub phasesBytes : Sight → Sight → Sight → List ℕ
+phasesBytes a b c = (sightBytes 0 a ++ sightBytes 1 b) ++ sightBytes 2 c
+
+-- from s, written up to p, to t, written up to q: each piece of those pairs, and with room for three pairs the bytes that they are
+pub record PutsPhases (s : List ℕ) (p : ℕ) (a b c : Sight) (t : List ℕ) (q : ℕ) : Type 0 where
+  pub left : t ≡ putEach s p (sightPieces 0 a ++ (sightPieces 1 b ++ sightPieces 2 c))
+  pub past : q ≡ pastEach s p (sightPieces 0 a ++ (sightPieces 1 b ++ sightPieces 2 c))
+  pub puts : Puts s p (phasesBytes a b c) (3 * pairRoom) t q

@@ -1,4 +1,5 @@
 pub mod Fields
+pub mod Ranges
 pub mod Puts
 pub mod Sights
 pub mod ByPhase

@@ -1,12 +1,15 @@
 -- Bytes added one after the other behind those already written. Assumes nothing: these are definitions.
 use Prim.Native.Nat.{ℕ, _+_, _≤_}
 use mathlib.Core.Path.{_≡_}
+use mathlib.Core.Bool.{cond}
 use mathlib.Core.List.{List, [], _∷_, _++_}
 use mathlib.Core.Option.{Option, some, none}
 use lib.ListN.{length, take}
+use lib.Dec.{ltb}
 use Rattle.bytes.specs.Bytes.{putWhole, pastWhole}
 use Rattle.heads.specs.Head.{headBytes, headOf}
 use Rattle.cbor.specs.Item.{Item, encode}
+use Rattle.cbor.specs.declared.sights.Sight.{Sight}
 
 -- from s, written up to p, to t, written up to q: bs was added, of at most `most` bytes
 pub record Adds (s : List ℕ) (p : ℕ) (bs : List ℕ) (most : ℕ) (t : List ℕ) (q : ℕ) : Type 0 where
@@ -27,6 +30,10 @@ pairBytes key major arg = headBytes 0 key ++ headBytes major arg
 unfoldable pub fieldBytes : ℕ → Option Item → List ℕ
 fieldBytes key (some i) = headBytes 0 key ++ encode i
 fieldBytes key none = []
+
+-- what is to be seen under a key: nothing where nothing is
+unfoldable pub sightBytes : ℕ → Sight → List ℕ
+sightBytes key k = cond (ltb (k .major) 8) (pairBytes key (k .major) (k .arg)) []
 
 -- a key and a head have at most this many bytes
 abbrev pub pairRoom : ℕ
@@ -54,6 +61,9 @@ pairPieces key major arg = headOf 0 key ∷ headOf major arg ∷ []
 unfoldable pub fieldPieces : ℕ → Option Item → List (List ℕ)
 fieldPieces key (some i) = headBytes 0 key ∷ encode i ∷ []
 fieldPieces key none = []
+
+unfoldable pub sightPieces : ℕ → Sight → List (List ℕ)
+sightPieces key k = cond (ltb (k .major) 8) (pairPieces key (k .major) (k .arg)) []
 
 -- from s, written up to p, to t, written up to q: these pieces, and with room for a pair the bytes that they are
 pub record PutsField (s : List ℕ) (p : ℕ) (pieces : List (List ℕ)) (bs : List ℕ) (t : List ℕ) (q : ℕ) : Type 0 where

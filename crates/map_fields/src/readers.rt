@@ -1,4 +1,8 @@
 // The fields of a map, by what is seen under their keys: one reader each for unsigned and signed numbers, truths and maps.
+use crate::ranges::INT64;
+use crate::ranges::is_in;
+use crate::ranges::is_number;
+use crate::ranges::up_to;
 use crate::truths::both;
 use crate::truths::either;
 use cbor::Sight;
@@ -8,7 +12,7 @@ ghost use mathlib.Core.Path.{_≡_};
 ghost use lib.Dec.{eqb};
 ghost use mathlib.Core.Bool.{true};
 ghost use Rattle.map_fields.specs.Fields.{truth, needed, valueIn, successIn};
-ghost use Rattle.map_fields.specs.Sights.{Reads, UintReads, MapReads, amountOf};
+ghost use Rattle.map_fields.specs.Sights.{Reads, UintReads, MapReads, amountOf, fieldOf};
 
 // A signed number, null or nothing; not `ok` is refusal 3.
 pub struct Value {
@@ -23,7 +27,7 @@ const LIMIT: u64 = 9223372036854775808;
 pub fn is_uint(k: Sight, must: bool, most: u64) -> bool
     ensures { λ r. ⌜ UintReads k must most r ⌝ }
 {
-    either(both(!must, k.major == 8), both(k.major == 0, k.arg <= most))
+    either(both(!must, k.major == 8), is_in(k, up_to(most)))
 }
 
 // The number that is there, or none.
@@ -36,37 +40,32 @@ pub fn amount_of(k: Sight) -> Amount
     Amount::Absent
 }
 
-// A signed number, or null where that is allowed, or nothing: n is n in major type 0 and -1 - n in major type 1.
+// The signed number that is there, null, or nothing: n is n in major type 0 and -1 - n in major type 1.
+// A number past 64 signed bits, which no reader accepts, counts by its low 63 bits: so there is nothing to test.
+pub fn field_of(k: Sight) -> Field
+    ensures { λ r. ⌜ r ≡ fieldOf k ⌝ }
+{
+    let v = (k.arg % LIMIT) as i64;
+    if k.major == 0 {
+        return Field::Value(v);
+    }
+    if k.major == 1 {
+        return Field::Value(-1 - v);
+    }
+    if k.major == 7 {
+        return Field::Null;
+    }
+    Field::Absent
+}
+
+// A signed number, or null where that is allowed, or nothing.
 pub fn read_value(k: Sight, null: bool) -> Value
     ensures { λ r. ⌜ Reads k (valueIn null) (r .ok) (r .field) ⌝ }
 {
-    if k.major == 8 {
-        return accepted(Field::Absent);
+    Value {
+        ok: is_number(k, INT64, null),
+        field: field_of(k),
     }
-    if k.major == 7 {
-        return Value {
-            ok: both(k.arg == 22, null),
-            field: Field::Null,
-        };
-    }
-    if either(1 < k.major, LIMIT <= k.arg) {
-        return Value {
-            ok: false,
-            field: Field::Absent,
-        };
-    }
-    let v = k.arg as i64;
-    if k.major == 0 {
-        return accepted(Field::Value(v));
-    }
-    accepted(Field::Value(-1 - v))
-}
-
-fn accepted(field: Field) -> Value
-    ensures { λ r. ⌜ r .ok ≡ true ⌝ }
-    ensures { λ r. ⌜ r .field ≡ field ⌝ }
-{
-    Value { ok: true, field }
 }
 
 // Whether false or true is there.

@@ -6,8 +6,10 @@ use crate::settings::setting_of_setpoints;
 use map_fields::MOST32;
 use map_fields::both;
 use map_fields::count_amount;
+use map_fields::count_phases;
 use map_fields::count_value;
 use map_fields::either;
+use map_fields::field_sight;
 use map_fields::put_amount;
 use map_fields::put_map;
 use map_fields::put_phases;
@@ -17,6 +19,7 @@ use messages::Aim;
 use messages::Amount;
 use messages::Command;
 use messages::CurrentLimits;
+use messages::Phases;
 use messages::Request;
 use messages::Setpoints;
 use messages::is_served;
@@ -32,7 +35,8 @@ ghost use lib.ListN.{length};
 ghost use Rattle.cbor.specs.Item.{encode, encodePairs, countPairs};
 ghost use Rattle.map_fields.specs.Fields.{present, aimItem, amountItem};
 ghost use Rattle.request_writer.specs.Requests.{commandFields, requestItem, aimWide, durationWide, commandWide, isServed, requestWide, requestNumber};
-ghost use Rattle.map_fields.specs.Puts.{Puts};
+ghost use Rattle.map_fields.specs.Puts.{Puts, fieldBytes};
+ghost use Rattle.map_fields.specs.ByPhase.{phasesItem, phasesRoom};
 ghost use Rattle.request_writer.specs.Settings.{settingFields, currentLimitFields};
 ghost use Rattle.request_writer.specs.Sizes.{paramsRoom, payloadRoom};
 ghost use Rattle.sender.specs.Writing.{itemFrame, writtenOf, leftBy};
@@ -90,11 +94,25 @@ fn put_setting(out: &mut [u8], at: usize, s: Setting) -> usize
     put_uint(out, after_d, 4, s.cause)
 }
 
+// The map of phases, under key 1.
+fn put_fields(out: &mut [u8], at: usize, p: Phases) -> usize
+    ensures { λ r. ⌜ Puts (now (out .entry)) at (fieldBytes 1 (phasesItem p)) phasesRoom (now (out .exit)) r ⌝ }
+{
+    let x = p.a;
+    let y = p.b;
+    let z = p.c;
+    let a = field_sight(x);
+    let b = field_sight(y);
+    let c = field_sight(z);
+    let head = put_map(out, at, 1, count_phases(a, b, c));
+    put_phases(out, head, a, b, c)
+}
+
 fn put_current_limits(out: &mut [u8], at: usize, l: CurrentLimits) -> usize
     ensures { λ r. ⌜ Puts (now (out .entry)) at (encodePairs (present (currentLimitFields l))) paramsRoom (now (out .exit)) r ⌝ }
 {
     let phases = l.phases;
-    let after_f = put_phases(out, at, 1, phases);
+    let after_f = put_fields(out, at, phases);
     let after_x = put_uint(out, after_f, 2, l.direction);
     let after_d = put_amount(out, after_x, 3, duration_amount(l.duration));
     put_uint(out, after_d, 4, l.cause)

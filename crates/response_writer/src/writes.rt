@@ -4,12 +4,14 @@ use map_fields::MOST_VALUE;
 use map_fields::MOST32;
 use map_fields::all3;
 use map_fields::all4;
+use map_fields::amount_sight;
 use map_fields::both;
 use map_fields::count_amount;
+use map_fields::count_phases;
 use map_fields::either;
 use map_fields::put_amount;
-use map_fields::put_currents;
 use map_fields::put_map;
+use map_fields::put_phases;
 use map_fields::put_truth;
 use map_fields::put_uint;
 use messages::Amount;
@@ -32,6 +34,7 @@ ghost use Rattle.response_writer.specs.Responses.{limitFields, setpointF
 ghost use Rattle.response_writer.specs.Responses.{limitInRange, setpointInRange, currentInRange, goesWith, isNothing, fits, responseNumber};
 ghost use Rattle.map_fields.specs.Fields.{mapItem};
 ghost use Rattle.map_fields.specs.Puts.{Puts, fieldBytes, pairsOf};
+ghost use Rattle.map_fields.specs.ByPhase.{currentsItem, phasesRoom};
 ghost use Rattle.response_writer.specs.Sizes.{outcomeRoom, payloadRoom};
 ghost use Rattle.sender.specs.Writing.{itemFrame, writtenOf, leftBy};
 
@@ -64,13 +67,27 @@ fn put_setpoint(out: &mut [u8], at: usize, l: SetpointResult) -> usize
     put_amount(out, c, 3, production)
 }
 
+// The map of the currents that hold, under key 2.
+fn put_currents(out: &mut [u8], at: usize, l: CurrentResult) -> usize
+    ensures { λ r. ⌜ Puts (now (out .entry)) at (fieldBytes 2 (currentsItem l)) phasesRoom (now (out .exit)) r ⌝ }
+{
+    let x = l.a;
+    let y = l.b;
+    let z = l.c;
+    let a = amount_sight(x);
+    let b = amount_sight(y);
+    let c = amount_sight(z);
+    let head = put_map(out, at, 2, count_phases(a, b, c));
+    put_phases(out, head, a, b, c)
+}
+
 // The result of SetCurrentLimits, under key 3: its map of phases stands there even when empty.
 fn put_current(out: &mut [u8], at: usize, l: CurrentResult) -> usize
     ensures { λ r. ⌜ Puts (now (out .entry)) at (fieldBytes 3 (mapItem (currentFields l))) outcomeRoom (now (out .exit)) r ⌝ }
 {
     let a = put_map(out, at, 3, 2);
     let b = put_truth(out, a, 1, true);
-    put_currents(out, b, 2, l)
+    put_currents(out, b, l)
 }
 
 // The result of a clear, under key 3.

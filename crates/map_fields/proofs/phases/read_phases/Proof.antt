@@ -1,6 +1,9 @@
--- Each phase is read as it is seen, and the map by how many of them are seen.
+-- The one test, with each phase as a field.
 use Rattle.map_fields.specs.Fields.{valueIn}
 use Rattle.map_fields.specs.ByPhase.{phasesIn, phasesFrom}
+use Rattle.map_fields.specs.Sights.{fieldOf}
+use Rattle.map_fields.specs.Ranges.{signedBits}
+use Rattle.map_fields.proofs.RangeLaws.{values-by-range}
 use Rattle.map_fields.proofs.PhaseLaws.{phases-read}
 use borrow.Author.Needs.{needs}
 use Rattle.map_fields.proofs.phases.read_phases.Statement.{statement}
@@ -12,11 +15,10 @@ read-phases-spec =
     tie.close
     (tie.spec
     (λ c κs. search needs) (λ c κs. search needs) (λ c κs. search needs) (λ c κs. search needs)
-    (λ c κs. search needs)
     (λ c.
-    let at-read-value3 = c .before .before .read-value3 in
-    let at-read-value2 = c .before .before .before .read-value2 in
-    let at-read-value = c .before .before .before .before .read-value in
-    let at-args = c .before .before .before .before .before .args in
-    phases-read (valueIn (at-args .null)) phasesFrom (at-args .k) (at-args .a) (at-args .b) (at-args .c) _ _ _ _ _ _ (at-read-value .ensures)
-    (at-read-value2 .ensures) (at-read-value3 .ensures) _ (c .before .only-phases .ensures) _ (c .all4 .ensures)))
+    let at-field-of2 = c .before .before .field-of2 in
+    let at-field-of = c .before .before .before .field-of in
+    let at-args = c .before .before .before .before .args in
+    phases-read (signedBits 64) (at-args .null) (valueIn (at-args .null)) fieldOf phasesFrom (values-by-range (at-args .null)) (at-args .k)
+    (at-args .a) (at-args .b) (at-args .c) _
+    (c .is-phases .ensures) _ _ _ (at-field-of .ensures) (at-field-of2 .ensures) (c .before .field-of3 .ensures)))

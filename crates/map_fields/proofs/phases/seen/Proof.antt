@@ -1,5 +1,5 @@
 -- The test is the one of the definition.
-use borrow.Author.Tests.{ne-eqb}
+use borrow.Author.Tests.{lt-ltb, le-ltb}
 use Rattle.map_fields.proofs.phases.seen.Statement.{statement}
 use Rattle.map_fields.proofs.phases.seen.Tie as tie
 
@@ -7,4 +7,4 @@ pub seen-spec : {M : Type 1} → statement M
 seen-spec =
     tie.close
     (tie.spec
-    (λ c. rw (c .if1 .taken)) (λ c. rw (ne-eqb _ 8 (c .if1 .left))))
+    (λ c. rw (lt-ltb _ 8 (c .if1 .taken))) (λ c. rw (le-ltb _ 8 (c .if1 .left))))

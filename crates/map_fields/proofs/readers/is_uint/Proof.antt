@@ -8,7 +8,8 @@ pub is-uint-spec : {M : Type 1} → statement M
 is-uint-spec =
     tie.close
     (tie.spec
-    (λ c κs. search needs) (λ c κs. search needs) (λ c κs. search needs)
+    (λ c κs. search needs) (λ c κs. search needs) (λ c κs. search needs) (λ c κs. search needs)
     (λ c.
-    let at-both = c .before .before .before .before .both in
-    uint-reads _ _ _ _ (rw (c .either .ensures, at-both .ensures, c .before .both2 .ensures))))
+    let at-up-to = c .before .before .up-to in
+    let at-both = c .before .before .before .both in
+    uint-reads _ _ _ _ (rw (c .either .ensures, c .before .is-in .ensures, at-up-to .ensures, at-both .ensures))))

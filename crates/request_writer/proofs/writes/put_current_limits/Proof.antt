@@ -17,9 +17,9 @@ put-current-limits-spec =
     let at-duration-amount = c .before .before .before .before .before .before .before .duration-amount in
     let back-8 = c .before .before .before .before .before .before .before .before in
     let at-put-uint = back-8 .before .before .before .put-uint in
-    let at-put-phases = back-8 .before .before .before .before .before .before .before .put-phases in
+    let at-put-fields = back-8 .before .before .before .before .before .before .before .put-fields in
     let back-16 = back-8 .before .before .before .before .before .before .before .before in
     let at-args = back-16 .before .before .before .args in
     puts-same (current-limits-bytes (at-args .l) _ (at-duration-amount .ensures)) (puts-more
-    (puts-more (puts-more (at-put-phases .ensures .puts) (at-put-uint .ensures .puts)) (at-put-amount .ensures .puts))
+    (puts-more (puts-more (at-put-fields .ensures) (at-put-uint .ensures .puts)) (at-put-amount .ensures .puts))
     (at-put-uint2 .ensures .puts))))

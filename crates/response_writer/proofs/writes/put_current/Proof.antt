@@ -17,4 +17,4 @@ put-current-spec =
     let at-put-map = back-8 .before .before .put-map in
     let at-args = back-8 .before .before .before .before .before .args in
     puts-same (current-bytes (at-args .l)) (puts-more (puts-more (at-put-map .ensures .puts) (at-put-truth .ensures .puts))
-    (at-put-currents .ensures .puts))))
+    (at-put-currents .ensures))))
