@@ -1,5 +1,6 @@
 // The numbers of a line: the words behind the command's name, each of a kind.
-use kernel::VALUE_END;
+use store::MOST;
+use store::VALUE_END;
 use words::Number;
 use words::is_none;
 use words::no_number;
@@ -32,7 +33,7 @@ fn maximum(line: &[u8], from: usize, to: usize) -> Number {
         return Number {
             good: true,
             negative: false,
-            value: kernel::MOST,
+            value: MOST,
         };
     }
     let n = number_in(line, from, to);
