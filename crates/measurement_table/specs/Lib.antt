@@ -1,0 +1,4 @@
+pub mod Table
+pub mod Cells
+pub mod Words
+pub mod Payload
