@@ -458,6 +458,221 @@ static inline struct cekarum_written cekarum_report(struct cekarum_inputs inputs
     return report;
 }
 
+/* ---- what the box measures: the Measurement feature, 0x0004 ----
+ * A payload is a map alone, without the four bytes of a frame. No device has to do with it. */
+
+#define CEKARUM_MEASUREMENT_MAX 326 /* bytes of the longest payload that is written */
+
+/* Places, in the order of the attributes: CEKARUM_THERE of one is its bit in `there`. From a PER_PHASE on three, of the phases A,
+ * B and C, and from the PAIR on three, AB, BC and CA: CEKARUM_THERE(CEKARUM_AC_CURRENT_PER_PHASE + 2) is phase C's. */
+enum {
+    CEKARUM_AC_ACTIVE_POWER = 0,
+    CEKARUM_AC_REACTIVE_POWER = 1,
+    CEKARUM_AC_APPARENT_POWER = 2,
+    CEKARUM_AC_ACTIVE_POWER_PER_PHASE = 3,
+    CEKARUM_AC_REACTIVE_POWER_PER_PHASE = 6,
+    CEKARUM_AC_APPARENT_POWER_PER_PHASE = 9,
+    CEKARUM_AC_CURRENT_PER_PHASE = 12,
+    CEKARUM_AC_VOLTAGE_PER_PHASE = 15,
+    CEKARUM_AC_VOLTAGE_PHASE_TO_PHASE_PAIR = 18,
+    CEKARUM_AC_FREQUENCY = 21,
+    CEKARUM_POWER_FACTOR = 22,
+    CEKARUM_AC_ENERGY_CONSUMED = 23,
+    CEKARUM_AC_ENERGY_PRODUCED = 24,
+    CEKARUM_DC_POWER = 25,
+    CEKARUM_DC_CURRENT = 26,
+    CEKARUM_DC_VOLTAGE = 27,
+    CEKARUM_DC_ENERGY_IN = 28,
+    CEKARUM_DC_ENERGY_OUT = 29,
+    CEKARUM_STATE_OF_CHARGE = 30,
+    CEKARUM_STATE_OF_HEALTH = 31,
+    CEKARUM_STATE_OF_ENERGY = 32,
+    CEKARUM_USEABLE_CAPACITY = 33,
+    CEKARUM_CYCLE_COUNT = 34,
+    CEKARUM_TEMPERATURE = 35
+};
+
+#define CEKARUM_THERE(place) (UINT64_C(1) << (place))
+
+/* The attributes, with document 002's number, unit and, where the type is wider, range. What is not there is 0 when read and
+ * passed over when written. Power and current: positive flows in, negative flows out. */
+struct cekarum_measurement {
+    uint64_t there;                              /* CEKARUM_THERE of each place that is there; other bits are passed over */
+    int64_t ac_active_power;                     /* 1, mW */
+    int64_t ac_reactive_power;                   /* 2, mVAR */
+    uint64_t ac_apparent_power;                  /* 3, mVA */
+    int64_t ac_active_power_per_phase[3];        /* 10, mW */
+    int64_t ac_reactive_power_per_phase[3];      /* 11, mVAR */
+    int64_t ac_apparent_power_per_phase[3];      /* 12, mVA */
+    int64_t ac_current_per_phase[3];             /* 20, mA */
+    uint32_t ac_voltage_per_phase[3];            /* 21, mV, phase to neutral */
+    uint32_t ac_voltage_phase_to_phase_pair[3];  /* 22, mV, by pair: AB, BC, CA */
+    uint32_t ac_frequency;                       /* 23, mHz */
+    int16_t power_factor;                        /* 24, thousandths, -1,000 to 1,000 */
+    uint64_t ac_energy_consumed;                 /* 30, mWh */
+    uint64_t ac_energy_produced;                 /* 31, mWh */
+    int64_t dc_power;                            /* 40, mW */
+    int64_t dc_current;                          /* 41, mA */
+    uint32_t dc_voltage;                         /* 42, mV */
+    uint64_t dc_energy_in;                       /* 43, mWh */
+    uint64_t dc_energy_out;                      /* 44, mWh */
+    uint8_t state_of_charge;                     /* 50, percent, 0 to 100 */
+    uint8_t state_of_health;                     /* 51, percent, 0 to 100 */
+    uint64_t state_of_energy;                    /* 52, mWh */
+    uint64_t useable_capacity;                   /* 53, mWh */
+    uint32_t cycle_count;                        /* 54 */
+    int16_t temperature;                         /* 60, hundredths of a degree Celsius */
+};
+
+/* The exports beneath the calls below, and the words that they take: two for each place, first 0 for nothing, 1 for the number n,
+ * 2 for -1 - n, then n. Nothing else calls them. */
+#define CEKARUM_MEASUREMENT_WORDS 72
+uint64_t cekarum_raw_read_measurement(const uint8_t *in, uint64_t in_length, uint64_t *words);
+uint64_t cekarum_raw_write_measurement(const uint64_t *words, uint8_t *out, uint64_t out_length, uint64_t *written);
+uint64_t cekarum_raw_power_flow(const uint64_t *words);
+uint64_t cekarum_raw_dc_flow(const uint64_t *words);
+uint64_t cekarum_raw_phase_flow(const uint64_t *words, uint64_t phase);
+
+/* A number to its words, and from them; the words of what is not there are 0. */
+static inline void cekarum_put_unsigned(uint64_t *words, uint64_t there, int place, uint64_t value)
+{
+    const bool is = (there >> place & 1) != 0;
+    words[2 * place] = is;
+    words[2 * place + 1] = is ? value : 0;
+}
+
+static inline void cekarum_put_signed(uint64_t *words, uint64_t there, int place, int64_t value)
+{
+    cekarum_put_unsigned(words, there, place, value < 0 ? ~(uint64_t)value : (uint64_t)value);
+    words[2 * place] <<= value < 0;
+}
+
+static inline int64_t cekarum_get_signed(const uint64_t *words, int place)
+{
+    return words[2 * place] == 2 ? -1 - (int64_t)words[2 * place + 1] : (int64_t)words[2 * place + 1];
+}
+
+/* The words of a measurement. */
+static inline void cekarum_measurement_words(const struct cekarum_measurement *m, uint64_t *words)
+{
+    const uint64_t there = m->there;
+    cekarum_put_signed(words, there, CEKARUM_AC_ACTIVE_POWER, m->ac_active_power);
+    cekarum_put_signed(words, there, CEKARUM_AC_REACTIVE_POWER, m->ac_reactive_power);
+    cekarum_put_unsigned(words, there, CEKARUM_AC_APPARENT_POWER, m->ac_apparent_power);
+    for (int i = 0; i < 3; i++) {
+        cekarum_put_signed(words, there, CEKARUM_AC_ACTIVE_POWER_PER_PHASE + i, m->ac_active_power_per_phase[i]);
+        cekarum_put_signed(words, there, CEKARUM_AC_REACTIVE_POWER_PER_PHASE + i, m->ac_reactive_power_per_phase[i]);
+        cekarum_put_signed(words, there, CEKARUM_AC_APPARENT_POWER_PER_PHASE + i, m->ac_apparent_power_per_phase[i]);
+        cekarum_put_signed(words, there, CEKARUM_AC_CURRENT_PER_PHASE + i, m->ac_current_per_phase[i]);
+        cekarum_put_unsigned(words, there, CEKARUM_AC_VOLTAGE_PER_PHASE + i, m->ac_voltage_per_phase[i]);
+        cekarum_put_unsigned(words, there, CEKARUM_AC_VOLTAGE_PHASE_TO_PHASE_PAIR + i, m->ac_voltage_phase_to_phase_pair[i]);
+    }
+    cekarum_put_unsigned(words, there, CEKARUM_AC_FREQUENCY, m->ac_frequency);
+    cekarum_put_signed(words, there, CEKARUM_POWER_FACTOR, m->power_factor);
+    cekarum_put_unsigned(words, there, CEKARUM_AC_ENERGY_CONSUMED, m->ac_energy_consumed);
+    cekarum_put_unsigned(words, there, CEKARUM_AC_ENERGY_PRODUCED, m->ac_energy_produced);
+    cekarum_put_signed(words, there, CEKARUM_DC_POWER, m->dc_power);
+    cekarum_put_signed(words, there, CEKARUM_DC_CURRENT, m->dc_current);
+    cekarum_put_unsigned(words, there, CEKARUM_DC_VOLTAGE, m->dc_voltage);
+    cekarum_put_unsigned(words, there, CEKARUM_DC_ENERGY_IN, m->dc_energy_in);
+    cekarum_put_unsigned(words, there, CEKARUM_DC_ENERGY_OUT, m->dc_energy_out);
+    cekarum_put_unsigned(words, there, CEKARUM_STATE_OF_CHARGE, m->state_of_charge);
+    cekarum_put_unsigned(words, there, CEKARUM_STATE_OF_HEALTH, m->state_of_health);
+    cekarum_put_unsigned(words, there, CEKARUM_STATE_OF_ENERGY, m->state_of_energy);
+    cekarum_put_unsigned(words, there, CEKARUM_USEABLE_CAPACITY, m->useable_capacity);
+    cekarum_put_unsigned(words, there, CEKARUM_CYCLE_COUNT, m->cycle_count);
+    cekarum_put_signed(words, there, CEKARUM_TEMPERATURE, m->temperature);
+}
+
+/* The measurement of words that were read: each number is in its range. */
+static inline void cekarum_measurement_of(const uint64_t *words, struct cekarum_measurement *m)
+{
+    m->there = 0;
+    for (int place = 0; place <= CEKARUM_TEMPERATURE; place++)
+        m->there |= words[2 * place] != 0 ? CEKARUM_THERE(place) : 0;
+    m->ac_active_power = cekarum_get_signed(words, CEKARUM_AC_ACTIVE_POWER);
+    m->ac_reactive_power = cekarum_get_signed(words, CEKARUM_AC_REACTIVE_POWER);
+    m->ac_apparent_power = words[2 * CEKARUM_AC_APPARENT_POWER + 1];
+    for (int i = 0; i < 3; i++) {
+        m->ac_active_power_per_phase[i] = cekarum_get_signed(words, CEKARUM_AC_ACTIVE_POWER_PER_PHASE + i);
+        m->ac_reactive_power_per_phase[i] = cekarum_get_signed(words, CEKARUM_AC_REACTIVE_POWER_PER_PHASE + i);
+        m->ac_apparent_power_per_phase[i] = cekarum_get_signed(words, CEKARUM_AC_APPARENT_POWER_PER_PHASE + i);
+        m->ac_current_per_phase[i] = cekarum_get_signed(words, CEKARUM_AC_CURRENT_PER_PHASE + i);
+        m->ac_voltage_per_phase[i] = (uint32_t)words[2 * (CEKARUM_AC_VOLTAGE_PER_PHASE + i) + 1];
+        m->ac_voltage_phase_to_phase_pair[i] = (uint32_t)words[2 * (CEKARUM_AC_VOLTAGE_PHASE_TO_PHASE_PAIR + i) + 1];
+    }
+    m->ac_frequency = (uint32_t)words[2 * CEKARUM_AC_FREQUENCY + 1];
+    m->power_factor = (int16_t)cekarum_get_signed(words, CEKARUM_POWER_FACTOR);
+    m->ac_energy_consumed = words[2 * CEKARUM_AC_ENERGY_CONSUMED + 1];
+    m->ac_energy_produced = words[2 * CEKARUM_AC_ENERGY_PRODUCED + 1];
+    m->dc_power = cekarum_get_signed(words, CEKARUM_DC_POWER);
+    m->dc_current = cekarum_get_signed(words, CEKARUM_DC_CURRENT);
+    m->dc_voltage = (uint32_t)words[2 * CEKARUM_DC_VOLTAGE + 1];
+    m->dc_energy_in = words[2 * CEKARUM_DC_ENERGY_IN + 1];
+    m->dc_energy_out = words[2 * CEKARUM_DC_ENERGY_OUT + 1];
+    m->state_of_charge = (uint8_t)words[2 * CEKARUM_STATE_OF_CHARGE + 1];
+    m->state_of_health = (uint8_t)words[2 * CEKARUM_STATE_OF_HEALTH + 1];
+    m->state_of_energy = words[2 * CEKARUM_STATE_OF_ENERGY + 1];
+    m->useable_capacity = words[2 * CEKARUM_USEABLE_CAPACITY + 1];
+    m->cycle_count = (uint32_t)words[2 * CEKARUM_CYCLE_COUNT + 1];
+    m->temperature = (int16_t)cekarum_get_signed(words, CEKARUM_TEMPERATURE);
+}
+
+struct cekarum_measurement_read {
+    uint64_t number;
+    struct cekarum_measurement measurement;
+};
+
+/* Reads a payload. Refuses: 1 for a length outside 1 to 2,048; 2; 3 for what is no map, for an attribute of another type or out
+ * of its range, and for a map of phases that is empty or has another key than 0 to 2. Nothing is then there, and all is 0.
+ * Unknown keys are passed over. */
+static inline struct cekarum_measurement_read cekarum_read_measurement(const uint8_t *in, uint64_t in_length)
+{
+    struct cekarum_measurement_read read;
+    uint64_t words[CEKARUM_MEASUREMENT_WORDS];
+    read.number = cekarum_raw_read_measurement(in, in_length, words);
+    cekarum_measurement_of(words, &read.measurement);
+    return read;
+}
+
+/* Writes the payload of what is there. Refuses: 3 for a number out of its range, 15. CEKARUM_MEASUREMENT_MAX bytes of room are
+ * always enough. length is in bytes. */
+static inline struct cekarum_written cekarum_write_measurement(const struct cekarum_measurement *measurement, uint8_t *out,
+                                                               uint64_t out_length)
+{
+    struct cekarum_written written;
+    uint64_t words[CEKARUM_MEASUREMENT_WORDS];
+    cekarum_measurement_words(measurement, words);
+    written.number = cekarum_raw_write_measurement(words, out, out_length, &written.length);
+    return written;
+}
+
+/* Which way power flows: absent where it was not measured, none where it is 0. */
+enum { CEKARUM_FLOW_ABSENT = 0, CEKARUM_FLOW_NONE = 1, CEKARUM_FLOW_IN = 2, CEKARUM_FLOW_OUT = 3 };
+
+/* The flow of ac_active_power, of dc_power, and of a phase (A 0, B 1, C 2) of ac_active_power_per_phase; of no other phase: it is
+ * absent. */
+static inline uint64_t cekarum_power_flow(const struct cekarum_measurement *measurement)
+{
+    uint64_t words[CEKARUM_MEASUREMENT_WORDS];
+    cekarum_measurement_words(measurement, words);
+    return cekarum_raw_power_flow(words);
+}
+
+static inline uint64_t cekarum_dc_flow(const struct cekarum_measurement *measurement)
+{
+    uint64_t words[CEKARUM_MEASUREMENT_WORDS];
+    cekarum_measurement_words(measurement, words);
+    return cekarum_raw_dc_flow(words);
+}
+
+static inline uint64_t cekarum_phase_flow(const struct cekarum_measurement *measurement, uint64_t phase)
+{
+    uint64_t words[CEKARUM_MEASUREMENT_WORDS];
+    cekarum_measurement_words(measurement, words);
+    return cekarum_raw_phase_flow(words, phase);
+}
+
 #ifdef __cplusplus
 }
 #endif

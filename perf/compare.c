@@ -12,7 +12,8 @@
 #define U(n) ((unsigned long long)(n))
 #define S(n) ((long long)(n))
 
-enum { OUT = 128, ROWS = PLAIN_ROW * PLAIN_ROWS + 16, PAIRS = 2 * PLAIN_PAIRS + 16, CALLS = 18, NUMBERS = 19 };
+enum { OUT = PLAIN_MEASUREMENT_MAX + 10, ROWS = PLAIN_ROW * PLAIN_ROWS + 16, PAIRS = 2 * PLAIN_PAIRS + 16 };
+enum { CALLS = 20, NUMBERS = 19, FLOWS = 7 };
 
 /* From JOIN to FRAME those that take a time, and move the clock to it where they are accepted. */
 enum call {
@@ -33,7 +34,9 @@ enum call {
     READ_RESPONSE,
     WRITE_RESPONSE,
     REPORT,
-    RECEIVE
+    RECEIVE,
+    READ_MEASUREMENT,
+    WRITE_MEASUREMENT
 };
 
 static const char *const call_names[CALLS] = {
@@ -55,6 +58,8 @@ static const char *const call_names[CALLS] = {
     [WRITE_RESPONSE] = "write_response",
     [REPORT] = "report",
     [RECEIVE] = "receive",
+    [READ_MEASUREMENT] = "read_meas",
+    [WRITE_MEASUREMENT] = "write_meas",
 };
 
 /* One kernel's side: its device, what it was lent and what it answered. */
@@ -69,6 +74,8 @@ struct side {
     uint64_t pairs[PAIRS];
     struct plain_request request;
     struct plain_response response;
+    struct plain_measurement measurement;
+    uint64_t flow[FLOWS];
     struct plain_receiver receiver;
     uint64_t taken;
     uint8_t wire[PLAIN_FRAME_MAX]; /* the receiver's room */
@@ -82,6 +89,7 @@ struct ask {
     struct plain_settings settings;
     struct plain_request request;
     struct plain_response response;
+    struct plain_measurement measurement;
     struct plain_inputs inputs;
     uint16_t attributes[80];
     size_t attribute_count;
@@ -93,9 +101,19 @@ struct ask {
 static struct side sides[2];
 static struct ask ask;
 static struct plain_settings settings; /* of the device as it is */
-static uint64_t compared, differ, most_rows, most_lost, most_pairs, longest_in, clock_now;
+static uint64_t compared, differ, most_rows, most_lost, most_pairs, longest_in, longest_payload, clock_now;
 static uint64_t counts[CALLS][NUMBERS], answered[NUMBERS], unanswered[NUMBERS];
 static uint64_t setpoints[3]; /* accepted ones, by their duration: left out, 0, another */
+
+/* The flows of 1, of 40, and of each phase of 10 and two more. */
+static void take_flows(struct side *s, const struct plain_measurement *m)
+{
+    static const uint64_t phases[FLOWS - 2] = {0, 1, 2, 3, UINT64_MAX};
+    s->flow[0] = s->k->power_flow(m);
+    s->flow[1] = s->k->dc_flow(m);
+    for (unsigned i = 2; i < FLOWS; i++)
+        s->flow[i] = s->k->phase_flow(m, phases[i - 2]);
+}
 
 static uint64_t call_one(struct side *s, const struct ask *q)
 {
@@ -143,6 +161,14 @@ static uint64_t call_one(struct side *s, const struct ask *q)
         break;
     case REPORT:
         w = k->report(&q->inputs, q->attributes, q->attribute_count, s->pairs, q->room);
+        break;
+    case READ_MEASUREMENT:
+        w.number = k->read_measurement(q->in.at, q->in.n, &s->measurement);
+        take_flows(s, &s->measurement);
+        break;
+    case WRITE_MEASUREMENT:
+        w = k->write_measurement(&q->measurement, s->out, q->room);
+        take_flows(s, &q->measurement);
         break;
     case RECEIVE:
         got = k->receive(&s->receiver, s->wire, q->room, q->scrap, q->scrap_length);
@@ -199,6 +225,10 @@ static const char *difference(const struct side *x, const struct side *y, const 
         return "bytes taken or records";
     if (q->call == RECEIVE && memcmp(x->wire, y->wire, sizeof x->wire) != 0)
         return "receivers' rooms";
+    if (q->call >= READ_MEASUREMENT && memcmp(x->flow, y->flow, sizeof x->flow) != 0)
+        return "flows";
+    if (q->call == READ_MEASUREMENT && memcmp(&x->measurement, &y->measurement, sizeof x->measurement) != 0)
+        return "measurements";
     if (x->number != 0)
         return NULL;
     if (q->call == READ_REQUEST && !same_request(&x->request, &y->request))
@@ -223,7 +253,7 @@ static void complain(const char *what)
         return;
     printf("call %llu, %s: %s\n", U(compared), call_names[ask.call], what);
     printf("  zone %llu time %llu a %llu b %llu room %llu\n", U(ask.zone), U(ask.time), U(ask.a), U(ask.b), U(ask.room));
-    if (ask.call == FRAME || ask.call == READ_REQUEST || ask.call == READ_RESPONSE)
+    if (ask.call == FRAME || ask.call == READ_REQUEST || ask.call == READ_RESPONSE || ask.call == READ_MEASUREMENT)
         print_bytes("in", ask.in.at, ask.in.n);
     for (unsigned i = 0; i < 2; i++) {
         struct side *s = &sides[i];
@@ -242,6 +272,19 @@ static void judge_one(const struct side *s)
         complain("a number outside the table");
     if (((s->number != 0 && ask.call != START) || ask.call > FRAME) && memcmp(s->device, s->before, s->k->size) != 0)
         complain("the device changed");
+}
+
+/* What is read is written, and reads back the same. */
+static void judge_measurement(const struct side *s)
+{
+    static uint8_t payload[PLAIN_MEASUREMENT_MAX];
+    struct plain_measurement again;
+    struct plain_written w = s->k->write_measurement(&s->measurement, payload, sizeof payload);
+    if (w.number != 0 || s->k->read_measurement(payload, w.length, &again) != 0 ||
+        memcmp(&again, &s->measurement, sizeof again) != 0)
+        complain("not read back");
+    if (w.length > longest_payload)
+        longest_payload = w.length;
 }
 
 static void tally_setpoint(void)
@@ -286,6 +329,8 @@ static uint64_t both(void)
         memcpy(s->before, s->device, s->k->size);
         s->number = call_one(s, &ask);
         judge_one(s);
+        if (ask.call == READ_MEASUREMENT && s->number == 0)
+            judge_measurement(s);
     }
     const char *what = difference(&sides[0], &sides[1], &ask);
     if (what != NULL)
@@ -351,7 +396,12 @@ static void mix_call(void)
                                       PLAN,  PLAN,  ASK,   ASK,   JOIN,  JOIN,  JOIN,     JOIN,       LEAVE, LOST,
                                       BACK,  BACK,  BACK,  CLEAR, CLEAR, CLEAR, OVERRIDE, PLAIN_PLAN, MOVE,  MOVE,
                                       MOVE};
-    ask.call = mix_chance(850) ? often[mix_below(sizeof often / sizeof *often)] : READ_REQUEST + mix_below(5);
+    static const enum call seldom[] = {READ_REQUEST, WRITE_REQUEST,    READ_RESPONSE,    WRITE_RESPONSE,
+                                       REPORT,       READ_MEASUREMENT, READ_MEASUREMENT, WRITE_MEASUREMENT};
+    if (mix_chance(800))
+        ask.call = often[mix_below(sizeof often / sizeof *often)];
+    else
+        ask.call = seldom[mix_below(sizeof seldom / sizeof *seldom)];
     ask.zone = some_zone();
     ask.time = some_time();
     ask.room = some_room(72);
@@ -383,6 +433,13 @@ static void mix_call(void)
     case WRITE_RESPONSE:
         ask.a = mix_chance(980) ? 1 + mix_below(6) : mix_chance(500) ? mix_below(9) : mix_any();
         mix_response_fields(ask.a, &ask.response);
+        break;
+    case READ_MEASUREMENT:
+        mix_measurement(&ask.in);
+        break;
+    case WRITE_MEASUREMENT:
+        ask.room = some_room(PLAIN_MEASUREMENT_MAX);
+        mix_measurement_cells(&ask.measurement);
         break;
     case REPORT:
         ask.room = some_room(PAIRS);
@@ -632,8 +689,9 @@ static void print_counts(void)
     for (unsigned n = 1; n < NUMBERS; n++)
         if (answered[n] > 0)
             printf(" %u: %llu (and %llu without room)", n, U(answered[n]), U(unanswered[n]));
-    printf("\nlongest plan %llu rows (%llu in the failsafe), longest report %llu pairs, longest accepted frame %llu bytes\n",
-           U(most_rows), U(most_lost), U(most_pairs), U(longest_in));
+    printf("\nlongest plan %llu rows (%llu in the failsafe), longest report %llu pairs, longest accepted frame %llu bytes, "
+           "longest measurement %llu bytes\n",
+           U(most_rows), U(most_lost), U(most_pairs), U(longest_in), U(longest_payload));
     printf("accepted setpoints: %llu without a duration, %llu with 0, %llu with another\n", U(setpoints[0]), U(setpoints[1]),
            U(setpoints[2]));
     printf("every number reached: %s\n", all ? "yes" : "NO");

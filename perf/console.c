@@ -108,13 +108,18 @@ static bool read_attributes(char *s)
     }
 }
 
-static void print_bytes(uint64_t n, const uint8_t *out, size_t length)
+static void print_some(uint64_t n, const uint8_t *out, size_t length)
 {
     printf("%llu ", (unsigned long long)n);
     if (length == 0)
         putchar('-');
     for (size_t i = 0; i < length; i++)
         printf("%02x", out[i]);
+}
+
+static void print_bytes(uint64_t n, const uint8_t *out, size_t length)
+{
+    print_some(n, out, length);
     putchar('\n');
 }
 
@@ -273,6 +278,35 @@ static bool do_scrap(char **w)
     return true;
 }
 
+/* A flow that is there, behind a space and under its name; how many that were. */
+static unsigned print_flow(const char *name, uint64_t flow)
+{
+    static const char *const says[] = {"absent", "none", "in", "out"};
+    if (flow == PLAIN_FLOW_ABSENT)
+        return 0;
+    printf(" %s:%s", name, says[flow]);
+    return 1;
+}
+
+static bool do_meas(char **w)
+{
+    static const char *const phases[] = {"10.0", "10.1", "10.2"};
+    uint8_t out[PLAIN_MEASUREMENT_MAX];
+    struct plain_measurement m;
+    struct plain_written again = {0, 0};
+    if (!read_bytes(w[1]))
+        return false;
+    uint64_t n = plain_read_measurement(bytes, byte_count, &m);
+    if (n == 0)
+        again = plain_write_measurement(&m, out, sizeof out);
+    print_some(n, out, again.length);
+    unsigned flows = print_flow("1", plain_power_flow(&m)) + print_flow("40", plain_dc_flow(&m));
+    for (unsigned i = 0; i < PLAIN_PHASES; i++)
+        flows += print_flow(phases[i], plain_phase_flow(&m, i));
+    printf(flows == 0 ? " -\n" : "\n");
+    return true;
+}
+
 static bool do_conf(char **w)
 {
     static uint64_t pairs[PAIRS_ROOM];
@@ -302,7 +336,7 @@ static const struct {
     {"clear", 2, do_clear},    {"move", 2, do_move},         {"ask", 1, do_ask},
     {"plan", 2, do_plan},      {"request", 2, do_request},   {"response", 3, do_response},
     {"rows", 2, do_rows},      {"frame", 5, do_frame},       {"scrap", 4, do_scrap},
-    {"conf", 11, do_conf},
+    {"conf", 11, do_conf},     {"meas", 2, do_meas},
 };
 
 /* Words parted by one space: their count, or -1 where there are too many. */

@@ -14,6 +14,7 @@ static uint64_t device[CEKARUM_WORDS];
 #define DEVICE device
 static struct cekarum_receiver receiver;
 static struct cekarum_row records[CEKARUM_ROWS_MAX];
+static struct cekarum_measurement measurement;
 #else
 #define CALL(name) plain_##name
 #define VALUES value
@@ -21,6 +22,7 @@ static struct plain device;
 #define DEVICE &device
 static struct plain_receiver receiver;
 static struct plain_row records[PLAIN_ROWS];
+static struct plain_measurement measurement;
 #endif
 
 static uint8_t in[PLAIN_FRAME_MAX], out[PLAIN_FRAME_MAX], room[PLAIN_FRAME_MAX];
@@ -276,7 +278,70 @@ static void eight_lost(uint64_t step)
 static void lost_zones(void) { eight_lost(0); }
 static void rows_lost(void) { eight_lost(1); }
 
+/* Every cell of what is measured, with its largest number. */
+static void measured_full(void)
+{
+    static const struct {
+        unsigned cells;
+        uint64_t most;
+    } runs[] = {{15, INT64_MAX}, {7, UINT32_MAX}, {1, 1000},      {2, UINT64_MAX}, {2, INT64_MAX}, {1, UINT32_MAX},
+                {2, UINT64_MAX}, {2, 100},        {2, UINT64_MAX}, {1, UINT32_MAX}, {1, 32767}};
+    struct plain_measurement m;
+    unsigned at = 0;
+    for (size_t i = 0; i < sizeof runs / sizeof *runs; i++)
+        for (unsigned j = 0; j < runs[i].cells; j++)
+            m.cell[at++] = (struct plain_cell){1, runs[i].most};
+    in_length = plain_write_measurement(&m, in, sizeof in).length;
+#ifdef PROVED
+    measurement = cekarum_read_measurement(in, in_length).measurement;
+#else
+    plain_read_measurement(in, in_length, &measurement);
+#endif
+}
+
+/* Attributes 40 and 50 of a battery, and the least of 60. */
+static void measured_few(void)
+{
+    static const uint8_t few[] = {0xa3, 0x18, 0x28, 0x1a, 0x00, 0x1e, 0x84, 0x80, 0x18,
+                                  0x32, 0x18, 0x41, 0x18, 0x3c, 0x39, 0x7f, 0xff};
+    memcpy(in, few, sizeof few);
+    in_length = sizeof few;
+}
+
+/* Attribute 1, then unknown keys up to 2,048 bytes. */
+static void measured_unknown(void)
+{
+    size_t at = 5, entries = 1;
+    for (unsigned key = 256; at + 4 <= 2048; key++, entries++) {
+        in[at++] = 0x19;
+        in[at++] = (uint8_t)(key >> 8);
+        in[at++] = (uint8_t)key;
+        in[at++] = 0x05;
+    }
+    in[0] = 0xb9;
+    in[1] = (uint8_t)(entries >> 8);
+    in[2] = (uint8_t)entries;
+    in[3] = in[4] = 0x01;
+    in_length = at;
+}
+
 /* ---- the calls ---- */
+
+static void measurement_reads(uint64_t times)
+{
+    for (uint64_t i = 0; i < times; i++)
+#ifdef PROVED
+        kept = cekarum_read_measurement(in, in_length).number;
+#else
+        kept = plain_read_measurement(in, in_length, &measurement);
+#endif
+}
+
+static void measurement_writes(uint64_t times)
+{
+    for (uint64_t i = 0; i < times; i++)
+        kept = CALL(write_measurement)(&measurement, out, sizeof out).number;
+}
 
 static void frames(uint64_t times)
 {
@@ -420,6 +485,10 @@ static const struct {
     {"lost", "lost and back, 2 zones", 0, two_zones, losts_and_backs},
     {"override", "override and clear", 0, no_zone, overrides_and_clears},
     {"move", "clock moved, 8 zones", 0, eight_zones, moves},
+    {"measread", "measurement read, all of it", 0, measured_full, measurement_reads},
+    {"measfew", "measurement read, 3 attributes", 0, measured_few, measurement_reads},
+    {"measkeys", "measurement read, 2,048 bytes of unknown keys", 0, measured_unknown, measurement_reads},
+    {"measwrite", "measurement written, all of it", 0, measured_full, measurement_writes},
     {"scrapall", "2,052 bytes received in one scrap", 0, string_2048, scraps_all},
     {"scrap1460", "2,052 bytes received in scraps of 1,460", 0, string_2048, scraps_1460},
     {"scrap64", "2,052 bytes received in scraps of 64", 0, string_2048, scraps_64},

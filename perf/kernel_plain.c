@@ -52,4 +52,9 @@ const struct kernel KERNEL = {
     .write_response = plain_write_response,
     .receive = plain_receive,
     .report = plain_report,
+    .read_measurement = plain_read_measurement,
+    .write_measurement = plain_write_measurement,
+    .power_flow = plain_power_flow,
+    .dc_flow = plain_dc_flow,
+    .phase_flow = plain_phase_flow,
 };

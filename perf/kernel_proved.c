@@ -176,6 +176,79 @@ static struct plain_written report(const struct plain_inputs *in, const uint16_t
     return written(cekarum_report(i, attributes, n, pairs, room));
 }
 
+/* Cells are two words each, as they are beneath the header. */
+static void to_words(const struct plain_measurement *m, uint64_t *words)
+{
+    for (unsigned i = 0; i < PLAIN_CELLS; i++) {
+        words[2 * i] = m->cell[i].mark;
+        words[2 * i + 1] = m->cell[i].size;
+    }
+}
+
+static void to_cells(const uint64_t *words, struct plain_measurement *m)
+{
+    for (unsigned i = 0; i < PLAIN_CELLS; i++)
+        m->cell[i] = (struct plain_cell){words[2 * i], words[2 * i + 1]};
+}
+
+/* Whether the struct can say what the words say: not a mark that is none, nor a number that its field cannot hold. */
+static bool named_measurement(const struct plain_measurement *m, struct cekarum_measurement *named)
+{
+    uint64_t words[CEKARUM_MEASUREMENT_WORDS], again[CEKARUM_MEASUREMENT_WORDS];
+    to_words(m, words);
+    cekarum_measurement_of(words, named);
+    cekarum_measurement_words(named, again);
+    for (unsigned i = 0; i < CEKARUM_MEASUREMENT_WORDS; i++)
+        if (words[i] != again[i])
+            return false;
+    return true;
+}
+
+static uint64_t read_measurement(const uint8_t *in, size_t n, struct plain_measurement *m)
+{
+    struct cekarum_measurement_read got = cekarum_read_measurement(in, n);
+    uint64_t words[CEKARUM_MEASUREMENT_WORDS];
+    cekarum_measurement_words(&got.measurement, words);
+    to_cells(words, m);
+    return got.number;
+}
+
+static struct plain_written write_measurement(const struct plain_measurement *m, uint8_t *out, size_t room)
+{
+    struct cekarum_measurement named;
+    if (named_measurement(m, &named))
+        return written(cekarum_write_measurement(&named, out, room));
+    uint64_t words[CEKARUM_MEASUREMENT_WORDS];
+    struct plain_written w;
+    to_words(m, words);
+    w.number = cekarum_raw_write_measurement(words, out, room, &w.length);
+    return w;
+}
+
+static uint64_t power_flow(const struct plain_measurement *m)
+{
+    struct cekarum_measurement named;
+    uint64_t words[CEKARUM_MEASUREMENT_WORDS];
+    to_words(m, words);
+    return named_measurement(m, &named) ? cekarum_power_flow(&named) : cekarum_raw_power_flow(words);
+}
+
+static uint64_t dc_flow(const struct plain_measurement *m)
+{
+    struct cekarum_measurement named;
+    uint64_t words[CEKARUM_MEASUREMENT_WORDS];
+    to_words(m, words);
+    return named_measurement(m, &named) ? cekarum_dc_flow(&named) : cekarum_raw_dc_flow(words);
+}
+
+static uint64_t phase_flow(const struct plain_measurement *m, uint64_t phase)
+{
+    struct cekarum_measurement named;
+    uint64_t words[CEKARUM_MEASUREMENT_WORDS];
+    to_words(m, words);
+    return named_measurement(m, &named) ? cekarum_phase_flow(&named, phase) : cekarum_raw_phase_flow(words, phase);
+}
+
 const struct kernel second_kernel = {
     .name = "proved",
     .size = 8 * CEKARUM_WORDS,
@@ -197,4 +270,9 @@ const struct kernel second_kernel = {
     .write_response = write_response,
     .receive = receive,
     .report = report,
+    .read_measurement = read_measurement,
+    .write_measurement = write_measurement,
+    .power_flow = power_flow,
+    .dc_flow = dc_flow,
+    .phase_flow = phase_flow,
 };

@@ -570,6 +570,122 @@ void mix_response_fields(uint64_t command, struct plain_response *r)
         r->value[mix_below(2)] = r->current[mix_below(PLAIN_PHASES)] = -2;
 }
 
+/* ---- what is measured ---- */
+
+/* Attributes by number, cells, and range: up to high, and from -1 - n with n below `below`. */
+struct attribute {
+    uint64_t number, cells, below, high;
+};
+
+enum { ATTRIBUTES = 24 };
+
+static const struct attribute measured[ATTRIBUTES] = {
+    {1, 1, BIT(63), INT64_MAX},  {2, 1, BIT(63), INT64_MAX},  {3, 1, 0, UINT64_MAX},       {10, 3, BIT(63), INT64_MAX},
+    {11, 3, BIT(63), INT64_MAX}, {12, 3, BIT(63), INT64_MAX}, {20, 3, BIT(63), INT64_MAX}, {21, 3, 0, UINT32_MAX},
+    {22, 3, 0, UINT32_MAX},      {23, 1, 0, UINT32_MAX},      {24, 1, 1000, 1000},         {30, 1, 0, UINT64_MAX},
+    {31, 1, 0, UINT64_MAX},      {40, 1, BIT(63), INT64_MAX}, {41, 1, BIT(63), INT64_MAX}, {42, 1, 0, UINT32_MAX},
+    {43, 1, 0, UINT64_MAX},      {44, 1, 0, UINT64_MAX},      {50, 1, 0, 100},             {51, 1, 0, 100},
+    {52, 1, 0, UINT64_MAX},      {53, 1, 0, UINT64_MAX},      {54, 1, 0, UINT32_MAX},      {60, 1, 32768, 32767},
+};
+
+/* How often, of a thousand, a number is put past its range, or another thing in its place; and how often it is the last of it. */
+static unsigned spoilt, at_end;
+
+/* A number of a range, often at one of its ends. */
+static struct plain_cell cell(const struct attribute *a)
+{
+    bool negative = a->below > 0 && mix_chance(400);
+    uint64_t most = negative ? a->below - 1 : a->high, past = mix_chance(spoilt) ? 1 : 0;
+    if (past == 1 && !negative && a->below == 0 && mix_chance(300))
+        return (struct plain_cell){2, mix_below(3)};
+    if (past == 1 || mix_chance(at_end))
+        return (struct plain_cell){1 + negative, most + past};
+    return (struct plain_cell){1 + negative, (mix_chance(300) ? mix_below(3) : mix_any() >> mix_below(64)) & most};
+}
+
+static void cell_item(struct bytes *to, const struct attribute *a)
+{
+    struct plain_cell c = cell(a);
+    if (mix_chance(spoilt))
+        item(to, 2);
+    else
+        head(to, c.mark == 2 ? 1 : 0, c.size);
+}
+
+/* Of three phases some; now and then none, or a fourth. */
+static void cells_item(struct bytes *to, const struct attribute *a)
+{
+    static struct entries phases;
+    phases.count = phases.body.n = 0;
+    unsigned which = mix_chance(spoilt) ? 0 : mix_chance(at_end) ? 7 : 1 + (unsigned)mix_below(7);
+    for (uint64_t p = 0; p < PLAIN_PHASES; p++)
+        if (which >> p & 1) {
+            key(&phases, p);
+            cell_item(&phases.body, a);
+        }
+    if (mix_chance(spoilt)) {
+        key(&phases, 3 + mix_below(2));
+        cell_item(&phases.body, a);
+    }
+    close_map(to, &phases);
+}
+
+static void attribute_entries(struct entries *e)
+{
+    unsigned keep = mix_chance(300) ? 1000 : (unsigned)mix_below(600);
+    spoilt = mix_chance(700) ? 0 : mix_chance(800) ? 20 : 300;
+    at_end = mix_chance(100) ? 1000 : 200;
+    unsigned unknowns = mix_chance(300) ? 100 : 0;
+    uint64_t next = 0;
+    for (unsigned i = 0; i < ATTRIBUTES; i++) {
+        const struct attribute *a = &measured[i];
+        if (mix_chance(unknowns) && next < a->number)
+            unknown(e, next + mix_below(a->number - next), 7);
+        next = a->number + 1;
+        if (!mix_chance(keep))
+            continue;
+        key(e, a->number);
+        (a->cells == 1 ? cell_item : cells_item)(&e->body, a);
+    }
+    if (mix_chance(unknowns))
+        unknown(e, 61 + mix_below(1000), 7);
+}
+
+void mix_measurement(struct bytes *to)
+{
+    static struct entries e;
+    e.count = e.body.n = to->n = 0;
+    long_heads = mix_chance(20) ? 60 : 0;
+    attribute_entries(&e);
+    if (mix_chance(20)) {
+        uint64_t n = mix_chance(500) ? mix_below(2100) : 2048 - e.body.n - 8 + mix_below(6);
+        key(&e, 2000);
+        string_item(&e.body, 2, n < MIX_MOST / 2 ? n : 0);
+    }
+    close_map(to, &e);
+    if (mix_chance(10)) {
+        to->n = 0;
+        if (mix_chance(700))
+            item(to, 7);
+    }
+    if (mix_chance(80))
+        damage(to);
+}
+
+void mix_measurement_cells(struct plain_measurement *m)
+{
+    struct plain_cell *c = m->cell;
+    unsigned keep = mix_chance(300) ? 1000 : (unsigned)mix_below(800);
+    spoilt = mix_chance(800) ? 0 : 30;
+    at_end = mix_chance(100) ? 1000 : 200;
+    for (unsigned i = 0; i < ATTRIBUTES; i++)
+        for (uint64_t k = 0; k < measured[i].cells; k++, c++) {
+            *c = mix_chance(keep) ? cell(&measured[i]) : (struct plain_cell){0, mix_chance(100) ? edge() : 0};
+            if (mix_chance(spoilt))
+                c->mark = mix_chance(500) ? 3 : edge();
+        }
+}
+
 /* ---- settings and inputs ---- */
 
 void mix_settings(struct plain_settings *s, bool sound)

@@ -24,4 +24,8 @@ void mix_request(struct bytes *to, const struct plain_settings *s);
 void mix_response(struct bytes *to, uint64_t command); /* half of the results are this command's */
 void mix_request_fields(struct plain_request *r, const struct plain_settings *s);
 void mix_response_fields(uint64_t command, struct plain_response *r);
+
+/* Payloads of what is measured, and cells for the writer: most are sound. */
+void mix_measurement(struct bytes *to);
+void mix_measurement_cells(struct plain_measurement *m);
 #endif

@@ -19,3 +19,8 @@
 #define plain_write_response other_write_response
 #define plain_report other_report
 #define plain_receive other_receive
+#define plain_read_measurement other_read_measurement
+#define plain_write_measurement other_write_measurement
+#define plain_power_flow other_power_flow
+#define plain_dc_flow other_dc_flow
+#define plain_phase_flow other_phase_flow

@@ -1283,3 +1283,216 @@ struct plain_received plain_receive(struct plain_receiver *r, uint8_t *room, siz
         *r = (struct plain_receiver){0, 0, 0};
     return (struct plain_received){0, taken, length};
 }
+
+/* ---- what is measured ---- */
+
+/* A natural number up to high, or -1 - n with n below `below`. */
+struct range {
+    uint64_t below, high;
+};
+
+enum type { INT64, UINT64, UINT32, INT16, FACTOR, PERCENT };
+
+static const struct range type_ranges[] = {
+    [INT64] = {UINT64_C(1) << 63, INT64_MAX},
+    [UINT64] = {0, UINT64_MAX},
+    [UINT32] = {0, UINT32_MAX},
+    [INT16] = {32768, 32767},
+    [FACTOR] = {1000, 1000},
+    [PERCENT] = {0, 100},
+};
+
+/* Document 002: number, cells, type. */
+static const struct measured {
+    uint8_t number, cells, type;
+} measured[] = {
+    {1, 1, INT64},    /* acActivePower */
+    {2, 1, INT64},    /* acReactivePower */
+    {3, 1, UINT64},   /* acApparentPower */
+    {10, 3, INT64},   /* acActivePowerPerPhase */
+    {11, 3, INT64},   /* acReactivePowerPerPhase */
+    {12, 3, INT64},   /* acApparentPowerPerPhase */
+    {20, 3, INT64},   /* acCurrentPerPhase */
+    {21, 3, UINT32},  /* acVoltagePerPhase */
+    {22, 3, UINT32},  /* acVoltagePhaseToPhasePair */
+    {23, 1, UINT32},  /* acFrequency */
+    {24, 1, FACTOR},  /* powerFactor */
+    {30, 1, UINT64},  /* acEnergyConsumed */
+    {31, 1, UINT64},  /* acEnergyProduced */
+    {40, 1, INT64},   /* dcPower */
+    {41, 1, INT64},   /* dcCurrent */
+    {42, 1, UINT32},  /* dcVoltage */
+    {43, 1, UINT64},  /* dcEnergyIn */
+    {44, 1, UINT64},  /* dcEnergyOut */
+    {50, 1, PERCENT}, /* stateOfCharge */
+    {51, 1, PERCENT}, /* stateOfHealth */
+    {52, 1, UINT64},  /* stateOfEnergy */
+    {53, 1, UINT64},  /* useableCapacity */
+    {54, 1, UINT32},  /* cycleCount */
+    {60, 1, INT16},   /* temperature */
+};
+
+static const struct measured *const measured_end = measured + sizeof measured / sizeof *measured;
+
+/* The cells of attributes 1, 10 and 40. */
+enum { POWER_CELL = 0, PHASE_CELL = 3, DC_CELL = 25 };
+
+static bool cell_fits(const struct plain_cell *c, const struct range *r)
+{
+    switch (c->mark) {
+    case 0:
+        return true;
+    case 1:
+        return c->size <= r->high;
+    case 2:
+        return c->size < r->below;
+    default:
+        return false;
+    }
+}
+
+/* A number of a range at p, in a payload that was scanned: what follows it, or NULL. */
+static const uint8_t *read_cell(const uint8_t *p, const uint8_t *end, const struct range *r, struct plain_cell *to)
+{
+    unsigned kind;
+    p = head(p, end, &kind, &to->size);
+    to->mark = kind;
+    return kind <= NEGATIVE && cell_fits(to, r) ? p : NULL;
+}
+
+/* A map of phases at p, which is not empty: what follows it, or NULL. */
+static const uint8_t *read_phases(const uint8_t *p, const uint8_t *end, const struct range *r, struct plain_cell *to)
+{
+    unsigned kind;
+    uint64_t left, phase;
+    p = head(p, end, &kind, &left);
+    if (kind != MAP || left == 0)
+        return NULL;
+    for (; left > 0 && p != NULL; left--) {
+        p = head(p, end, &kind, &phase);
+        p = phase < PLAIN_PHASES ? read_cell(p, end, r, &to[phase]) : NULL;
+    }
+    return p;
+}
+
+/* What follows the item at p, in a payload that was scanned. */
+static const uint8_t *skip(const uint8_t *p, const uint8_t *end)
+{
+    unsigned kind;
+    uint64_t argument;
+    for (uint64_t items = 1; items > 0; items--) {
+        p = head(p, end, &kind, &argument);
+        if (kind == BYTES || kind == TEXT)
+            p += argument;
+        else if (kind == ARRAY || kind == MAP)
+            items += kind == MAP ? 2 * argument : argument;
+    }
+    return p;
+}
+
+/* The entries of the map at p beside the table: both ascend. */
+static bool read_attributes(const uint8_t *p, const uint8_t *end, struct plain_cell *to)
+{
+    const struct measured *a = measured;
+    unsigned kind;
+    uint64_t left, key;
+    p = head(p, end, &kind, &left);
+    for (; left > 0 && p != NULL; left--) {
+        p = head(p, end, &kind, &key);
+        for (; a < measured_end && a->number < key; a++)
+            to += a->cells;
+        if (a == measured_end || a->number != key)
+            p = skip(p, end);
+        else
+            p = (a->cells == 1 ? read_cell : read_phases)(p, end, &type_ranges[a->type], to);
+    }
+    return p != NULL;
+}
+
+uint64_t plain_read_measurement(const uint8_t *in, size_t n, struct plain_measurement *m)
+{
+    struct scan s;
+    *m = (struct plain_measurement){0};
+    if (n < 1 || n > PLAIN_FRAME_MAX - 4)
+        return 1;
+    if (!scan(in, n, (struct places){0, 0}, &s))
+        return 2;
+    if (s.is_map && read_attributes(in, in + n, m->cell))
+        return 0;
+    *m = (struct plain_measurement){0};
+    return 3;
+}
+
+/* How many of an attribute's cells are there; more than there are where one is out of range. */
+static unsigned cells_there(const struct measured *a, const struct plain_cell *c)
+{
+    unsigned there = 0;
+    for (unsigned i = 0; i < a->cells; i++) {
+        if (!cell_fits(&c[i], &type_ranges[a->type]))
+            return PLAIN_CELLS;
+        there += c[i].mark != 0;
+    }
+    return there;
+}
+
+static uint8_t *put_cell(uint8_t *to, unsigned key, const struct plain_cell *c)
+{
+    if (c->mark == 0)
+        return to;
+    return put(put(to, 0, key), c->mark == 2 ? 1 : 0, c->size);
+}
+
+static uint8_t *put_attribute(uint8_t *to, const struct measured *a, const struct plain_cell *c)
+{
+    unsigned there = cells_there(a, c);
+    if (there == 0)
+        return to;
+    if (a->cells == 1)
+        return put_cell(to, a->number, c);
+    to = put(put(to, 0, a->number), 5, there);
+    for (unsigned i = 0; i < a->cells; i++)
+        to = put_cell(to, i, &c[i]);
+    return to;
+}
+
+struct plain_written plain_write_measurement(const struct plain_measurement *m, uint8_t *out, size_t room)
+{
+    uint8_t payload[PLAIN_MEASUREMENT_MAX];
+    const struct plain_cell *c = m->cell;
+    unsigned entries = 0;
+    for (const struct measured *a = measured; a < measured_end; c += a->cells, a++) {
+        unsigned there = cells_there(a, c);
+        if (there > a->cells)
+            return (struct plain_written){3, 0};
+        entries += there > 0;
+    }
+    uint8_t *to = put(payload, 5, entries);
+    c = m->cell;
+    for (const struct measured *a = measured; a < measured_end; c += a->cells, a++)
+        to = put_attribute(to, a, c);
+    size_t length = (size_t)(to - payload);
+    return put_frame(payload, length, out, room) ? (struct plain_written){0, length} : (struct plain_written){15, 0};
+}
+
+/* The load convention: positive flows in, negative flows out. */
+static uint64_t flow_of(const struct plain_cell *c)
+{
+    if (c->mark == 1)
+        return c->size == 0 ? PLAIN_FLOW_NONE : PLAIN_FLOW_IN;
+    return c->mark == 2 ? PLAIN_FLOW_OUT : PLAIN_FLOW_ABSENT;
+}
+
+uint64_t plain_power_flow(const struct plain_measurement *m)
+{
+    return flow_of(&m->cell[POWER_CELL]);
+}
+
+uint64_t plain_dc_flow(const struct plain_measurement *m)
+{
+    return flow_of(&m->cell[DC_CELL]);
+}
+
+uint64_t plain_phase_flow(const struct plain_measurement *m, uint64_t phase)
+{
+    return phase < PLAIN_PHASES ? flow_of(&m->cell[PHASE_CELL + phase]) : PLAIN_FLOW_ABSENT;
+}

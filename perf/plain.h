@@ -131,6 +131,28 @@ struct plain_received {
 
 struct plain_received plain_receive(struct plain_receiver *r, uint8_t *room, size_t room_length, const uint8_t *scrap, size_t n);
 
+/* What is measured: cells in the order of document 002's attributes, three for a map of phases. The mark 0: nothing; 1: size;
+   2: -1 - size. */
+enum { PLAIN_CELLS = 36, PLAIN_MEASUREMENT_MAX = 326 };
+
+struct plain_cell {
+    uint64_t mark, size;
+};
+
+struct plain_measurement {
+    struct plain_cell cell[PLAIN_CELLS];
+};
+
+enum { PLAIN_FLOW_ABSENT, PLAIN_FLOW_NONE, PLAIN_FLOW_IN, PLAIN_FLOW_OUT };
+
+uint64_t plain_read_measurement(const uint8_t *in, size_t n, struct plain_measurement *m);
+struct plain_written plain_write_measurement(const struct plain_measurement *m, uint8_t *out, size_t room);
+
+/* The flow of attribute 1, of 40, and of a phase of 10. */
+uint64_t plain_power_flow(const struct plain_measurement *m);
+uint64_t plain_dc_flow(const struct plain_measurement *m);
+uint64_t plain_phase_flow(const struct plain_measurement *m, uint64_t phase);
+
 /* Pairs: two numbers each, group then bit or attribute. */
 struct plain_written plain_report(const struct plain_inputs *in, const uint16_t *attributes, size_t n, uint64_t *pairs,
                                   size_t room);
