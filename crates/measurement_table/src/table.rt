@@ -62,12 +62,30 @@ const KINDS: usize = 6;
 
 // By kind, in the order of their numbers above.
 const RANGES: [Range; KINDS] = [
-    Range { below: 9223372036854775808, high: 9223372036854775807 },
-    Range { below: 0, high: 18446744073709551615 },
-    Range { below: 0, high: 4294967295 },
-    Range { below: 32768, high: 32767 },
-    Range { below: 1000, high: 1000 },
-    Range { below: 0, high: 100 },
+    Range {
+        below: 9223372036854775808,
+        high: 9223372036854775807,
+    },
+    Range {
+        below: 0,
+        high: 18446744073709551615,
+    },
+    Range {
+        below: 0,
+        high: 4294967295,
+    },
+    Range {
+        below: 32768,
+        high: 32767,
+    },
+    Range {
+        below: 1000,
+        high: 1000,
+    },
+    Range {
+        below: 0,
+        high: 100,
+    },
 ];
 
 // The range of a kind; that of no kind holds 0 alone.
@@ -79,4 +97,3 @@ pub fn range_of(kind: usize) -> Range
     }
     Range { below: 0, high: 0 }
 }
-

@@ -41,10 +41,16 @@ pub fn place_at(words: &Words, at: usize) -> Place
         let mark = words[2 * at];
         let size = words[2 * at + 1];
         if mark == 1 {
-            return Place { mark: 1, size: size };
+            return Place {
+                mark: 1,
+                size: size,
+            };
         }
         if mark == 2 {
-            return Place { mark: 2, size: size };
+            return Place {
+                mark: 2,
+                size: size,
+            };
         }
         return Place { mark: 0, size: 0 };
     }
@@ -59,5 +65,7 @@ pub fn put_place(words: &mut Words, at: usize, p: Place)
     if at < PLACES {
         words[2 * at] = p.mark;
         words[2 * at + 1] = p.size;
+        return;
     }
+    let _a = all(words);
 }
