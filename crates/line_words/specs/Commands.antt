@@ -33,6 +33,7 @@ table =
     ∷ (114 ∷ 101 ∷ 113 ∷ 117 ∷ 101 ∷ 115 ∷ 116 ∷ [], says Command.Request 2)  -- request
     ∷ (114 ∷ 101 ∷ 115 ∷ 112 ∷ 111 ∷ 110 ∷ 115 ∷ 101 ∷ [], says Command.Response 3)  -- response
     ∷ (99 ∷ 111 ∷ 110 ∷ 102 ∷ [], says Command.Conf 11)  -- conf
+    ∷ (109 ∷ 101 ∷ 97 ∷ 115 ∷ [], says Command.Meas 2)  -- meas
     ∷ []
 
 -- what its rows say, in their order

@@ -23,13 +23,14 @@ pub enum Command {
     Request,
     Response,
     Conf,
+    Meas,
 }
 
 // What a line's name says: its command, and how many words the line has.
 pub struct Line(pub Command, pub usize);
 
 // How many names there are.
-const NAMES: usize = 15;
+const NAMES: usize = 16;
 
 // What each name says, in the order of the names in `named`.
 const TABLE: [Line; NAMES] = [
@@ -48,6 +49,7 @@ const TABLE: [Line; NAMES] = [
     Line(Command::Request, 2),
     Line(Command::Response, 3),
     Line(Command::Conf, 11),
+    Line(Command::Meas, 2),
 ];
 
 // No line has no words.
@@ -73,7 +75,7 @@ fn named(word: &[u8]) -> Line
 {
     line_at(place(
         word,
-        b"start join leave lost back override clear move ask plan rows frame request response conf",
+        b"start join leave lost back override clear move ask plan rows frame request response conf meas",
     ))
 }
 
@@ -99,7 +101,7 @@ pub fn read_numbers(line: &[u8], ends: &[usize], c: Command, fields: &mut [u64])
         Command::Clear | Command::Move | Command::Response => read(line, ends, b"n", fields),
         Command::Plan | Command::Rows => read(line, ends, b"r", fields),
         Command::Frame => read(line, ends, b"nnr", fields),
-        Command::Ask | Command::Request => true,
+        Command::Ask | Command::Request | Command::Meas => true,
         Command::Conf => read(line, ends, b"nnnnffffr", fields),
     }
 }

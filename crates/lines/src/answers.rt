@@ -10,6 +10,7 @@ use line_words::FIELDS;
 use line_words::line_of;
 use line_words::read_numbers;
 use line_words::smaller;
+use meas_lines::meas;
 use receiver::RECORD;
 use row_lines::rows;
 use scrap_lines::is_scrap;
@@ -118,6 +119,7 @@ fn run(
             at,
         ),
         Command::Conf => conf(f, word, out, at),
+        Command::Meas => meas(word, bytes, out, at),
         _ => put_number(out, at, call(d, c, f)),
     }
 }

@@ -7,6 +7,7 @@
 // frame ZONE TIME ROOM BYTES, request BYTES, response COMMAND BYTES
 // scrap new ROOM BYTES, scrap same ROOM BYTES
 // conf TYPE MAP PHASES DIRECTIONS LIMITS CURRENT SETPOINTS PROCESS ROOM ATTRIBUTES
+// meas BYTES
 //
 // Words are parted by one space, numbers are decimal, bytes are lowercase hex, `-` is none. Any other line is answered
 // `bad line` and changes nothing; an empty line has no answer.
