@@ -1,0 +1,57 @@
+// A payload of Measurement, read.
+use crate::walk::rows_into;
+use heads::Head;
+use measurement_table::Words;
+use measurement_table::clear;
+ghost use mathlib.Core.Path.{_≡_};
+ghost use mathlib.Core.Bool.{_&&_};
+ghost use lib.Dec.{leb};
+ghost use Rattle.heads.specs.Head.{headAt};
+ghost use Rattle.measurement_table.specs.Payload.{readNumber, cellsRead};
+ghost use Rattle.measurement_table.specs.Words.{flat};
+ghost use Rattle.measurement_reader.specs.Walk.{Filled, payloadAt};
+
+const LONGEST: usize = 2048;
+
+fn has_length(n: usize) -> bool
+    ensures { λ r. ⌜ r ≡ (leb 1 n && leb n 2048) ⌝ }
+{
+    if n == 0 {
+        return false;
+    }
+    n <= LONGEST
+}
+
+// The rows of a payload, which is one item.
+fn payload_into(s: &[u8], words: &mut Words) -> bool
+    ensures { λ r. ⌜ Filled (payloadAt (now (s .entry)) (headAt (now (s .entry)) 0)) 0 (now (words .entry)) r (now (words .exit)) ⌝ }
+{
+    match heads::read_head(s, 0) {
+        Head::Bad => false,
+        Head::Is(major, n, next) => {
+            if major != 5 {
+                return false;
+            }
+            rows_into(s, next, n, words)
+        }
+    }
+}
+
+// Reads a payload into cells: 0, or the refusal 1, 2 or 3, which leaves nothing in all cells.
+pub fn read_measurement(s: &[u8], words: &mut Words) -> u64
+    ensures { λ r. ⌜ r ≡ readNumber (now (s .entry)) ⌝ }
+    ensures { λ _. ⌜ now (words .exit) ≡ flat (cellsRead (now (s .entry))) ⌝ }
+{
+    clear(words);
+    if !has_length(s.len()) {
+        return 1;
+    }
+    if !cbor::is_item(s) {
+        return 2;
+    }
+    if payload_into(s, words) {
+        return 0;
+    }
+    clear(words);
+    3
+}
