@@ -1,0 +1,23 @@
+-- The cases of specs/Examples, computed. Assumes nothing.
+use mathlib.Core.Path.{_≡_, refl}
+use mathlib.Core.List.{map, _++_}
+use mathlib.Core.Option.{bind}
+use Rattle.bytes.specs.Bytes.{numberAt, bytesOf}
+use Rattle.heads.specs.Head.{infoOf, widthOf, headBytes, argAt, headAt}
+use Rattle.heads.specs.Key.{keyAt}
+use Rattle.cbor.specs.Item.{countPairs, encode, encodePairs, itemAt, itemsAt, pairsAt, fromHead, payloadOf}
+use Rattle.cbor.specs.Find.{valueOf}
+use Rattle.messages.specs.Refusals.{firstOf}
+use Rattle.map_fields.specs.Fields.{mapIn, present}
+use Rattle.map_fields.specs.Ranges.{within, numberIn}
+use Rattle.map_fields.specs.ByPhase.{keysBelow}
+use Rattle.measurement_table.specs.Table.{rows, ranges, rangeOf}
+use Rattle.measurement_table.specs.Cells.{cellIn, cellsFrom, phasesIn, blanks, rowIn, rowsIn, cellItem, phaseFields, someMap, firstItem, rowItem, fieldsOf}
+use Rattle.measurement_table.specs.Payload.{cellsOf, readNumber, orBlank, cellsRead, itemOf}
+use Rattle.measurement_laws.specs.Examples.{plain, others, found, written, Worked}
+
+pub worked : Worked
+unfolding plain others found written readNumber firstOf cellsOf orBlank cellsRead payloadOf itemAt fromHead pairsAt itemsAt keyAt headAt argAt numberAt widthOf
+    infoOf mapIn bind valueOf rows ranges rangeOf within numberIn cellIn cellsFrom keysBelow phasesIn blanks rowIn rowsIn itemOf encode encodePairs headBytes
+    bytesOf countPairs present cellItem phaseFields someMap firstItem rowItem fieldsOf
+worked = (refl, refl)

@@ -1,0 +1,233 @@
+-- What is written for a table is well formed, and no longer than its ranges have it. Assumes nothing.
+use Prim.Native.Nat.{ℕ, zero, suc, _+_, _^_, _≤_, _<_}
+use mathlib.Core.Path.{_≡_, refl, ap}
+use mathlib.Core.Bool.{Bool, true, false, cond}
+use mathlib.Core.List.{List, [], _∷_}
+use mathlib.Core.Option.{some, none}
+use native.Mathlib.Omega.{arith}
+use lib.ListN.{length, getD, take, drop, length-append}
+use lib.Dec.{eqb}
+use lib.IntN.{pos, negsuc}
+use borrow.Author.Tests.{ltb-true, leb-true}
+use Rattle.heads.specs.Head.{infoOf, widthOf, headLen, headBytes}
+use Rattle.heads.proofs.Widths.{by-width, head-length, len-positive}
+use Rattle.bytes.specs.Bytes.{bytesOf}
+use Rattle.cbor.specs.Item.{Item, Pairs, Ok, encode, encodePairs, countPairs}
+use Rattle.map_fields.specs.Fields.{Fields, present}
+use Rattle.map_fields.specs.Ranges.{within}
+use Rattle.map_fields.specs.Puts.{fieldBytes}
+use Rattle.map_fields.specs.declared.ranges.Range.{Range}
+use Rattle.map_fields.proofs.Joined.{and-left, and-right}
+use Rattle.map_fields.proofs.Added.{map-bytes, fields-none, fields-more}
+use Rattle.frame_laws.proofs.Maps.{OkField, OkFields, ok-map, count-fields}
+use Rattle.measurement_table.specs.Table.{rows, ranges, rangeOf}
+use Rattle.measurement_table.specs.Cells.{Cell, blanks, cellItem, phaseFields, someMap, firstItem, rowItem, fieldsOf, cellFits, cellsFit, rowsFit}
+use Rattle.measurement_table.specs.Payload.{itemOf}
+use Rattle.measurement_table.specs.declared.table.Row.{Row}
+use Rattle.measurement_table.proofs.Order.{Rising, table-long}
+use Rattle.measurement_laws.specs.Longest.{PayloadLongest, PayloadReached}
+use Rattle.measurement_laws.proofs.Back.{phases-ascend, fields-ascend}
+
+-- every range is within 64 bits
+abbrev Wide : Range → Type 0
+Wide g = (g .below ≤ 2 ^ 64) × (g .high < 2 ^ 64)
+
+abbrev AllWide : List Range → Type 0
+AllWide [] = Unit {0}
+AllWide (g ∷ gs) = Wide g × AllWide gs
+
+wide-at : (gs : List Range) (k : ℕ) (g : Range) → AllWide gs → Wide g → Wide (getD gs k g)
+wide-at [] k g a w = w
+wide-at (x ∷ gs) zero g a w = a .0
+wide-at (x ∷ gs) (suc k) g a w = wide-at gs k g (a .1) w
+
+kind-wide : (k : ℕ) → Wide (rangeOf k)
+unfolding rangeOf ranges
+kind-wide k =
+    wide-at ranges k _
+    ((omega arith, omega arith), ((omega arith, omega arith), ((omega arith, omega arith), ((omega arith, omega arith), ((omega arith, omega arith), ((omega arith, omega arith), tt))))))
+    (omega arith, omega arith)
+
+-- WELL FORMED
+module _ (k : ℕ) where
+  ok-cell : (d : ℕ) (c : Cell) → cellFits (rangeOf k) c ≡ true → OkField (cellItem c) d
+  unfolding cellItem cellFits within Ok
+  ok-cell d none h = tt
+  ok-cell d (some (pos n)) h = omega (arith, leb-true n (rangeOf k .high) h, kind-wide k .1)
+  ok-cell d (some (negsuc n)) h = omega (arith, ltb-true n (rangeOf k .below) h, kind-wide k .0)
+
+  ok-phases : (d p : ℕ) (cs : List Cell) → p + length cs < 2 ^ 64 → cellsFit (rangeOf k) cs ≡ true → OkFields (phaseFields p cs) d
+  unfolding phaseFields cellsFit
+  ok-phases d p [] l h = tt
+  ok-phases d p (c ∷ cs) l h = (
+    omega arith,
+    ok-cell d c (and-left (cellFits (rangeOf k) c) (cellsFit (rangeOf k) cs) h),
+    ok-phases d (p + 1) cs (omega arith) (and-right (cellFits (rangeOf k) c) (cellsFit (rangeOf k) cs) h),
+  )
+
+  ok-first : (d : ℕ) (cs : List Cell) → cellsFit (rangeOf k) cs ≡ true → OkField (firstItem cs) d
+  unfolding firstItem cellsFit
+  ok-first d [] h = tt
+  ok-first d (c ∷ cs) h = ok-cell d c (and-left (cellFits (rangeOf k) c) (cellsFit (rangeOf k) cs) h)
+
+phases-count : (p : ℕ) (cs : List Cell) → length (phaseFields p cs) ≡ length cs
+unfolding phaseFields
+phases-count p [] = refl
+phases-count p (c ∷ cs) = ap suc (phases-count (p + 1) cs)
+
+ok-some : (qs : Pairs) (d : ℕ) → Ok (Item.map qs) d → OkField (someMap qs) d
+unfolding someMap
+ok-some Pairs.empty d o = tt
+ok-some (Pairs.pair k i ps) d o = o
+
+ok-row : (r : Row) (d : ℕ) (cs : List Cell) → length cs < 2 ^ 64 → cellsFit (rangeOf (r .2)) cs ≡ true → OkField (rowItem r cs) (suc d)
+unfolding rowItem
+ok-row r d cs l h = go (eqb (r .1) 1)
+  where
+    go : (b : Bool) → OkField (cond b (firstItem cs) (someMap (present (phaseFields 0 cs)))) (suc d)
+    go true = ok-first (r .2) (suc d) cs h
+    go false =
+        ok-some (present (phaseFields 0 cs)) (suc d)
+        (ok-map (phaseFields 0 cs) d (omega (arith, phases-count 0 cs)) (phases-ascend 0 cs) (ok-phases (r .2) d 0 cs (omega arith) h))
+
+take-short : (n : ℕ) (cs : List Cell) → length (take n cs) ≤ n
+take-short zero cs = omega arith
+take-short (suc n) [] = omega arith
+take-short (suc n) (c ∷ cs) = let r = take-short n cs in omega arith
+
+ok-rows : (rs : List Row) (d b : ℕ) (cs : List Cell) → Rising rs b → rowsFit rs cs ≡ true → OkFields (fieldsOf rs cs) (suc d)
+unfolding fieldsOf rowsFit
+ok-rows [] d b cs g h = tt
+ok-rows (r ∷ rs) d b cs g h =
+    let mine = cellsFit (rangeOf (r .2)) (take (r .1) cs) in
+    let others = rowsFit rs (drop (r .1) cs) in (
+      g .1,
+      ok-row r d (take (r .1) cs) (omega (arith, take-short (r .1) cs, g .2)) (and-left mine others h),
+      ok-rows rs d (r .0 + 1) (drop (r .1) cs) (g .3) (and-right mine others h),
+    )
+
+fields-count : (rs : List Row) (cs : List Cell) → length (fieldsOf rs cs) ≡ length rs
+unfolding fieldsOf
+fields-count [] cs = refl
+fields-count (r ∷ rs) cs = ap suc (fields-count rs (drop (r .1) cs))
+
+pub ok-table : (rs : List Row) (d : ℕ) (cs : List Cell) → length rs < 2 ^ 64 → Rising rs 0 → rowsFit rs cs ≡ true → Ok (Item.map (present (fieldsOf rs cs))) (suc (suc d))
+ok-table rs d cs l g h = ok-map (fieldsOf rs cs) (suc d) (omega (arith, fields-count rs cs)) (fields-ascend rs cs 0 g) (ok-rows rs d 0 cs g h)
+
+-- HEADS: a smaller argument has none longer
+at-most : (m c : ℕ) → (24 ≤ m → 1 ≤ c) → (256 ≤ m → 2 ≤ c) → (65536 ≤ m → 4 ≤ c) → (4294967296 ≤ m → 8 ≤ c) → headLen m ≤ 1 + c
+unfolding headLen
+at-most m c x y z w =
+    by-width (λ (i v : ℕ). 1 + v ≤ 1 + c) m (λ a. omega arith) (λ a b. omega (arith, x a)) (λ a b. omega (arith, y a)) (λ a b. omega (arith, z a)) (λ a. omega (arith, w a))
+
+no-longer : (m n : ℕ) → m ≤ n → headLen m ≤ headLen n
+unfolding headLen
+no-longer m n h =
+    by-width (λ (i v : ℕ). headLen m ≤ 1 + v) n
+    (λ a. at-most m 0 (λ b. absurd (omega arith)) (λ b. absurd (omega arith)) (λ b. absurd (omega arith)) (λ b. absurd (omega arith)))
+    (λ a c. at-most m 1 (λ b. omega arith) (λ b. absurd (omega arith)) (λ b. absurd (omega arith)) (λ b. absurd (omega arith)))
+    (λ a c. at-most m 2 (λ b. omega arith) (λ b. omega arith) (λ b. absurd (omega arith)) (λ b. absurd (omega arith)))
+    (λ a c. at-most m 4 (λ b. omega arith) (λ b. omega arith) (λ b. omega arith) (λ b. absurd (omega arith)))
+    (λ a. at-most m 8 (λ b. omega arith) (λ b. omega arith) (λ b. omega arith) (λ b. omega arith))
+
+-- HOW LONG, by the ranges
+-- no head of a range's numbers has a larger argument
+abbrev top : Range → ℕ
+top g = g .high + g .below
+
+abbrev phasesMost : Range → ℕ → ℕ → ℕ
+phasesMost g p zero = 0
+phasesMost g p (suc w) = headLen p + headLen (top g) + phasesMost g (p + 1) w
+
+abbrev rowMost : Row → ℕ
+rowMost r = headLen (r .0) + cond (eqb (r .1) 1) (headLen (top (rangeOf (r .2)))) (headLen (r .1) + phasesMost (rangeOf (r .2)) 0 (r .1))
+
+abbrev rowsMost : List Row → ℕ
+rowsMost [] = 0
+rowsMost (r ∷ rs) = rowMost r + rowsMost rs
+
+cell-long : (g : Range) (k : ℕ) (c : Cell) → cellFits g c ≡ true → length (fieldBytes k (cellItem c)) ≤ headLen k + headLen (top g)
+unfolding cellItem cellFits within fieldBytes encode
+cell-long g k none h = omega arith
+cell-long g k (some (pos n)) h =
+    let l = no-longer n (top g) (omega (arith, leb-true n (g .high) h)) in
+    rw length-append (omega (arith, head-length 0 k, head-length 0 n))
+cell-long g k (some (negsuc n)) h =
+    let l = no-longer n (top g) (omega (arith, ltb-true n (g .below) h)) in
+    rw length-append (omega (arith, head-length 0 k, head-length 1 n))
+
+phases-long : (g : Range) (p w : ℕ) (cs : List Cell) → length cs ≤ w → cellsFit g cs ≡ true → length (encodePairs (present (phaseFields p cs))) ≤ phasesMost g p w
+unfolding phaseFields cellsFit
+phases-long g p w [] l h = rw fields-none (omega arith)
+phases-long g p zero (c ∷ cs) l h = absurd (omega arith)
+phases-long g p (suc w) (c ∷ cs) l h =
+    let a = cell-long g p c (and-left (cellFits g c) (cellsFit g cs) h) in
+    let b = phases-long g (p + 1) w cs (omega arith) (and-right (cellFits g c) (cellsFit g cs) h) in
+    rw (fields-more p (cellItem c) (phaseFields (p + 1) cs), length-append) (omega arith)
+
+first-long : (g : Range) (k : ℕ) (cs : List Cell) → cellsFit g cs ≡ true → length (fieldBytes k (firstItem cs)) ≤ headLen k + headLen (top g)
+unfolding firstItem cellsFit fieldBytes
+first-long g k [] h = omega arith
+first-long g k (c ∷ cs) h = cell-long g k c (and-left (cellFits g c) (cellsFit g cs) h)
+
+map-long : (fs : Fields) (n m : ℕ) → length fs ≤ n → length (encodePairs (present fs)) ≤ m → length (encode (Item.map (present fs))) ≤ headLen n + m
+map-long fs n m few h =
+    let k : ℕ = countPairs (present fs) in
+    let l = no-longer k n (omega (arith, count-fields fs)) in
+    rw (map-bytes fs, length-append) (omega (arith, head-length 5 k))
+
+some-long : (k n : ℕ) (qs : Pairs) → length (encode (Item.map qs)) ≤ n → length (fieldBytes k (someMap qs)) ≤ headLen k + n
+unfolding someMap fieldBytes
+some-long k n Pairs.empty h = omega arith
+some-long k n (Pairs.pair j i ps) h = rw length-append (omega (arith, head-length 0 k))
+
+row-long : (r : Row) (cs : List Cell) → length cs ≤ r .1 → cellsFit (rangeOf (r .2)) cs ≡ true → length (fieldBytes (r .0) (rowItem r cs)) ≤ rowMost r
+unfolding rowItem
+row-long r cs l h = go (eqb (r .1) 1)
+  where
+    phases : ℕ
+    phases = headLen (r .1) + phasesMost (rangeOf (r .2)) 0 (r .1)
+
+    go : (b : Bool) → length (fieldBytes (r .0) (cond b (firstItem cs) (someMap (present (phaseFields 0 cs))))) ≤ headLen (r .0) + cond b (headLen (top (rangeOf (r .2)))) (headLen (r .1) + phasesMost (rangeOf (r .2)) 0 (r .1))
+    go true = first-long (rangeOf (r .2)) (r .0) cs h
+    go false =
+        some-long (r .0) _ (present (phaseFields 0 cs))
+        (map-long (phaseFields 0 cs) (r .1) (phasesMost (rangeOf (r .2)) 0 (r .1)) (omega (arith, phases-count 0 cs)) (phases-long (rangeOf (r .2)) 0 (r .1) cs l h))
+
+rows-long : (rs : List Row) (cs : List Cell) → rowsFit rs cs ≡ true → length (encodePairs (present (fieldsOf rs cs))) ≤ rowsMost rs
+unfolding fieldsOf rowsFit
+rows-long [] cs h = rw fields-none (omega arith)
+rows-long (r ∷ rs) cs h =
+    let mine = cellsFit (rangeOf (r .2)) (take (r .1) cs) in
+    let others = rowsFit rs (drop (r .1) cs) in
+    let a = row-long r (take (r .1) cs) (take-short (r .1) cs) (and-left mine others h) in
+    let b = rows-long rs (drop (r .1) cs) (and-right mine others h) in
+    rw (fields-more (r .0) (rowItem r (take (r .1) cs)) (fieldsOf rs (drop (r .1) cs)), length-append) (omega arith)
+
+rows-most : headLen 24 + rowsMost rows ≡ 326
+unfolding rows rangeOf ranges headLen infoOf widthOf
+rows-most = refl
+
+pub payload-longest : PayloadLongest
+unfolding itemOf
+payload-longest cs h =
+    let fs : Fields = fieldsOf rows cs in
+    let k : ℕ = countPairs (present fs) in
+    let l : length (encode (Item.map (present fs))) ≡ length (headBytes 5 k) + length (encodePairs (present fs)) = rw (map-bytes fs, length-append) refl in
+    let m = map-long fs 24 (rowsMost rows) (omega (arith, fields-count rows cs, table-long .0)) (rows-long rows cs h) in
+    (omega (arith, l, head-length 5 k, len-positive k), omega (arith, m, rows-most))
+
+pub payload-reached : PayloadReached
+unfolding itemOf encode headBytes bytesOf widthOf infoOf countPairs encodePairs present rows rangeOf ranges cellItem phaseFields someMap firstItem rowItem
+    fieldsOf cellFits cellsFit rowsFit within
+payload-reached =
+    let int64 : Cell = some (pos 9223372036854775807) in
+    let uint64 : Cell = some (pos 18446744073709551615) in
+    let uint32 : Cell = some (pos 4294967295) in (
+      int64 ∷ int64 ∷ uint64 ∷ int64 ∷ int64 ∷ int64 ∷ int64 ∷ int64 ∷ int64 ∷ int64 ∷ int64 ∷ int64 ∷ int64 ∷ int64 ∷ int64 ∷ uint32 ∷ uint32 ∷ uint32
+          ∷ uint32 ∷ uint32 ∷ uint32 ∷ uint32 ∷ some (pos 1000) ∷ uint64 ∷ uint64 ∷ int64 ∷ int64 ∷ uint32 ∷ uint64 ∷ uint64 ∷ some (pos 100) ∷ some (pos 100)
+          ∷ uint64 ∷ uint64 ∷ uint32 ∷ some (pos 32767) ∷ [],
+      refl,
+      refl,
+      refl,
+    )

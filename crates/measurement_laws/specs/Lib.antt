@@ -1,0 +1,4 @@
+pub mod RoundTrips
+pub mod Outside
+pub mod Longest
+pub mod Examples
