@@ -12,12 +12,12 @@ static bool is_there(const struct cekarum_measurement *m, int place)
 static void print_thousandths(const char *name, int64_t value, const char *unit)
 {
     uint64_t size = value < 0 ? ~(uint64_t)value + 1 : (uint64_t)value;
-    printf("  %s %s%llu.%03u %s\n", name, value < 0 ? "-" : "", (unsigned long long)(size / 1000), (unsigned)(size % 1000), unit);
+    printf("  %s %s%llu.%03u%s\n", name, value < 0 ? "-" : "", (unsigned long long)(size / 1000), (unsigned)(size % 1000), unit);
 }
 
 static void print_unsigned(const char *name, uint64_t value, const char *unit)
 {
-    printf("  %s %llu.%03u %s\n", name, (unsigned long long)(value / 1000), (unsigned)(value % 1000), unit);
+    printf("  %s %llu.%03u%s\n", name, (unsigned long long)(value / 1000), (unsigned)(value % 1000), unit);
 }
 
 static void print_signed_at(const struct cekarum_measurement *m, int place, const char *name, int64_t value, const char *unit)
@@ -42,41 +42,41 @@ static void print_phases(const struct cekarum_measurement *m)
 {
     static const char *const phases[3] = {"phase A", "phase B", "phase C"}, *const pairs[3] = {"A to B", "B to C", "C to A"};
     for (int i = 0; i < 3; i++) {
-        print_signed_at(m, CEKARUM_AC_ACTIVE_POWER_PER_PHASE + i, phases[i], m->ac_active_power_per_phase[i], "W");
-        print_signed_at(m, CEKARUM_AC_REACTIVE_POWER_PER_PHASE + i, phases[i], m->ac_reactive_power_per_phase[i], "VAR");
-        print_signed_at(m, CEKARUM_AC_APPARENT_POWER_PER_PHASE + i, phases[i], m->ac_apparent_power_per_phase[i], "VA");
-        print_signed_at(m, CEKARUM_AC_CURRENT_PER_PHASE + i, phases[i], m->ac_current_per_phase[i], "A");
-        print_unsigned_at(m, CEKARUM_AC_VOLTAGE_PER_PHASE + i, phases[i], m->ac_voltage_per_phase[i], "V");
+        print_signed_at(m, CEKARUM_AC_ACTIVE_POWER_PER_PHASE + i, phases[i], m->ac_active_power_per_phase[i], " W");
+        print_signed_at(m, CEKARUM_AC_REACTIVE_POWER_PER_PHASE + i, phases[i], m->ac_reactive_power_per_phase[i], " VAR");
+        print_signed_at(m, CEKARUM_AC_APPARENT_POWER_PER_PHASE + i, phases[i], m->ac_apparent_power_per_phase[i], " VA");
+        print_signed_at(m, CEKARUM_AC_CURRENT_PER_PHASE + i, phases[i], m->ac_current_per_phase[i], " A");
+        print_unsigned_at(m, CEKARUM_AC_VOLTAGE_PER_PHASE + i, phases[i], m->ac_voltage_per_phase[i], " V");
     }
     for (int i = 0; i < 3; i++)
-        print_unsigned_at(m, CEKARUM_AC_VOLTAGE_PHASE_TO_PHASE_PAIR + i, pairs[i], m->ac_voltage_phase_to_phase_pair[i], "V");
+        print_unsigned_at(m, CEKARUM_AC_VOLTAGE_PHASE_TO_PHASE_PAIR + i, pairs[i], m->ac_voltage_phase_to_phase_pair[i], " V");
 }
 
 static void print_ac(const struct cekarum_measurement *m)
 {
-    print_signed_at(m, CEKARUM_AC_ACTIVE_POWER, "active power", m->ac_active_power, "W");
-    print_signed_at(m, CEKARUM_AC_REACTIVE_POWER, "reactive power", m->ac_reactive_power, "VAR");
-    print_unsigned_at(m, CEKARUM_AC_APPARENT_POWER, "apparent power", m->ac_apparent_power, "VA");
+    print_signed_at(m, CEKARUM_AC_ACTIVE_POWER, "active power", m->ac_active_power, " W");
+    print_signed_at(m, CEKARUM_AC_REACTIVE_POWER, "reactive power", m->ac_reactive_power, " VAR");
+    print_unsigned_at(m, CEKARUM_AC_APPARENT_POWER, "apparent power", m->ac_apparent_power, " VA");
     print_phases(m);
-    print_unsigned_at(m, CEKARUM_AC_FREQUENCY, "frequency", m->ac_frequency, "Hz");
+    print_unsigned_at(m, CEKARUM_AC_FREQUENCY, "frequency", m->ac_frequency, " Hz");
     print_signed_at(m, CEKARUM_POWER_FACTOR, "power factor", m->power_factor, "");
-    print_unsigned_at(m, CEKARUM_AC_ENERGY_CONSUMED, "energy consumed", m->ac_energy_consumed, "Wh");
-    print_unsigned_at(m, CEKARUM_AC_ENERGY_PRODUCED, "energy produced", m->ac_energy_produced, "Wh");
+    print_unsigned_at(m, CEKARUM_AC_ENERGY_CONSUMED, "energy consumed", m->ac_energy_consumed, " Wh");
+    print_unsigned_at(m, CEKARUM_AC_ENERGY_PRODUCED, "energy produced", m->ac_energy_produced, " Wh");
 }
 
 static void print_dc(const struct cekarum_measurement *m)
 {
-    print_signed_at(m, CEKARUM_DC_POWER, "dc power", m->dc_power, "W");
-    print_signed_at(m, CEKARUM_DC_CURRENT, "dc current", m->dc_current, "A");
-    print_unsigned_at(m, CEKARUM_DC_VOLTAGE, "dc voltage", m->dc_voltage, "V");
-    print_unsigned_at(m, CEKARUM_DC_ENERGY_IN, "dc energy in", m->dc_energy_in, "Wh");
-    print_unsigned_at(m, CEKARUM_DC_ENERGY_OUT, "dc energy out", m->dc_energy_out, "Wh");
+    print_signed_at(m, CEKARUM_DC_POWER, "dc power", m->dc_power, " W");
+    print_signed_at(m, CEKARUM_DC_CURRENT, "dc current", m->dc_current, " A");
+    print_unsigned_at(m, CEKARUM_DC_VOLTAGE, "dc voltage", m->dc_voltage, " V");
+    print_unsigned_at(m, CEKARUM_DC_ENERGY_IN, "dc energy in", m->dc_energy_in, " Wh");
+    print_unsigned_at(m, CEKARUM_DC_ENERGY_OUT, "dc energy out", m->dc_energy_out, " Wh");
     print_whole_at(m, CEKARUM_STATE_OF_CHARGE, "state of charge", m->state_of_charge, " %");
     print_whole_at(m, CEKARUM_STATE_OF_HEALTH, "state of health", m->state_of_health, " %");
-    print_unsigned_at(m, CEKARUM_STATE_OF_ENERGY, "state of energy", m->state_of_energy, "Wh");
-    print_unsigned_at(m, CEKARUM_USEABLE_CAPACITY, "useable capacity", m->useable_capacity, "Wh");
+    print_unsigned_at(m, CEKARUM_STATE_OF_ENERGY, "state of energy", m->state_of_energy, " Wh");
+    print_unsigned_at(m, CEKARUM_USEABLE_CAPACITY, "useable capacity", m->useable_capacity, " Wh");
     print_whole_at(m, CEKARUM_CYCLE_COUNT, "cycles", m->cycle_count, "");
-    print_signed_at(m, CEKARUM_TEMPERATURE, "temperature", 10 * (int64_t)m->temperature, "degrees Celsius");
+    print_signed_at(m, CEKARUM_TEMPERATURE, "temperature", 10 * (int64_t)m->temperature, " degrees Celsius");
 }
 
 static void print_flow(const char *name, uint64_t flow)
