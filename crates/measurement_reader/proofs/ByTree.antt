@@ -1,17 +1,17 @@
 -- A payload is read as its tree says. Assumes nothing.
-use Prim.Native.Nat.{ℕ, zero, suc, _+_, _*_, _≤_, _<_}
-use mathlib.Core.Path.{_≡_, refl, sym, ap, subst, _∙_}
-use mathlib.Core.Bool.{Bool, true, false, cond, not, _&&_}
+use Prim.Native.Nat.{ℕ, suc, _+_}
+use mathlib.Core.Path.{_≡_, refl, sym, ap, _∙_}
+use mathlib.Core.Bool.{Bool, true, false, cond}
 use mathlib.Core.List.{List, [], _∷_, _++_, append-nil}
-use mathlib.Core.Option.{Option, some, none, bind, Option·map}
+use mathlib.Core.Option.{Option, some, none, bind}
 use native.Mathlib.Omega.{arith}
-use lib.ListN.{length, drop, length-append}
+use lib.ListN.{length, length-append}
 use lib.Seq.{sets, sets-eq, drop-length}
-use lib.Dec.{eqb, leb}
+use lib.Dec.{eqb}
 use borrow.Author.Tests.{eq-eqb, ne-eqb}
 use Rattle.bytes.specs.Bytes.{Bytes}
 use Rattle.heads.specs.Head.{headAt}
-use Rattle.cbor.specs.Item.{Item, Pairs, got, itemAt, encode, payloadOf, isSome, levels}
+use Rattle.cbor.specs.Item.{Item, got, itemAt, encode, payloadOf, isSome, levels}
 use Rattle.cbor.specs.Find.{seekAt}
 use Rattle.heads.specs.declared.reading.Head.{Head}
 use Rattle.cbor_laws.proofs.Payload.{payload-exact}
@@ -36,10 +36,12 @@ rows-long : (s : List ℕ) (d : ℕ) (rs : List Row) (n q : ℕ) (cs : List Cell
 unfolding rowsAt places
 rows-long s d [] n q cs e = ap length (sym (same-inside e))
 rows-long s d (r ∷ rs) n q cs e =
-    let b = bind-parts (rowAt s d r (seekAt s (suc d) (r .0) n q .there) (seekAt s (suc d) (r .0) n q .at)) _ cs e in
-    let m = map-part (λ (l : List Cell). b .0 ++ l) (rowsAt s d rs (seekAt s (suc d) (r .0) n q .left) (nextAt s (suc d) (seekAt s (suc d) (r .0) n q .there) (seekAt s (suc d) (r .0) n q .at))) cs (b .2) in
-    let x = row-long s d r (seekAt s (suc d) (r .0) n q .there) (seekAt s (suc d) (r .0) n q .at) (b .0) (b .1) in
-    let y = rows-long s d rs (seekAt s (suc d) (r .0) n q .left) (nextAt s (suc d) (seekAt s (suc d) (r .0) n q .there) (seekAt s (suc d) (r .0) n q .at)) (m .0) (m .1) in
+    let w = seekAt s (suc d) (r .0) n q in
+    let on = nextAt s (suc d) (w .there) (w .at) in
+    let b = bind-parts (rowAt s d r (w .there) (w .at)) _ cs e in
+    let m = map-part (λ (l : List Cell). b .0 ++ l) (rowsAt s d rs (w .left) on) cs (b .2) in
+    let x = row-long s d r (w .there) (w .at) (b .0) (b .1) in
+    let y = rows-long s d rs (w .left) on (m .0) (m .1) in
     rw (← m .2) (omega (arith, length-append (b .0) (m .0)))
 
 payload-long : (s : List ℕ) (h : Head) (cs : List Cell) → payloadAt s h ≡ some cs → length cs ≡ 36

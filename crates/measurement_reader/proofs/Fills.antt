@@ -1,15 +1,14 @@
 -- The functions of the walk, case by case. Assumes nothing.
-use Prim.Native.Nat.{ℕ, zero, suc, _+_, _*_, _-_, _≤_, _<_}
-use mathlib.Core.Path.{_≡_, refl, sym, ap, subst, _∙_}
+use Prim.Native.Nat.{ℕ, suc, _+_, _*_, _-_, _≤_, _<_}
+use mathlib.Core.Path.{_≡_, refl, sym, ap, _∙_}
 use mathlib.Core.Bool.{Bool, true, false, cond, _&&_}
-use mathlib.Core.List.{List, [], _∷_, _++_}
+use mathlib.Core.List.{List, [], _∷_}
 use mathlib.Core.Option.{Option, some, none, bind, Option·map}
 use native.Mathlib.Omega.{arith}
-use lib.ListN.{length}
 use lib.Seq.{sets}
 use lib.Dec.{eqb, leb, ltb}
 use lib.IntN.{ℤ, pos, negsuc}
-use borrow.Author.Tests.{eq-eqb, ne-eqb, le-leb, lt-leb, lt-ltb, le-ltb}
+use borrow.Author.Tests.{eq-eqb, ne-eqb}
 use Rattle.heads.specs.Head.{headAt}
 use Rattle.cbor.specs.Item.{Item, Got, got, bad, itemAt, endOf, pastOf}
 use Rattle.cbor.specs.Find.{seekAt}
@@ -19,8 +18,7 @@ use Rattle.cbor.specs.declared.items.End.{End}
 use Rattle.cbor.specs.declared.pairs.Stop.{Stop}
 use Rattle.measurement_table.specs.Cells.{Cell, blanks}
 use Rattle.measurement_table.specs.Words.{place, placeOf, flat}
-use Rattle.measurement_reader.specs.Walk.{placeOr, Filled, numberBy, numberFrom, cellAt, nextAt, cellsAt, phasesFrom, rowAt, rowsAt}
-use Rattle.measurement_table.specs.declared.table.Row.{Row}
+use Rattle.measurement_reader.specs.Walk.{placeOr, Filled, numberBy, numberFrom, cellAt, nextAt, cellsAt, phasesFrom}
 use Rattle.map_fields.specs.Ranges.{within}
 use Rattle.map_fields.specs.Sights.{numberSeen}
 use Rattle.map_fields.specs.declared.ranges.Range.{Range}
@@ -73,7 +71,8 @@ module _ (s : List ℕ) (g : Range) (at : ℕ) (there : Bool) where
   unfolding placeOr cellAt numberFrom
   cell-no-head t h e z = rw (t, ← e, z)
 
-  pub cell-head : there ≡ true → (h : Head) → h ≡ headAt s at → (m n q : ℕ) → h ≡ Head.Is m n q → (r : Place) → r ≡ placeOr (Option·map (λ z. some z) (numberBy g m n)) → r ≡ placeOr (cellAt s g there at)
+  pub cell-head : there ≡ true → (h : Head) → h ≡ headAt s at → (m n q : ℕ) → h ≡ Head.Is m n q
+      → (r : Place) → r ≡ placeOr (Option·map (λ z. some z) (numberBy g m n)) → r ≡ placeOr (cellAt s g there at)
   unfolding cellAt numberFrom
   cell-head t h e m n q z r f = rw (t, ← e, z) f
 
@@ -107,7 +106,8 @@ module _ (s : List ℕ) (d at : ℕ) (there : Bool) where
 pub place-more : (ws ws′ xs : List ℕ) (a b i j : ℕ) → ws′ ≡ sets ws i (a ∷ b ∷ []) → j ≡ suc (suc i) → sets ws′ j xs ≡ sets ws i (a ∷ b ∷ xs)
 place-more ws ws′ xs a b i j e f = rw (e, f)
 
-pub blank-step : (ws ws′ : List ℕ) (at i n : ℕ) → i < n → ws′ ≡ sets ws (2 * (at + i)) (0 ∷ 0 ∷ []) → sets ws′ (2 * (at + (i + 1))) (flat (blanks (n - (i + 1)))) ≡ sets ws (2 * (at + i)) (flat (blanks (n - i)))
+pub blank-step : (ws ws′ : List ℕ) (at i n : ℕ) → i < n → ws′ ≡ sets ws (2 * (at + i)) (0 ∷ 0 ∷ [])
+    → sets ws′ (2 * (at + (i + 1))) (flat (blanks (n - (i + 1)))) ≡ sets ws (2 * (at + i)) (flat (blanks (n - i)))
 unfolding flat blanks placeOf
 blank-step ws ws′ at i n h e =
     let m : n - i ≡ suc (n - (i + 1)) = omega arith in

@@ -1,6 +1,6 @@
 -- The rows of the walk, case by case. Assumes nothing.
-use Prim.Native.Nat.{ℕ, zero, suc, _+_, _*_, _-_, _≤_, _<_}
-use mathlib.Core.Path.{_≡_, refl, sym, ap, subst, _∙_}
+use Prim.Native.Nat.{ℕ, zero, suc, _+_, _*_, _<_}
+use mathlib.Core.Path.{_≡_, refl, sym, ap, _∙_}
 use mathlib.Core.Bool.{Bool, true, false, cond}
 use mathlib.Core.List.{List, [], _∷_, _++_}
 use mathlib.Core.Option.{Option, some, none, bind, Option·map}
@@ -85,7 +85,8 @@ unfolding rowAt
 row-long s d r there at cs e = go (eqb (r .1) 1) refl there e
   where
     go : (b : Bool) → eqb (r .1) 1 ≡ b → (t : Bool)
-        → cond b (Option·map (λ (c : Cell). c ∷ []) (cellAt s (rangeOf (r .2)) there at)) (cond t (phasesFrom s d (rangeOf (r .2)) (r .1) (headAt s at)) (some (blanks (r .1)))) ≡ some cs → length cs ≡ r .1
+        → cond b (Option·map (λ (c : Cell). c ∷ []) (cellAt s (rangeOf (r .2)) there at))
+        (cond t (phasesFrom s d (rangeOf (r .2)) (r .1) (headAt s at)) (some (blanks (r .1)))) ≡ some cs → length cs ≡ r .1
     go true x t y = let m = map-part (λ (c : Cell). c ∷ []) (cellAt s (rangeOf (r .2)) there at) cs y in ap length (sym (m .2)) ∙ sym (eqb-true (r .1) 1 x)
     go false x true y = phases-long s d (rangeOf (r .2)) (r .1) (headAt s at) cs y
     go false x false y = ap length (sym (same-inside y)) ∙ blanks-long (r .1)
@@ -130,7 +131,8 @@ module _ (s : List ℕ) (rs : List Row) (r : Row) (tail : List Row) (re : rs ≡
   unfolding rowsAt Filled bind
   rows-refused e ws″ = rw (re, ← we, filled-none (rowAt s 6 r (w .there) (w .at)) i ws ws′ b e f) refl
 
-  pub rows-step : b ≡ true → (j x : ℕ) (ok : Bool) (ws″ : List ℕ) → j ≡ i + 2 * r .1 → x ≡ nextAt s 7 (w .there) (w .at) → Filled (rowsAt s 6 tail (w .left) x) j ws′ ok ws″ → Filled (rowsAt s 6 rs n q) i ws ok ws″
+  pub rows-step : b ≡ true → (j x : ℕ) (ok : Bool) (ws″ : List ℕ) → j ≡ i + 2 * r .1 → x ≡ nextAt s 7 (w .there) (w .at)
+      → Filled (rowsAt s 6 tail (w .left) x) j ws′ ok ws″ → Filled (rowsAt s 6 rs n q) i ws ok ws″
   unfolding rowsAt bind
   rows-step e j x ok ws″ je xe h =
       let t = filled-some (rowAt s 6 r (w .there) (w .at)) i ws ws′ b e f in

@@ -1,9 +1,9 @@
 -- The walk finds what the tree holds, over any table. Assumes nothing.
-use Prim.Native.Nat.{ℕ, zero, suc, _+_, _≤_, _<_}
+use Prim.Native.Nat.{ℕ, zero, suc, _+_, _≤_}
 use mathlib.Core.Path.{_≡_, refl, sym, ap, _∙_}
 use mathlib.Core.Logic.{⊎-elim}
-use mathlib.Core.Bool.{Bool, true, false, cond, _&&_}
-use mathlib.Core.List.{List, [], _∷_, _++_}
+use mathlib.Core.Bool.{Bool, true, false, cond}
+use mathlib.Core.List.{List, [], _∷_}
 use mathlib.Core.Option.{Option, some, none, bind, Option·map}
 use native.Mathlib.Omega.{arith}
 use lib.Dec.{eqb, ltb}
@@ -11,7 +11,7 @@ use lib.IntN.{ℤ}
 use borrow.Author.Tests.{eqb-true, ne-eqb, lt-ltb, ltb-true}
 use Rattle.bytes.specs.Bytes.{Bytes}
 use Rattle.heads.specs.Head.{headAt, headLen}
-use Rattle.cbor.specs.Item.{Item, Pairs, got, itemAt, pairsAt, pastOf, countPairs}
+use Rattle.cbor.specs.Item.{Item, Pairs, got, itemAt, pairsAt, countPairs}
 use Rattle.cbor.specs.Find.{valueOf, seekAt}
 use Rattle.cbor_laws.specs.Laws.{Walking, Sought}
 use Rattle.heads.specs.declared.reading.Head.{Head}
@@ -19,7 +19,7 @@ use Rattle.cbor.specs.declared.pairs.Stop.{Stop}
 use Rattle.cbor.proofs.Seen.{majorOf, argOf, read-head-of, pairs-step, value-here, value-there}
 use Rattle.bytes.proofs.Order.{below}
 use Rattle.cbor_laws.proofs.Walks.{walk-starts, seek-exact}
-use Rattle.map_fields.specs.Ranges.{within, numberIn}
+use Rattle.map_fields.specs.Ranges.{numberIn}
 use Rattle.map_fields.specs.ByPhase.{keysBelow}
 use Rattle.map_fields.specs.declared.ranges.Range.{Range}
 use Rattle.map_fields.proofs.Joined.{and-left, and-right, and-same}
@@ -138,7 +138,8 @@ module _ (s : List ℕ) (ok : Bytes s) where
       rw (x .0, phases-walk (rangeOf (r .2)) d (r .1) (w .at) (x .1) i (x .2), number-exact (rangeOf (r .2)) (suc d) (w .at) (x .1) i (x .2)) (go (eqb (r .1) 1) (numberIn (rangeOf (r .2)) i))
     where
       go : (b : Bool) (m : Option ℤ)
-          → cond b (Option·map (λ (c : Cell). c ∷ []) (Option·map (λ (z : ℤ). some z) m)) (phasesIn (rangeOf (r .2)) (r .1) i) ≡ cond b (Option·map (λ (z : ℤ). some z ∷ []) m) (phasesIn (rangeOf (r .2)) (r .1) i)
+          → cond b (Option·map (λ (c : Cell). c ∷ []) (Option·map (λ (z : ℤ). some z) m)) (phasesIn (rangeOf (r .2)) (r .1) i)
+          ≡ cond b (Option·map (λ (z : ℤ). some z ∷ []) m) (phasesIn (rangeOf (r .2)) (r .1) i)
       go true (some z) = refl
       go true none = refl
       go false m = refl
@@ -150,6 +151,7 @@ module _ (s : List ℕ) (ok : Bytes s) where
   rows-walk d (r ∷ rs) lo n q ps g wk =
       let w = seekAt s (suc d) (r .0) n q in
       let x = seek-exact s (suc d) lo q n (r .0) ps wk (g .0) in
-      let a = row-walk d r (r .0) ps (valueOf ps (r .0)) (seekAt s (suc d) (r .0) n q) x in
-      let b = rows-walk d rs (r .0 + 1) (seekAt s (suc d) (r .0) n q .left) (nextAt s (suc d) (seekAt s (suc d) (r .0) n q .there) (seekAt s (suc d) (r .0) n q .at)) ps (g .3) (goes-on (suc d) (r .0) ps (valueOf ps (r .0)) (seekAt s (suc d) (r .0) n q) x) in
+      let a = row-walk d r (r .0) ps (valueOf ps (r .0)) w x in
+      let on = goes-on (suc d) (r .0) ps (valueOf ps (r .0)) w x in
+      let b = rows-walk d rs (r .0 + 1) (w .left) (nextAt s (suc d) (w .there) (w .at)) ps (g .3) on in
       rw (a, b)

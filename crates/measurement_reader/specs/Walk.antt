@@ -12,7 +12,6 @@ use Rattle.heads.specs.Head.{headAt}
 use Rattle.heads.specs.declared.reading.Head.{Head}
 use Rattle.cbor.specs.Item.{itemAt, pastOf}
 use Rattle.cbor.specs.Find.{seekAt}
-use Rattle.cbor.specs.declared.pairs.Stop.{Stop}
 use Rattle.map_fields.specs.Ranges.{whenWithin}
 use Rattle.map_fields.specs.declared.ranges.Range.{Range}
 use Rattle.measurement_table.specs.Table.{rangeOf, rows}

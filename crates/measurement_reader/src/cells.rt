@@ -12,21 +12,21 @@ ghost use Rattle.measurement_reader.specs.Walk.{placeOr, numberBy, cellA
 // The mark of a cell that is refused; it is never stored.
 pub(crate) const REFUSED: u64 = 3;
 
+const NOT_READ: Place = Place {
+    mark: REFUSED,
+    size: 0,
+};
+
 // A number of a range, by its head.
 fn number_of(range: Range, major: u64, n: u64) -> Place
     ensures { λ r. ⌜ r ≡ placeOr (Option·map (λ z. some z) (numberBy range major n)) ⌝ }
 {
-    if !is_in(
-        Sight {
-            major: major,
-            arg: n,
-        },
-        range,
-    ) {
-        return Place {
-            mark: REFUSED,
-            size: 0,
-        };
+    let head = Sight {
+        major: major,
+        arg: n,
+    };
+    if !is_in(head, range) {
+        return NOT_READ;
     }
     if major == 0 {
         return Place { mark: 1, size: n };
@@ -40,10 +40,7 @@ pub(crate) fn cell_at(s: &[u8], range: Range, there: bool, at: usize) -> Place
 {
     if there {
         return match heads::read_head(s, at) {
-            Head::Bad => Place {
-                mark: REFUSED,
-                size: 0,
-            },
+            Head::Bad => NOT_READ,
             Head::Is(major, n, _) => number_of(range, major, n),
         };
     }

@@ -1,11 +1,10 @@
 -- A place read from words: by its mark; past the words, nothing. Assumes nothing.
 use Prim.Native.Nat.{ℕ, suc, _+_, _*_, _≤_}
-use mathlib.Core.Path.{_≡_, refl, sym, ap, _∙_}
+use mathlib.Core.Path.{_≡_}
 use mathlib.Core.List.{List, [], _∷_}
 use lib.ListN.{getD, length, List·getD-eq-default}
 use lib.Seq.{sets, set-out}
 use native.Mathlib.Omega.{arith}
-use native.Mathlib.Numerals.{add-one}
 use borrow.Author.Tests.{eq-eqb, ne-eqb}
 use Rattle.measurement_table.specs.Words.{place, placeOf, cellOf, heldAt}
 

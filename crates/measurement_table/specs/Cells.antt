@@ -1,6 +1,7 @@
--- Cells: a number or nothing. What a map holds for the rows of a table, and the map written for them. `none` is refusal 3. Assumes nothing: these are definitions.
+-- Cells: a number or nothing. What a map holds for the rows of a table, and the map written for them. `none` is refusal 3.
+-- Assumes nothing: these are definitions.
 use Prim.Native.Nat.{ℕ, zero, suc, _+_}
-use mathlib.Core.Bool.{Bool, true, false, cond, _&&_}
+use mathlib.Core.Bool.{Bool, true, cond, _&&_}
 use mathlib.Core.List.{List, [], _∷_, _++_}
 use mathlib.Core.Option.{Option, some, none, bind, Option·map}
 use lib.ListN.{take, drop}

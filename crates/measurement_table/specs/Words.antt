@@ -1,11 +1,11 @@
 -- Cells as words, two each: the mark 0 for nothing, 1 for the number n, 2 for -1 - n; then n. Assumes nothing: these are definitions.
 use Prim.Native.Nat.{ℕ, zero, suc, _+_, _*_}
-use mathlib.Core.Bool.{Bool, true, false, cond, _&&_}
+use mathlib.Core.Bool.{Bool, true, cond, _&&_}
 use mathlib.Core.List.{List, [], _∷_}
-use mathlib.Core.Option.{Option, some, none}
+use mathlib.Core.Option.{some, none}
 use lib.ListN.{getD}
 use lib.Dec.{leb, eqb}
-use lib.IntN.{ℤ, pos, negsuc}
+use lib.IntN.{pos, negsuc}
 use Rattle.measurement_table.specs.Table.{rows}
 use Rattle.measurement_table.specs.Cells.{Cell, rowsFit}
 use Rattle.measurement_table.specs.declared.words.Place.{Place}

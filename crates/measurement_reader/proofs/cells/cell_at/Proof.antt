@@ -9,6 +9,13 @@ cell-at-spec =
     tie.close
     (tie.spec
     (λ c κs. search needs) (λ c. search needs) (λ c. search needs) (λ c κs. search needs)
-    (λ c. cell-no-head _ _ _ _ (c .before .before .before .if1 .taken) _ (c .before .before .read-head .ensures) (c .enum-told .given .1))
-    (λ c. cell-head _ _ _ _ (c .before .before .before .before .before .if1 .taken) _ (c .before .before .before .before .read-head .ensures) _ _ _ (c .before .before .major .given .1) _ (c .number-of .ensures))
+    (λ c.
+    let at-read-head = c .before .before .read-head in
+    let at-if1 = c .before .before .before .if1 in
+    cell-no-head _ _ _ _ (at-if1 .taken) _ (at-read-head .ensures) (c .enum-told .given .1))
+    (λ c.
+    let at-major = c .before .before .major in
+    let at-read-head = c .before .before .before .before .read-head in
+    let at-if1 = c .before .before .before .before .before .if1 in
+    cell-head _ _ _ _ (at-if1 .taken) _ (at-read-head .ensures) _ _ _ (at-major .given .1) _ (c .number-of .ensures))
     (λ c. cell-absent _ _ _ _ (c .if1 .left)))

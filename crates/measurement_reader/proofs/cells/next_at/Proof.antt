@@ -9,6 +9,12 @@ next-at-spec =
     tie.close
     (tie.spec
     (λ c κs. search needs) (λ c. search needs) (λ c. search needs)
-    (λ c. next-bad _ _ _ _ (c .before .before .before .if1 .taken) _ (c .before .before .check-item .ensures) (c .enum-told .given .1))
-    (λ c. next-past _ _ _ _ (c .before .before .before .before .if1 .taken) _ (c .before .before .before .check-item .ensures) _ (c .before .e .given .1))
+    (λ c.
+    let at-check-item = c .before .before .check-item in
+    let at-if1 = c .before .before .before .if1 in
+    next-bad _ _ _ _ (at-if1 .taken) _ (at-check-item .ensures) (c .enum-told .given .1))
+    (λ c.
+    let at-check-item = c .before .before .before .check-item in
+    let at-if1 = c .before .before .before .before .if1 in
+    next-past _ _ _ _ (at-if1 .taken) _ (at-check-item .ensures) _ (c .before .e .given .1))
     (λ c. next-here _ _ _ _ (c .if1 .left)))

@@ -12,5 +12,9 @@ number-of-spec =
     (tie.spec
     (λ c κs. search needs)
     (λ c. number-out _ _ _ (via (c .before .is-in .ensures) (not-true _ (c .if1 .taken))))
-    (λ c. number-uint _ _ _ (via (c .before .before .is-in .ensures) (not-false _ (c .before .if1 .left))) (c .if2 .taken))
-    (λ c. number-nint _ _ _ (via (c .before .before .is-in .ensures) (not-false _ (c .before .if1 .left))) (c .if2 .left)))
+    (λ c.
+    let at-is-in = c .before .before .is-in in
+    number-uint _ _ _ (via (at-is-in .ensures) (not-false _ (c .before .if1 .left))) (c .if2 .taken))
+    (λ c.
+    let at-is-in = c .before .before .is-in in
+    number-nint _ _ _ (via (at-is-in .ensures) (not-false _ (c .before .if1 .left))) (c .if2 .left)))

@@ -9,8 +9,21 @@ phases-into-spec =
     tie.close
     (tie.spec
     (λ c κs. search needs) (λ c. search needs) (λ c. search needs)
-    (λ c. phases-no-map _ _ _ _ _ _ _ _ (c .before .before .before .before .read-head .ensures) _ _ _ (c .before .before .major .given .1) (c .if1 .taken))
-    (λ c. phases-empty _ _ _ _ _ _ _ _ (c .before .before .before .before .before .read-head .ensures) _ _ _ (c .before .before .before .major .given .1) (c .if2 .taken))
+    (λ c.
+    let at-major = c .before .before .major in
+    let at-read-head = c .before .before .before .before .read-head in
+    phases-no-map _ _ _ _ _ _ _ _ (at-read-head .ensures) _ _ _ (at-major .given .1) (c .if1 .taken))
+    (λ c.
+    let at-major = c .before .before .before .major in
+    let at-read-head = c .before .before .before .before .before .read-head in
+    phases-empty _ _ _ _ _ _ _ _ (at-read-head .ensures) _ _ _ (at-major .given .1) (c .if2 .taken))
     (λ c κs. search needs)
-    (λ c. phases-no-head _ _ _ _ _ _ _ _ (c .before .before .read-head .ensures) (c .enum-told .given .1))
-    (λ c. phases-map _ _ _ _ _ _ _ _ (c .before .before .before .before .before .before .before .read-head .ensures) _ _ _ (c .before .before .before .before .before .major .given .1) (c .before .before .before .if1 .left) (c .before .before .if2 .left) _ (c .cells-into .ensures)))
+    (λ c.
+    let at-read-head = c .before .before .read-head in
+    phases-no-head _ _ _ _ _ _ _ _ (at-read-head .ensures) (c .enum-told .given .1))
+    (λ c.
+    let at-if2 = c .before .before .if2 in
+    let at-if1 = c .before .before .before .if1 in
+    let at-major = c .before .before .before .before .before .major in
+    let at-read-head = c .before .before .before .before .before .before .before .read-head in
+    phases-map _ _ _ _ _ _ _ _ (at-read-head .ensures) _ _ _ (at-major .given .1) (at-if1 .left) (at-if2 .left) _ (c .cells-into .ensures)))

@@ -2,7 +2,6 @@
 use Prim.Native.Nat.{_+_, _*_, _-_, _≤_}
 use mathlib.Core.Path.{_≡_, sym, _∙_}
 use native.Mathlib.Omega.{arith}
-use borrow.Author.Needs.{needs}
 use lib.Seq.{sets}
 use Rattle.measurement_table.specs.Cells.{blanks}
 use Rattle.measurement_table.specs.Words.{flat}
@@ -25,5 +24,8 @@ put-blanks-spec =
     (λ c κs. omega arith)
     (λ c. omega arith)
     (λ c. omega arith)
-    (λ c. (omega arith, blank-step _ _ _ _ _ (c .before .before .loop-test .taken) (c .put-place .ensures) ∙ c .before .before .before .loop .inv .1))
+    (λ c.
+    let at-loop-test = c .before .before .loop-test in
+    let at-loop = c .before .before .before .loop in
+    (omega arith, blank-step _ _ _ _ _ (at-loop-test .taken) (c .put-place .ensures) ∙ at-loop .inv .1))
     (λ c. sym (blank-end _ _ _ _ (c .loop-test .left)) ∙ c .before .loop .inv .1))

@@ -9,10 +9,26 @@ row-into-spec =
     tie.close
     (tie.spec
     (λ c. search needs) (λ c. search needs) (λ c κs. search needs) (λ c κs. search needs)
-    (λ c. row-refused _ _ _ _ _ _ _ _ (c .before .before .before .before .range-of .ensures) (c .before .before .before .if1 .taken) _ (c .before .before .cell-at .ensures) (c .if2 .taken))
+    (λ c.
+    let at-cell-at = c .before .before .cell-at in
+    let at-if1 = c .before .before .before .if1 in
+    let at-range-of = c .before .before .before .before .range-of in
+    row-refused _ _ _ _ _ _ _ _ (at-range-of .ensures) (at-if1 .taken) _ (at-cell-at .ensures) (c .if2 .taken))
     (λ c κs. search needs)
-    (λ c. row-single _ _ _ _ _ _ _ _ (c .before .before .before .before .before .before .range-of .ensures) (c .before .before .before .before .before .if1 .taken) _ (c .before .before .before .before .cell-at .ensures) (c .before .before .if2 .left) (c .put-place .ensures))
+    (λ c.
+    let at-if2 = c .before .before .if2 in
+    let at-cell-at = c .before .before .before .before .cell-at in
+    let at-if1 = c .before .before .before .before .before .if1 in
+    let at-range-of = c .before .before .before .before .before .before .range-of in
+    row-single _ _ _ _ _ _ _ _ (at-range-of .ensures) (at-if1 .taken) _ (at-cell-at .ensures) (at-if2 .left) (c .put-place .ensures))
     (λ c κs. search needs)
-    (λ c. row-phases _ _ _ _ _ _ _ _ (c .before .before .before .before .range-of .ensures) (c .before .before .before .if1 .left) (c .before .before .if3 .taken) _ (c .phases-into .ensures))
+    (λ c.
+    let at-if3 = c .before .before .if3 in
+    let at-if1 = c .before .before .before .if1 in
+    let at-range-of = c .before .before .before .before .range-of in
+    row-phases _ _ _ _ _ _ _ _ (at-range-of .ensures) (at-if1 .left) (at-if3 .taken) _ (c .phases-into .ensures))
     (λ c κs. search needs)
-    (λ c. row-blank _ _ _ _ _ _ _ (c .before .before .before .if1 .left) (c .before .before .if3 .left) (c .put-blanks .ensures)))
+    (λ c.
+    let at-if3 = c .before .before .if3 in
+    let at-if1 = c .before .before .before .if1 in
+    row-blank _ _ _ _ _ _ _ (at-if1 .left) (at-if3 .left) (c .put-blanks .ensures)))

@@ -1,6 +1,6 @@
 -- What is left of the table makes the whole; its rows have 36 places.
 use Prim.Native.Nat.{_+_, _*_, _-_, _≤_, ℕ}
-use mathlib.Core.Path.{_≡_, refl, sym, _∙_}
+use mathlib.Core.Path.{_≡_}
 use mathlib.Core.Bool.{Bool, false}
 use mathlib.Core.List.{List}
 use native.Mathlib.Omega.{arith}
@@ -30,12 +30,37 @@ rows-into-spec =
     (λ c κs. search needs)
     (λ c. search needs)
     (λ c κs. search needs)
-    (λ c κs. omega (arith, places-next _ _ (c .before .before .before .before .loop-test .taken) (c .before .before .before .row-at .ensures)))
-    (λ c. c .before .before .before .before .before .before .before .loop .inv .2 false _ (rows-refused _ _ _ _ (row-next _ _ (c .before .before .before .before .before .before .loop-test .taken) (c .before .before .before .before .before .row-at .ensures)) _ _ _ (c .before .before .before .seek .ensures) _ _ _ _ (c .before .row-into .ensures) (not-true _ (c .if1 .taken)) _))
+    (λ c κs.
+    let at-row-at = c .before .before .before .row-at in
+    let at-loop-test = c .before .before .before .before .loop-test in
+    omega (arith, places-next _ _ (at-loop-test .taken) (at-row-at .ensures)))
+    (λ c.
+    let at-seek = c .before .before .before .seek in
+    let at-row-at = c .before .before .before .before .before .row-at in
+    let at-loop-test = c .before .before .before .before .before .before .loop-test in
+    let at-loop = c .before .before .before .before .before .before .before .loop in
+    at-loop .inv .2 false _ (rows-refused _ _ _ _ (row-next _ _ (at-loop-test .taken) (at-row-at .ensures)) _ _ _ (at-seek .ensures) _ _ _ _
+    (c .before .row-into .ensures) (not-true _ (c .if1 .taken)) _))
     (λ c κs. search needs)
     (λ c. search needs)
-    (λ c. omega (arith, places-next _ _ (c .before .before .before .before .before .before .before .before .loop-test .taken) (c .before .before .before .before .before .before .before .row-at .ensures)))
+    (λ c.
+    let at-row-at = c .before .before .before .before .before .before .before .row-at in
+    let at-loop-test = c .before .before .before .before .before .before .before .before .loop-test in
+    omega (arith, places-next _ _ (at-loop-test .taken) (at-row-at .ensures)))
     (λ c. omega arith)
     (λ c. omega arith)
-    (λ c. (omega arith, omega (arith, places-next _ _ (c .before .before .before .before .before .before .before .before .loop-test .taken) (c .before .before .before .before .before .before .before .row-at .ensures)), λ ok ws h. c .before .before .before .before .before .before .before .before .before .loop .inv .2 ok ws (rows-step _ _ _ _ (row-next _ _ (c .before .before .before .before .before .before .before .before .loop-test .taken) (c .before .before .before .before .before .before .before .row-at .ensures)) _ _ _ (c .before .before .before .before .before .seek .ensures) _ _ _ _ (c .before .before .before .row-into .ensures) (not-false _ (c .before .before .if1 .left)) _ _ ok ws (omega arith) (c .before .next-at .ensures) h)))
+    (λ c.
+    let at-if1 = c .before .before .if1 in
+    let at-row-into = c .before .before .before .row-into in
+    let at-seek = c .before .before .before .before .before .seek in
+    let at-row-at = c .before .before .before .before .before .before .before .row-at in
+    let at-loop-test = c .before .before .before .before .before .before .before .before .loop-test in
+    let back-8 = c .before .before .before .before .before .before .before .before in
+    let at-loop = back-8 .before .loop in (
+      omega arith,
+      omega (arith, places-next _ _ (at-loop-test .taken) (at-row-at .ensures)),
+      λ ok ws h. at-loop .inv .2 ok ws
+          (rows-step _ _ _ _ (row-next _ _ (at-loop-test .taken) (at-row-at .ensures)) _ _ _ (at-seek .ensures) _ _ _ _ (at-row-into .ensures)
+          (not-false _ (at-if1 .left)) _ _ ok ws (omega arith) (c .before .next-at .ensures) h),
+    ))
     (λ c. c .before .loop .inv .2 _ _ (rows-end _ (c .before .loop .i) _ _ _ _ (omega arith))))
