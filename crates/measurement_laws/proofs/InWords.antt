@@ -1,20 +1,19 @@
 -- Both round trips of words. Assumes nothing.
 use Prim.Native.Nat.{ℕ, zero, suc, _+_, _*_}
 use mathlib.Core.Path.{_≡_, refl, sym, ap, _∙_}
-use mathlib.Core.Bool.{Bool, true, false, cond, not, _&&_}
+use mathlib.Core.Bool.{Bool, true, false, not}
 use mathlib.Core.List.{List, [], _∷_}
 use mathlib.Core.Option.{Option, some, none}
 use native.Mathlib.Omega.{arith}
 use lib.ListN.{length, getD, drop}
 use lib.Seq.{getD-drop, drop-drop}
-use lib.Dec.{eqb, leb}
+use lib.Dec.{leb}
 use lib.IntN.{pos, negsuc}
 use borrow.Author.Tests.{eq-eqb}
 use Rattle.cbor.specs.Item.{encode, payloadOf, isSome}
 use Rattle.map_fields.proofs.Joined.{and-same}
 use Rattle.messages.specs.Refusals.{firstOf}
-use Rattle.measurement_table.specs.Table.{rows}
-use Rattle.measurement_table.specs.Cells.{Cell, rowsFit}
+use Rattle.measurement_table.specs.Cells.{Cell}
 use Rattle.measurement_table.specs.Words.{placeOf, cellOf, flat, heldAt, heldFrom, held, marksFit, rangeNumber}
 use Rattle.measurement_table.specs.Payload.{lengthFits, cellsOf, readNumber, orBlank, cellsRead, itemOf}
 use Rattle.measurement_laws.specs.RoundTrips.{WordsExact, WordsReadBack, WordsWriteAgain}

@@ -1,6 +1,6 @@
 -- What is proved of reading and writing, each stated once. The proof of RowsReadBack is rows-read-back, in proofs/, and so for the others.
 -- Assumes nothing: these are statements.
-use Prim.Native.Nat.{ℕ, suc, _+_, _^_, _≤_, _<_}
+use Prim.Native.Nat.{ℕ, suc}
 use mathlib.Core.Path.{_≡_}
 use mathlib.Core.Bool.{true}
 use mathlib.Core.List.{List, [], _∷_}
