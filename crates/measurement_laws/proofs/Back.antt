@@ -20,7 +20,7 @@ use Rattle.measurement_table.specs.Table.{rangeOf, places}
 use Rattle.measurement_table.specs.Cells.{Cell, cellIn, cellsFrom, phasesIn, blanks, rowIn, rowsIn, cellItem, phaseFields, someMap, firstItem, rowItem, fieldsOf, cellFits, cellsFit, rowsFit}
 use Rattle.measurement_table.specs.declared.table.Row.{Row}
 use Rattle.measurement_table.proofs.Order.{Rising}
-use Rattle.measurement_laws.specs.RoundTrips.{RowsReadBack}
+use Rattle.measurement_laws.specs.RoundTrips.{OthersPassed, RowsReadBack}
 use Rattle.measurement_laws.proofs.Fields.{holds-present}
 use Rattle.measurement_laws.proofs.Inside.{number-exact}
 
@@ -82,6 +82,11 @@ row-back r cs l f = go (eqb (r .1) 1) refl
     go false e = phases-back r cs (present (phaseFields 0 cs)) refl l e f
 
 -- THE TABLE
+pub others-passed : OthersPassed
+unfolding rowsIn
+others-passed [] ps qs h = refl
+others-passed (r ∷ rs) ps qs h = rw (h .0, others-passed rs ps qs (h .1)) refl
+
 pub fields-ascend : (rs : List Row) (cs : List Cell) (lo : ℕ) → Rising rs lo → Ascending (fieldsOf rs cs) lo
 unfolding fieldsOf
 fields-ascend [] cs lo h = tt
