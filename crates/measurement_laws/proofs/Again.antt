@@ -1,18 +1,18 @@
 -- A map without unknown keys that is read and written again is the same map, over any table. Assumes nothing.
 use Prim.Native.Nat.{ℕ, zero, suc, _+_, _^_, _≤_, _<_}
-use mathlib.Core.Path.{_≡_, refl, sym, ap, _∙_}
-use mathlib.Core.Bool.{Bool, true, false, cond, _||_}
+use mathlib.Core.Path.{_≡_, refl, sym, ap}
+use mathlib.Core.Bool.{Bool, true, false, cond}
 use mathlib.Core.List.{List, [], _∷_, _++_}
-use mathlib.Core.Option.{Option, some, none, bind, Option·map}
+use mathlib.Core.Option.{Option, some, none, Option·map}
 use native.Mathlib.Omega.{arith}
-use lib.ListN.{length, take, drop}
+use lib.ListN.{length, drop}
 use lib.Seq.{take-at, drop-at}
 use lib.Dec.{eqb}
 use lib.IntN.{ℤ}
 use borrow.Author.Tests.{eqb-true, eqb-false}
 use Rattle.cbor.specs.Item.{Item, Pairs, Ok, OkPairs}
 use Rattle.cbor.specs.Find.{valueOf}
-use Rattle.map_fields.specs.Fields.{present, intItem}
+use Rattle.map_fields.specs.Fields.{present}
 use Rattle.map_fields.specs.Ranges.{numberIn}
 use Rattle.map_fields.specs.ByPhase.{keysBelow}
 use Rattle.map_fields.specs.declared.ranges.Range.{Range}
@@ -26,7 +26,7 @@ use Rattle.measurement_table.specs.declared.table.Row.{Row}
 use Rattle.measurement_table.proofs.Order.{Rising}
 use Rattle.measurement_laws.specs.RoundTrips.{Unknown, RowsWriteAgain}
 use Rattle.measurement_laws.proofs.Fields.{Narrow, ok-held, none-from}
-use Rattle.measurement_laws.proofs.Inside.{number-read, held-by, row-inside}
+use Rattle.measurement_laws.proofs.Inside.{number-exact, held-by, row-inside}
 use Rattle.measurement_laws.proofs.Back.{phases-ascend, fields-ascend}
 
 -- CELLS
@@ -35,7 +35,7 @@ unfolding cellIn cellItem
 cell-again g none c e = rw (← same-inside e) refl
 cell-again g (some i) c e =
     let p = map-part (λ (z : ℤ). some z) (numberIn g i) c e in
-    rw (← p .2) (ap some (number-read g i (p .0) (p .1) .0))
+    rw (← p .2) (ap some (number-exact g i (p .0) .0 (p .1) .0))
 
 cells-again : (g : Range) (w p : ℕ) (qs : Pairs) (cs : List Cell) → cellsFrom g w p qs ≡ some cs → Holds qs (phaseFields p cs)
 unfolding cellsFrom phaseFields
@@ -99,7 +99,7 @@ by-places : (r : Row) (d : ℕ) (i : Item) (cs : List Cell) → r .1 < 2 ^ 64 �
 unfolding rowItem firstItem cellItem
 by-places r d i cs l z o true w e =
     let p = map-part (λ (z : ℤ). some z ∷ []) (numberIn (rangeOf (r .2)) i) cs e in
-    rw (← p .2, w) (ap some (number-read (rangeOf (r .2)) i (p .0) (p .1) .0))
+    rw (← p .2, w) (ap some (number-exact (rangeOf (r .2)) i (p .0) .0 (p .1) .0))
 by-places r d i cs l z o false w e = rw w (phases-again (rangeOf (r .2)) (r .1) d i cs l z o e)
 
 row-again : (r : Row) (d : ℕ) (o : Option Item) (cs : List Cell) → r .1 < 2 ^ 64 → length cs ≡ r .1 → OkField o (suc d) → rowIn r o ≡ some cs → o ≡ rowItem r cs

@@ -7,12 +7,11 @@ use mathlib.Core.Option.{some, none, bind}
 use native.Mathlib.Omega.{arith}
 use lib.ListN.{length, take, drop, length-drop, take-append-drop}
 use lib.Seq.{length-take-le}
-use lib.Dec.{eqb, ltb}
-use lib.IntN.{ℤ, pos, negsuc}
+use lib.Dec.{eqb}
 use borrow.Author.Tests.{eqb-true, lt-ltb}
 use Rattle.cbor.specs.Item.{Pairs}
 use Rattle.map_fields.specs.Fields.{present, intItem}
-use Rattle.map_fields.specs.Ranges.{within, numberIn}
+use Rattle.map_fields.specs.Ranges.{within}
 use Rattle.map_fields.specs.ByPhase.{keysBelow}
 use Rattle.map_fields.specs.declared.ranges.Range.{Range}
 use Rattle.map_fields.proofs.Joined.{and-left, and-right, and-same}
@@ -21,19 +20,15 @@ use Rattle.measurement_table.specs.Table.{rangeOf, places}
 use Rattle.measurement_table.specs.Cells.{Cell, cellIn, cellsFrom, phasesIn, blanks, rowIn, rowsIn, cellItem, phaseFields, someMap, firstItem, rowItem, fieldsOf, cellFits, cellsFit, rowsFit}
 use Rattle.measurement_table.specs.declared.table.Row.{Row}
 use Rattle.measurement_table.proofs.Order.{Rising}
-use Rattle.measurement_laws.specs.RoundTrips.{RowsReadBack}
+use Rattle.measurement_laws.specs.RoundTrips.{OthersPassed, RowsReadBack}
 use Rattle.measurement_laws.proofs.Fields.{holds-present}
+use Rattle.measurement_laws.proofs.Inside.{number-exact}
 
 -- CELLS
-number-back : (g : Range) (z : ℤ) → within g z ≡ true → numberIn g (intItem z) ≡ some z
-unfolding numberIn
-number-back g (pos n) h = rw h
-number-back g (negsuc n) h = rw h
-
 cell-back : (g : Range) (c : Cell) → cellFits g c ≡ true → cellIn g (cellItem c) ≡ some c
 unfolding cellIn cellItem cellFits
 cell-back g none h = refl
-cell-back g (some z) h = rw (number-back g z h)
+cell-back g (some z) h = rw (number-exact g (intItem z) z .1 (refl, h))
 
 cells-back : (g : Range) (p : ℕ) (cs : List Cell) (qs : Pairs) → Holds qs (phaseFields p cs) → cellsFit g cs ≡ true → cellsFrom g (length cs) p qs ≡ some cs
 unfolding cellsFrom phaseFields cellsFit bind
@@ -65,7 +60,7 @@ single-back : (g : Range) (cs : List Cell) → length cs ≡ 1 → cellsFit g cs
 unfolding rowIn firstItem cellItem cellsFit cellFits blanks
 single-back g [] l f r e q = absurd (omega arith)
 single-back g (none ∷ []) l f r e q = rw e
-single-back g (some z ∷ []) l f r e q = rw (e, q, number-back g z (and-left (within g z) true f))
+single-back g (some z ∷ []) l f r e q = rw (e, q, number-exact g (intItem z) z .1 (refl, and-left (within g z) true f))
 single-back g (c ∷ d ∷ cs) l f r e q = absurd (omega arith)
 
 -- one for each phase
@@ -87,6 +82,11 @@ row-back r cs l f = go (eqb (r .1) 1) refl
     go false e = phases-back r cs (present (phaseFields 0 cs)) refl l e f
 
 -- THE TABLE
+pub others-passed : OthersPassed
+unfolding rowsIn
+others-passed [] ps qs h = refl
+others-passed (r ∷ rs) ps qs h = rw (h .0, others-passed rs ps qs (h .1)) refl
+
 pub fields-ascend : (rs : List Row) (cs : List Cell) (lo : ℕ) → Rising rs lo → Ascending (fieldsOf rs cs) lo
 unfolding fieldsOf
 fields-ascend [] cs lo h = tt

@@ -1,6 +1,5 @@
 -- The cases of specs/Examples, computed. Assumes nothing.
-use mathlib.Core.Path.{_≡_, refl}
-use mathlib.Core.List.{map, _++_}
+use mathlib.Core.Path.{refl}
 use mathlib.Core.Option.{bind}
 use Rattle.bytes.specs.Bytes.{numberAt, bytesOf}
 use Rattle.heads.specs.Head.{infoOf, widthOf, headBytes, argAt, headAt}

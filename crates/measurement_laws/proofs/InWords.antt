@@ -1,23 +1,22 @@
 -- Both round trips of words. Assumes nothing.
 use Prim.Native.Nat.{ℕ, zero, suc, _+_, _*_}
 use mathlib.Core.Path.{_≡_, refl, sym, ap, _∙_}
-use mathlib.Core.Bool.{Bool, true, false, cond, not, _&&_}
+use mathlib.Core.Bool.{Bool, true, false, not}
 use mathlib.Core.List.{List, [], _∷_}
 use mathlib.Core.Option.{Option, some, none}
 use native.Mathlib.Omega.{arith}
 use lib.ListN.{length, getD, drop}
 use lib.Seq.{getD-drop, drop-drop}
-use lib.Dec.{eqb, leb}
+use lib.Dec.{leb}
 use lib.IntN.{pos, negsuc}
 use borrow.Author.Tests.{eq-eqb}
 use Rattle.cbor.specs.Item.{encode, payloadOf, isSome}
 use Rattle.map_fields.proofs.Joined.{and-same}
 use Rattle.messages.specs.Refusals.{firstOf}
-use Rattle.measurement_table.specs.Table.{rows}
-use Rattle.measurement_table.specs.Cells.{Cell, rowsFit}
+use Rattle.measurement_table.specs.Cells.{Cell}
 use Rattle.measurement_table.specs.Words.{placeOf, cellOf, flat, heldAt, heldFrom, held, marksFit, rangeNumber}
 use Rattle.measurement_table.specs.Payload.{lengthFits, cellsOf, readNumber, orBlank, cellsRead, itemOf}
-use Rattle.measurement_laws.specs.RoundTrips.{WordsExact, WordsReadBack, WordsWriteAgain}
+use Rattle.measurement_laws.specs.RoundTrips.{WordsExact, WordsReadBack, WordsWritable, WordsWriteAgain}
 use Rattle.measurement_laws.proofs.Inside.{never-read, never-written}
 use Rattle.measurement_laws.proofs.Payloads.{reads-back, writes-again}
 
@@ -86,10 +85,17 @@ cells-found : (s : List ℕ) → readNumber s ≡ 0 → (cs : List Cell) × (cel
 unfolding readNumber
 cells-found s e = cells-there (lengthFits s) (isSome (payloadOf s)) (cellsOf s) e
 
-pub words-write-again : WordsWriteAgain
+held-again : (s : List ℕ) (cs : List Cell) → readNumber s ≡ 0 → cellsOf s ≡ some cs → held (flat (cellsRead s)) ≡ cs
+held-again s cs e f = ap (λ (x : List Cell). held (flat x)) (read-cells s cs e f) ∙ words-exact cs (never-read s cs f .1)
+
+pub words-writable : WordsWritable
 unfolding rangeNumber
-words-write-again s ok ps p u e =
+words-writable s e =
     let f = cells-found s e in
     let i = never-read s (f .0) (f .1) in
-    let h : held (flat (f .0)) ≡ f .0 = words-exact (f .0) (i .1) in
-    rw (read-cells s (f .0) e (f .1), h, i .0, marks-flat (f .0) (i .1)) (refl, writes-again s ok (f .0) ps p u (f .1))
+    rw (held-again s (f .0) e (f .1), read-cells s (f .0) e (f .1), i .0, marks-flat (f .0) (i .1)) refl
+
+pub words-write-again : WordsWriteAgain
+words-write-again s ok ps p u e =
+    let f = cells-found s e in
+    ap (λ (x : List Cell). encode (itemOf x)) (held-again s (f .0) e (f .1)) ∙ writes-again s ok (f .0) ps p u (f .1)

@@ -1,12 +1,12 @@
 -- What is read is inside its range, row by row; and what a range is. Assumes nothing.
-use Prim.Native.Nat.{ℕ, zero, suc, _+_, _-_, _^_, _≤_, _<_}
+use Prim.Native.Nat.{ℕ, zero, suc, _+_, _-_, _^_, _≤_}
 use mathlib.Core.Path.{_≡_, refl, sym, ap, _∙_}
 use mathlib.Core.Bool.{Bool, true, false, cond, _&&_}
 use mathlib.Core.List.{List, [], _∷_, _++_}
 use mathlib.Core.Option.{Option, some, none, bind, Option·map}
 use native.Mathlib.Omega.{arith}
 use native.Mathlib.Nat.{pow-suc}
-use lib.ListN.{length, take, drop, length-append}
+use lib.ListN.{length, length-append}
 use lib.Seq.{take-at, drop-at}
 use lib.Dec.{eqb, ltb, leb}
 use lib.IntN.{ℤ, pos, negsuc, negℤ}
@@ -26,14 +26,14 @@ use Rattle.measurement_table.specs.Words.{held, marksFit, rangeNumber}
 use Rattle.measurement_table.specs.Payload.{cellsOf}
 use Rattle.measurement_table.specs.declared.table.Row.{Row}
 use Rattle.measurement_table.proofs.Order.{table-long}
-use Rattle.measurement_laws.specs.Outside.{RowsInside, NeverRead, NeverWritten, RangeExact, SignedExact}
+use Rattle.measurement_laws.specs.Outside.{RowsInside, NeverRead, NeverWritten, NumberExact, RangeExact, SignedExact}
 
 -- ONE NUMBER
 tested : {X : Type 0} (b : Bool) (x y : X) → cond b (some x) none ≡ some y → (b ≡ true) × (x ≡ y)
 tested true x y e = (refl, same-inside e)
 tested false x y e = absurd (no-value e)
 
-pub number-read : (g : Range) (i : Item) (z : ℤ) → numberIn g i ≡ some z → (i ≡ intItem z) × (within g z ≡ true)
+number-read : (g : Range) (i : Item) (z : ℤ) → numberIn g i ≡ some z → (i ≡ intItem z) × (within g z ≡ true)
 unfolding numberIn
 number-read g (Item.uint n) z e = let t = tested (within g (pos n)) (pos n) z e in rw (← t .1) (refl, t .0)
 number-read g (Item.nint n) z e = let t = tested (within g (negsuc n)) (negsuc n) z e in rw (← t .1) (refl, t .0)
@@ -43,12 +43,20 @@ number-read g (Item.array is) z e = absurd (no-value e)
 number-read g (Item.map m) z e = absurd (no-value e)
 number-read g (Item.simple n) z e = absurd (no-value e)
 
+number-back : (g : Range) (z : ℤ) → within g z ≡ true → numberIn g (intItem z) ≡ some z
+unfolding numberIn
+number-back g (pos n) h = rw h
+number-back g (negsuc n) h = rw h
+
+pub number-exact : NumberExact
+number-exact g i z = (number-read g i z, (λ h. rw (h .0) (number-back g z (h .1))))
+
 cell-inside : (g : Range) (o : Option Item) (c : Cell) → cellIn g o ≡ some c → cellFits g c ≡ true
 unfolding cellIn cellFits
 cell-inside g none c e = rw (← same-inside e) refl
 cell-inside g (some i) c e =
     let p = map-part (λ (z : ℤ). some z) (numberIn g i) c e in
-    rw (← p .2) (number-read g i (p .0) (p .1) .1)
+    rw (← p .2) (number-exact g i (p .0) .0 (p .1) .1)
 
 -- A ROW
 cells-inside : (g : Range) (w p : ℕ) (qs : Pairs) (cs : List Cell) → cellsFrom g w p qs ≡ some cs → (cellsFit g cs ≡ true) × (length cs ≡ w)
@@ -88,7 +96,7 @@ by-places : (r : Row) (i : Item) (cs : List Cell) (b : Bool) → eqb (r .1) 1 �
 unfolding cellsFit cellFits
 by-places r i cs true w e =
     let p = map-part (λ (z : ℤ). some z ∷ []) (numberIn (rangeOf (r .2)) i) cs e in
-    rw (← p .2) (and-same (number-read (rangeOf (r .2)) i (p .0) (p .1) .1) refl, sym (eqb-true (r .1) 1 w))
+    rw (← p .2) (and-same (number-exact (rangeOf (r .2)) i (p .0) .0 (p .1) .1) refl, sym (eqb-true (r .1) 1 w))
 by-places r i cs false w e = phases-inside (rangeOf (r .2)) (r .1) i cs e
 
 pub row-inside : (r : Row) (o : Option Item) (cs : List Cell) → rowIn r o ≡ some cs → (cellsFit (rangeOf (r .2)) cs ≡ true) × (length cs ≡ r .1)

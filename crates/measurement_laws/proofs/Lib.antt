@@ -3,7 +3,8 @@ pub mod Fields
 pub mod Inside
 pub mod Back
 pub mod Again
-pub mod Sizes
+pub mod WellFormed
+pub mod Longest
 pub mod Payloads
 pub mod InWords
 pub mod Computed

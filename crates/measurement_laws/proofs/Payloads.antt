@@ -1,26 +1,24 @@
 -- Both round trips of payloads: the table's own, by the laws over any table. Assumes nothing.
-use Prim.Native.Nat.{ℕ}
 use mathlib.Core.Path.{_≡_, refl, sym, ap, _∙_}
-use mathlib.Core.Bool.{true, not}
-use mathlib.Core.List.{List, [], _∷_}
 use mathlib.Core.Option.{some, bind}
 use native.Mathlib.Omega.{arith}
 use lib.ListN.{length}
 use borrow.Author.Tests.{le-leb}
-use Rattle.cbor.specs.Item.{Item, Pairs, Ok, encode, payloadOf}
+use Rattle.cbor.specs.Item.{Item, Pairs, Ok, encode}
 use Rattle.cbor_laws.proofs.Payload.{payload-exact}
 use Rattle.map_fields.specs.Fields.{mapIn}
 use Rattle.messages.specs.Refusals.{firstOf}
 use Rattle.frame_laws.proofs.Trips.{payload-back}
 use Rattle.frame_laws.proofs.FieldsAgain.{same-inside}
 use Rattle.measurement_table.specs.Table.{rows}
-use Rattle.measurement_table.specs.Cells.{Cell, rowsIn}
+use Rattle.measurement_table.specs.Cells.{rowsIn}
 use Rattle.measurement_table.specs.Payload.{cellsOf, readNumber, itemOf}
 use Rattle.measurement_table.proofs.Order.{table, table-long}
 use Rattle.measurement_laws.specs.RoundTrips.{ReadsBack, WritesAgain, OneMeasurement}
 use Rattle.measurement_laws.proofs.Back.{rows-read-back}
 use Rattle.measurement_laws.proofs.Again.{rows-write-again}
-use Rattle.measurement_laws.proofs.Sizes.{ok-table, payload-longest}
+use Rattle.measurement_laws.proofs.WellFormed.{ok-table}
+use Rattle.measurement_laws.proofs.Longest.{payload-longest}
 
 pub reads-back : ReadsBack
 unfolding readNumber cellsOf itemOf firstOf mapIn bind

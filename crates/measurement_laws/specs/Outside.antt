@@ -3,13 +3,15 @@
 use Prim.Native.Nat.{ℕ, _-_, _^_}
 use mathlib.Core.Path.{_≡_}
 use mathlib.Core.Bool.{true, _&&_}
+use mathlib.Core.Logic.{_↔_}
 use mathlib.Core.List.{List}
 use mathlib.Core.Option.{some}
 use lib.ListN.{length}
 use lib.IntN.{ℤ, pos, negℤ}
 use lib.Signed.{ltZ, leZ}
-use Rattle.cbor.specs.Item.{Pairs}
-use Rattle.map_fields.specs.Ranges.{within, signedBits}
+use Rattle.cbor.specs.Item.{Item, Pairs}
+use Rattle.map_fields.specs.Fields.{intItem}
+use Rattle.map_fields.specs.Ranges.{within, signedBits, numberIn}
 use Rattle.map_fields.specs.declared.ranges.Range.{Range}
 use Rattle.measurement_table.specs.Table.{rows, places}
 use Rattle.measurement_table.specs.Cells.{Cell, rowsIn, rowsFit}
@@ -26,6 +28,10 @@ NeverRead = (s : List ℕ) (cs : List Cell) → cellsOf s ≡ some cs → (rowsF
 
 abbrev pub NeverWritten : Type 0
 NeverWritten = (ws : List ℕ) → rangeNumber ws ≡ 0 → rowsFit rows (held ws) ≡ true
+
+-- a number is read exactly where it is in the range, and of no item but its own
+abbrev pub NumberExact : Type 0
+NumberExact = (g : Range) (i : Item) (z : ℤ) → (numberIn g i ≡ some z) ↔ ((i ≡ intItem z) × (within g z ≡ true))
 
 -- every range is that of the whole numbers from -below to high
 abbrev pub RangeExact : Type 0

@@ -1,6 +1,6 @@
 -- What is proved of reading and writing, each stated once. The proof of RowsReadBack is rows-read-back, in proofs/, and so for the others.
 -- Assumes nothing: these are statements.
-use Prim.Native.Nat.{ℕ, suc, _+_, _^_, _≤_, _<_}
+use Prim.Native.Nat.{ℕ, suc}
 use mathlib.Core.Path.{_≡_}
 use mathlib.Core.Bool.{true}
 use mathlib.Core.List.{List, [], _∷_}
@@ -26,6 +26,15 @@ Unknown (r ∷ rs) k = (r .0 ≡ k → ⊥) × Unknown rs k
 -- "without unknown keys"
 abbrev pub Known : List Row → Pairs → Type 0
 Known rs ps = (k : ℕ) → Unknown rs k → valueOf ps k ≡ none
+
+-- two maps that hold the same under the number of each row
+abbrev pub Alike : List Row → Pairs → Pairs → Type 0
+Alike [] ps qs = Unit {0}
+Alike (r ∷ rs) ps qs = (valueOf ps (r .0) ≡ valueOf qs (r .0)) × Alike rs ps qs
+
+-- unknown keys are passed over: such maps are read alike, whatever else they hold
+abbrev pub OthersPassed : Type 0
+OthersPassed = (rs : List Row) (ps qs : Pairs) → Alike rs ps qs → rowsIn rs ps ≡ rowsIn rs qs
 
 -- the map that is written for cells in their ranges is read as those cells
 abbrev pub RowsReadBack : Type 0
@@ -62,8 +71,12 @@ WordsReadBack =
     (ws : List ℕ) → rangeNumber ws ≡ 0
     → (readNumber (encode (itemOf (held ws))) ≡ 0) × (cellsRead (encode (itemOf (held ws))) ≡ held ws) × (held (flat (cellsRead (encode (itemOf (held ws))))) ≡ held ws)
 
--- a payload without unknown keys that is read may be written again, and is the same bytes
+-- what is read can be written
+abbrev pub WordsWritable : Type 0
+WordsWritable = (s : List ℕ) → readNumber s ≡ 0 → rangeNumber (flat (cellsRead s)) ≡ 0
+
+-- and is the same bytes again, where the payload has no unknown keys
 abbrev pub WordsWriteAgain : Type 0
 WordsWriteAgain =
     (s : List ℕ) → Bytes s → (ps : Pairs) → payloadOf s ≡ some (Item.map ps) → Known rows ps → readNumber s ≡ 0
-    → (rangeNumber (flat (cellsRead s)) ≡ 0) × (encode (itemOf (held (flat (cellsRead s)))) ≡ s)
+    → encode (itemOf (held (flat (cellsRead s)))) ≡ s

@@ -1,118 +1,32 @@
--- What is written for a table is well formed, and no longer than its ranges have it. Assumes nothing.
-use Prim.Native.Nat.{ℕ, zero, suc, _+_, _^_, _≤_, _<_}
-use mathlib.Core.Path.{_≡_, refl, ap}
+-- The longest payload: no head is longer than that of the largest number of its range. Assumes nothing.
+use Prim.Native.Nat.{ℕ, zero, suc, _+_, _≤_}
+use mathlib.Core.Path.{_≡_, refl}
 use mathlib.Core.Bool.{Bool, true, false, cond}
 use mathlib.Core.List.{List, [], _∷_}
 use mathlib.Core.Option.{some, none}
 use native.Mathlib.Omega.{arith}
-use lib.ListN.{length, getD, take, drop, length-append}
+use lib.ListN.{length, take, drop, length-append}
 use lib.Dec.{eqb}
 use lib.IntN.{pos, negsuc}
 use borrow.Author.Tests.{ltb-true, leb-true}
+use Rattle.bytes.specs.Bytes.{bytesOf}
 use Rattle.heads.specs.Head.{infoOf, widthOf, headLen, headBytes}
 use Rattle.heads.proofs.Widths.{by-width, head-length, len-positive}
-use Rattle.bytes.specs.Bytes.{bytesOf}
-use Rattle.cbor.specs.Item.{Item, Pairs, Ok, encode, encodePairs, countPairs}
+use Rattle.cbor.specs.Item.{Item, Pairs, encode, encodePairs, countPairs}
 use Rattle.map_fields.specs.Fields.{Fields, present}
 use Rattle.map_fields.specs.Ranges.{within}
 use Rattle.map_fields.specs.Puts.{fieldBytes}
 use Rattle.map_fields.specs.declared.ranges.Range.{Range}
 use Rattle.map_fields.proofs.Joined.{and-left, and-right}
 use Rattle.map_fields.proofs.Added.{map-bytes, fields-none, fields-more}
-use Rattle.frame_laws.proofs.Maps.{OkField, OkFields, ok-map, count-fields}
+use Rattle.frame_laws.proofs.Maps.{count-fields}
 use Rattle.measurement_table.specs.Table.{rows, ranges, rangeOf}
-use Rattle.measurement_table.specs.Cells.{Cell, blanks, cellItem, phaseFields, someMap, firstItem, rowItem, fieldsOf, cellFits, cellsFit, rowsFit}
+use Rattle.measurement_table.specs.Cells.{Cell, cellItem, phaseFields, someMap, firstItem, rowItem, fieldsOf, cellFits, cellsFit, rowsFit}
 use Rattle.measurement_table.specs.Payload.{itemOf}
 use Rattle.measurement_table.specs.declared.table.Row.{Row}
-use Rattle.measurement_table.proofs.Order.{Rising, table-long}
+use Rattle.measurement_table.proofs.Order.{table-long}
 use Rattle.measurement_laws.specs.Longest.{PayloadLongest, PayloadReached}
-use Rattle.measurement_laws.proofs.Back.{phases-ascend, fields-ascend}
-
--- every range is within 64 bits
-abbrev Wide : Range → Type 0
-Wide g = (g .below ≤ 2 ^ 64) × (g .high < 2 ^ 64)
-
-abbrev AllWide : List Range → Type 0
-AllWide [] = Unit {0}
-AllWide (g ∷ gs) = Wide g × AllWide gs
-
-wide-at : (gs : List Range) (k : ℕ) (g : Range) → AllWide gs → Wide g → Wide (getD gs k g)
-wide-at [] k g a w = w
-wide-at (x ∷ gs) zero g a w = a .0
-wide-at (x ∷ gs) (suc k) g a w = wide-at gs k g (a .1) w
-
-kind-wide : (k : ℕ) → Wide (rangeOf k)
-unfolding rangeOf ranges
-kind-wide k =
-    wide-at ranges k _
-    ((omega arith, omega arith), ((omega arith, omega arith), ((omega arith, omega arith), ((omega arith, omega arith), ((omega arith, omega arith), ((omega arith, omega arith), tt))))))
-    (omega arith, omega arith)
-
--- WELL FORMED
-module _ (k : ℕ) where
-  ok-cell : (d : ℕ) (c : Cell) → cellFits (rangeOf k) c ≡ true → OkField (cellItem c) d
-  unfolding cellItem cellFits within Ok
-  ok-cell d none h = tt
-  ok-cell d (some (pos n)) h = omega (arith, leb-true n (rangeOf k .high) h, kind-wide k .1)
-  ok-cell d (some (negsuc n)) h = omega (arith, ltb-true n (rangeOf k .below) h, kind-wide k .0)
-
-  ok-phases : (d p : ℕ) (cs : List Cell) → p + length cs < 2 ^ 64 → cellsFit (rangeOf k) cs ≡ true → OkFields (phaseFields p cs) d
-  unfolding phaseFields cellsFit
-  ok-phases d p [] l h = tt
-  ok-phases d p (c ∷ cs) l h = (
-    omega arith,
-    ok-cell d c (and-left (cellFits (rangeOf k) c) (cellsFit (rangeOf k) cs) h),
-    ok-phases d (p + 1) cs (omega arith) (and-right (cellFits (rangeOf k) c) (cellsFit (rangeOf k) cs) h),
-  )
-
-  ok-first : (d : ℕ) (cs : List Cell) → cellsFit (rangeOf k) cs ≡ true → OkField (firstItem cs) d
-  unfolding firstItem cellsFit
-  ok-first d [] h = tt
-  ok-first d (c ∷ cs) h = ok-cell d c (and-left (cellFits (rangeOf k) c) (cellsFit (rangeOf k) cs) h)
-
-phases-count : (p : ℕ) (cs : List Cell) → length (phaseFields p cs) ≡ length cs
-unfolding phaseFields
-phases-count p [] = refl
-phases-count p (c ∷ cs) = ap suc (phases-count (p + 1) cs)
-
-ok-some : (qs : Pairs) (d : ℕ) → Ok (Item.map qs) d → OkField (someMap qs) d
-unfolding someMap
-ok-some Pairs.empty d o = tt
-ok-some (Pairs.pair k i ps) d o = o
-
-ok-row : (r : Row) (d : ℕ) (cs : List Cell) → length cs < 2 ^ 64 → cellsFit (rangeOf (r .2)) cs ≡ true → OkField (rowItem r cs) (suc d)
-unfolding rowItem
-ok-row r d cs l h = go (eqb (r .1) 1)
-  where
-    go : (b : Bool) → OkField (cond b (firstItem cs) (someMap (present (phaseFields 0 cs)))) (suc d)
-    go true = ok-first (r .2) (suc d) cs h
-    go false =
-        ok-some (present (phaseFields 0 cs)) (suc d)
-        (ok-map (phaseFields 0 cs) d (omega (arith, phases-count 0 cs)) (phases-ascend 0 cs) (ok-phases (r .2) d 0 cs (omega arith) h))
-
-take-short : (n : ℕ) (cs : List Cell) → length (take n cs) ≤ n
-take-short zero cs = omega arith
-take-short (suc n) [] = omega arith
-take-short (suc n) (c ∷ cs) = let r = take-short n cs in omega arith
-
-ok-rows : (rs : List Row) (d b : ℕ) (cs : List Cell) → Rising rs b → rowsFit rs cs ≡ true → OkFields (fieldsOf rs cs) (suc d)
-unfolding fieldsOf rowsFit
-ok-rows [] d b cs g h = tt
-ok-rows (r ∷ rs) d b cs g h =
-    let mine = cellsFit (rangeOf (r .2)) (take (r .1) cs) in
-    let others = rowsFit rs (drop (r .1) cs) in (
-      g .1,
-      ok-row r d (take (r .1) cs) (omega (arith, take-short (r .1) cs, g .2)) (and-left mine others h),
-      ok-rows rs d (r .0 + 1) (drop (r .1) cs) (g .3) (and-right mine others h),
-    )
-
-fields-count : (rs : List Row) (cs : List Cell) → length (fieldsOf rs cs) ≡ length rs
-unfolding fieldsOf
-fields-count [] cs = refl
-fields-count (r ∷ rs) cs = ap suc (fields-count rs (drop (r .1) cs))
-
-pub ok-table : (rs : List Row) (d : ℕ) (cs : List Cell) → length rs < 2 ^ 64 → Rising rs 0 → rowsFit rs cs ≡ true → Ok (Item.map (present (fieldsOf rs cs))) (suc (suc d))
-ok-table rs d cs l g h = ok-map (fieldsOf rs cs) (suc d) (omega (arith, fields-count rs cs)) (fields-ascend rs cs 0 g) (ok-rows rs d 0 cs g h)
+use Rattle.measurement_laws.proofs.WellFormed.{take-short, phases-count, fields-count}
 
 -- HEADS: a smaller argument has none longer
 at-most : (m c : ℕ) → (24 ≤ m → 1 ≤ c) → (256 ≤ m → 2 ≤ c) → (65536 ≤ m → 4 ≤ c) → (4294967296 ≤ m → 8 ≤ c) → headLen m ≤ 1 + c
@@ -185,10 +99,8 @@ row-long : (r : Row) (cs : List Cell) → length cs ≤ r .1 → cellsFit (range
 unfolding rowItem
 row-long r cs l h = go (eqb (r .1) 1)
   where
-    phases : ℕ
-    phases = headLen (r .1) + phasesMost (rangeOf (r .2)) 0 (r .1)
-
-    go : (b : Bool) → length (fieldBytes (r .0) (cond b (firstItem cs) (someMap (present (phaseFields 0 cs))))) ≤ headLen (r .0) + cond b (headLen (top (rangeOf (r .2)))) (headLen (r .1) + phasesMost (rangeOf (r .2)) 0 (r .1))
+    go : (b : Bool) → length (fieldBytes (r .0) (cond b (firstItem cs) (someMap (present (phaseFields 0 cs)))))
+        ≤ headLen (r .0) + cond b (headLen (top (rangeOf (r .2)))) (headLen (r .1) + phasesMost (rangeOf (r .2)) 0 (r .1))
     go true = first-long (rangeOf (r .2)) (r .0) cs h
     go false =
         some-long (r .0) _ (present (phaseFields 0 cs))
