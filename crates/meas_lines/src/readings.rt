@@ -40,7 +40,9 @@ fn is_there(flow: Flow) -> bool {
 }
 
 fn some_flow(words: &Words) -> bool {
-    is_there(power_flow(words)) | is_there(dc_flow(words)) | is_there(phase_flow(words, 0))
+    is_there(power_flow(words))
+        | is_there(dc_flow(words))
+        | is_there(phase_flow(words, 0))
         | is_there(phase_flow(words, 1))
         | is_there(phase_flow(words, 2))
 }
