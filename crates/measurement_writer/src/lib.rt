@@ -1,0 +1,6 @@
+// Payloads of Measurement, written: tested, then put into a local and delivered.
+mod fits; // fits.rt: marks and ranges, tested
+mod puts; // puts.rt: attributes, counted and put
+mod writing; // writing.rt: a payload, written
+
+pub use writing::write_measurement;
