@@ -1,3 +1,4 @@
 pub mod Words
 pub mod Requests
 pub mod Responses
+pub mod Meter

@@ -1,25 +1,19 @@
 // What the box measures: payloads read and written, and the flows.
 use measurement::Flow;
-use measurement::dc_flow;
-use measurement::phase_flow;
-use measurement::power_flow;
-use measurement_reader::read_measurement;
-use measurement_table::Words;
-use measurement_writer::write_measurement;
+use measurement::Words;
 ghost use mathlib.Core.Path.{_≡_};
 ghost use lib.ListN.{length};
-ghost use Rattle.cbor.specs.Item.{encode};
-ghost use Rattle.sender.specs.Writing.{writtenOf, leftBy};
-ghost use Rattle.measurement_table.specs.Words.{flat, held, rangeNumber};
-ghost use Rattle.measurement_table.specs.Payload.{readNumber, cellsRead, itemOf};
-ghost use Rattle.capi.specs.Meter.{payloadOf, flowNumber};
+ghost use Rattle.measurement_table.specs.Words.{flat};
+ghost use Rattle.measurement_table.specs.Payload.{readNumber, cellsRead};
+ghost use Rattle.measurement.specs.Flow.{acActivePower, acActivePowerPerPhase, dcPower};
+ghost use Rattle.capi.specs.Meter.{measurementWritten, measurementLeft, flowNumber, flowIn};
 
 #[no_mangle]
 pub extern "C" fn cekarum_raw_read_measurement(payload: &[u8], words: &mut Words) -> u64
     ensures { λ r. ⌜ r ≡ readNumber (now (payload .entry)) ⌝ }
     ensures { λ _. ⌜ now (words .exit) ≡ flat (cellsRead (now (payload .entry))) ⌝ }
 {
-    read_measurement(payload, words)
+    measurement::read_measurement(payload, words)
 }
 
 #[no_mangle]
@@ -27,13 +21,19 @@ pub extern "C" fn cekarum_raw_write_measurement(
     words: &Words,
     out: &mut [u8],
     written: &mut u64,
-) -> u64 {
-    let w = write_measurement(words, out);
+) -> u64
+    ensures { λ r. ⌜ r ≡ measurementWritten (now (words .entry)) (length (now (out .entry))) .number ⌝ }
+    ensures { λ _. ⌜ now (out .exit) ≡ measurementLeft (now (words .entry)) (now (out .entry)) ⌝ }
+    ensures { λ _. ⌜ now (written .exit) ≡ measurementWritten (now (words .entry)) (length (now (out .entry))) .length ⌝ }
+{
+    let w = measurement::write_measurement(words, out);
     *written = w.length as u64;
     w.number
 }
 
-fn flow_number(f: Flow) -> u64 {
+fn flow_number(f: Flow) -> u64
+    ensures { λ r. ⌜ r ≡ flowNumber f ⌝ }
+{
     match f {
         Flow::Absent => 0,
         Flow::Neither => 1,
@@ -43,16 +43,22 @@ fn flow_number(f: Flow) -> u64 {
 }
 
 #[no_mangle]
-pub extern "C" fn cekarum_raw_power_flow(words: &Words) -> u64 {
-    flow_number(power_flow(words))
+pub extern "C" fn cekarum_raw_power_flow(words: &Words) -> u64
+    ensures { λ r. ⌜ r ≡ flowIn (now (words .entry)) acActivePower 0 ⌝ }
+{
+    flow_number(measurement::power_flow(words))
 }
 
 #[no_mangle]
-pub extern "C" fn cekarum_raw_dc_flow(words: &Words) -> u64 {
-    flow_number(dc_flow(words))
+pub extern "C" fn cekarum_raw_dc_flow(words: &Words) -> u64
+    ensures { λ r. ⌜ r ≡ flowIn (now (words .entry)) dcPower 0 ⌝ }
+{
+    flow_number(measurement::dc_flow(words))
 }
 
 #[no_mangle]
-pub extern "C" fn cekarum_raw_phase_flow(words: &Words, phase: u64) -> u64 {
-    flow_number(phase_flow(words, phase as usize))
+pub extern "C" fn cekarum_raw_phase_flow(words: &Words, phase: u64) -> u64
+    ensures { λ r. ⌜ r ≡ flowIn (now (words .entry)) acActivePowerPerPhase phase ⌝ }
+{
+    flow_number(measurement::phase_flow(words, phase as usize))
 }

@@ -1,0 +1,13 @@
+-- The flow's number.
+use mathlib.Core.Path.{ap, _∙_}
+use Rattle.capi.specs.Meter.{flowNumber}
+use borrow.Author.Needs.{needs}
+use Rattle.capi.proofs.meter.cekarum_raw_phase_flow.Statement.{statement}
+use Rattle.capi.proofs.meter.cekarum_raw_phase_flow.Tie as tie
+
+pub cekarum-raw-phase-flow-spec : {M : Type 1} → statement M
+cekarum-raw-phase-flow-spec =
+    tie.close
+    (tie.spec
+    (λ c κs. search needs) (λ c κs. search needs)
+    (λ c. c .flow-number .ensures ∙ ap flowNumber (c .before .phase-flow .ensures)))

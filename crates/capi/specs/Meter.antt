@@ -1,0 +1,29 @@
+-- What is measured, as C reads and writes it: words, and a number for each way of flow. Assumes nothing: these are definitions.
+use Prim.Native.Nat.{ℕ}
+use mathlib.Core.List.{List}
+use Rattle.cbor.specs.Item.{encode}
+use Rattle.sender.specs.Writing.{writtenOf, leftBy}
+use Rattle.sender.specs.declared.Written.{Written}
+use Rattle.measurement_table.specs.Table.{rows}
+use Rattle.measurement_table.specs.Words.{held, rangeNumber}
+use Rattle.measurement_table.specs.Payload.{itemOf}
+use Rattle.measurement.specs.Flow.{flowOf, cellFor}
+use Rattle.measurement.specs.declared.flow.Flow.{Flow}
+
+-- what writing words answers, given the room, and leaves
+unfoldable pub measurementWritten : List ℕ → ℕ → Written
+measurementWritten ws room = writtenOf (rangeNumber ws) (encode (itemOf (held ws))) room
+
+unfoldable pub measurementLeft : List ℕ → List ℕ → List ℕ
+measurementLeft ws out = leftBy (rangeNumber ws) (encode (itemOf (held ws))) out
+
+-- absent, none, in, out
+unfoldable pub flowNumber : Flow → ℕ
+flowNumber Flow.Absent = 0
+flowNumber Flow.Neither = 1
+flowNumber Flow.In = 2
+flowNumber Flow.Out = 3
+
+-- the flow of attribute n, and of its phase p
+abbrev pub flowIn : List ℕ → ℕ → ℕ → ℕ
+flowIn ws n p = flowNumber (flowOf (cellFor rows (held ws) n p))

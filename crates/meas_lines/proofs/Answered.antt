@@ -1,0 +1,91 @@
+-- The pieces of an answer, one behind the other. Assumes nothing.
+use Prim.Native.Nat.{ℕ, _≤_, _<_}
+use mathlib.Core.Path.{_≡_, refl, sym, ap, _∙_}
+use mathlib.Core.Bool.{Bool, true, false}
+use mathlib.Core.List.{List, [], _∷_, _++_}
+use lib.ListN.{length, take}
+use lib.Seq.{take-length}
+use borrow.Author.Tests.{le-leb, lt-leb, ne-eqb}
+use Rattle.bytes.specs.Bytes.{putWhole, pastWhole}
+use Rattle.sender.specs.Writing.{writtenOf, leftBy}
+use Rattle.sender.specs.declared.Written.{Written}
+use Rattle.text.specs.Text.{decimal}
+use Rattle.text.specs.Pieces.{putAll, pastAll}
+use Rattle.text.proofs.Pieces.{all-to-do, one-done, two-done, run-done, all-done}
+use Rattle.words.specs.Answers.{hexOrNone, badLine}
+use Rattle.words.specs.Hex.{hexRead, hexAfter}
+use Rattle.words.specs.declared.hex.Read.{Read}
+use Rattle.measurement_table.specs.Words.{flat, rangeNumber}
+use Rattle.measurement_table.specs.Payload.{readNumber, cellsRead}
+use Rattle.meas_lines.specs.Meas.{someFlow, allFlows, flowsPieces, room, payloadIn, againText, payloadPieces, measPieces}
+
+-- one piece, and pieces, written
+abbrev pub One : List ℕ → ℕ → List ℕ → ℕ → List ℕ → Type 0
+One s p x q t = (q ≡ pastWhole s p x) × (t ≡ putWhole s p x)
+
+abbrev pub All : List ℕ → ℕ → List (List ℕ) → ℕ → List ℕ → Type 0
+All s p xs q t = (q ≡ pastAll s p xs) × (t ≡ putAll s p xs)
+
+pub named : (s : List ℕ) (p : ℕ) (name way t t′ : List ℕ) (q q′ : ℕ)
+    → One s p (take (length name) name) q t → One t q (take (length way) way) q′ t′ → All s p (name ∷ way ∷ []) q′ t′
+named s p name way t t′ q q′ a b =
+    let w = two-done _ _ _ _ _ _ _ _ _ _ _ _ (all-to-do s p (name ∷ way ∷ [])) (rw (take-length name) at a) (rw (take-length way) at b) in
+    all-done _ _ _ _ _ _ w refl
+
+module _ (s : List ℕ) (p : ℕ) (a b c d e : List (List ℕ)) where
+  pub five : (q q₂ q₃ q₄ q₅ : ℕ) (t t₂ t₃ t₄ t₅ : List ℕ) → All s p a q t → All t q b q₂ t₂ → All t₂ q₂ c q₃ t₃ → All t₃ q₃ d q₄ t₄ → All t₄ q₄ e q₅ t₅
+      → All s p (a ++ (b ++ (c ++ (d ++ (e ++ []))))) q₅ t₅
+  five q q₂ q₃ q₄ q₅ t t₂ t₃ t₄ t₅ h h₂ h₃ h₄ h₅ =
+      let w = run-done _ _ _ _ _ a (b ++ (c ++ (d ++ (e ++ [])))) _ _ (all-to-do s p (a ++ (b ++ (c ++ (d ++ (e ++ [])))))) h in
+      let w₂ = run-done _ _ _ _ _ b (c ++ (d ++ (e ++ []))) _ _ w h₂ in
+      let w₃ = run-done _ _ _ _ _ c (d ++ (e ++ [])) _ _ w₂ h₃ in
+      let w₄ = run-done _ _ _ _ _ d (e ++ []) _ _ w₃ h₄ in
+      all-done _ _ _ _ _ _ (run-done _ _ _ _ _ e [] _ _ w₄ h₅) refl
+
+-- flows, where one is there and where none is
+pub flows-some : (ws : List ℕ) (b : Bool) → b ≡ someFlow ws → b ≡ true → flowsPieces ws ≡ allFlows ws
+unfolding flowsPieces
+flows-some ws b e t = rw (sym e ∙ t) refl
+
+pub flows-none : (ws : List ℕ) (b : Bool) → b ≡ someFlow ws → b ≡ false → flowsPieces ws ≡ (32 ∷ 45 ∷ []) ∷ []
+unfolding flowsPieces
+flows-none ws b e t = rw (sym e ∙ t) refl
+
+pub alone : (s : List ℕ) (p : ℕ) (x t : List ℕ) (q : ℕ) → One s p x q t → All s p (x ∷ []) q t
+alone s p x t q h = all-done _ _ _ _ _ _ (one-done _ _ _ _ _ _ _ _ _ (all-to-do s p (x ∷ [])) h) refl
+
+-- the payload again
+pub again-written : (n : ℕ) (ws x : List ℕ) (w : Written) → n ≡ 0 → w ≡ writtenOf (rangeNumber ws) (payloadIn ws) (length room) → x ≡ leftBy (rangeNumber ws) (payloadIn ws) room
+    → againText n ws ≡ hexOrNone x (w .length)
+unfolding againText
+again-written n ws x w z e f = rw (z, e, f) refl
+
+pub again-refused : (n : ℕ) (ws : List ℕ) → (n ≡ 0 → ⊥) → againText n ws ≡ 45 ∷ []
+unfolding againText
+again-refused n ws h = rw (ne-eqb n 0 h) refl
+
+-- the whole answer for a payload
+module _ (s out : List ℕ) (at n : ℕ) (ws : List ℕ) (number : n ≡ readNumber s) (words : ws ≡ flat (cellsRead s)) where
+  pub answered : (q q₂ q₃ q₄ q₅ : ℕ) (t t₂ t₃ t₄ t₅ : List ℕ)
+      → One out at (decimal n) q t → One t q (32 ∷ []) q₂ t₂ → One t₂ q₂ (againText n ws) q₃ t₃ → All t₃ q₃ (flowsPieces ws) q₄ t₄ → One t₄ q₄ (10 ∷ []) q₅ t₅
+      → All out at (payloadPieces s) q₅ t₅
+  unfolding payloadPieces
+  answered q q₂ q₃ q₄ q₅ t t₂ t₃ t₄ t₅ h h₂ h₃ h₄ h₅ =
+      let w = two-done _ _ _ _ _ _ _ _ _ _ _ _ (all-to-do out at (payloadPieces s)) (rw number at h) h₂ in
+      let w₃ = one-done _ _ _ _ _ _ _ _ _ w (rw (number, words) at h₃) in
+      let w₄ = run-done _ _ _ _ _ _ _ _ _ w₃ (rw words at h₄) in
+      all-done _ _ _ _ _ _ (one-done _ _ _ _ _ _ _ _ _ w₄ h₅) refl
+
+-- the line, by what was read of its word
+module _ (w bytes : List ℕ) (r : Read) (e : r ≡ hexRead w (length bytes)) where
+  pub line-bad : r .good ≡ false → measPieces w bytes ≡ badLine ∷ []
+  unfolding measPieces
+  line-bad b = rw (← e, b) refl
+
+  pub line-past : r .good ≡ true → length bytes < r .count → measPieces w bytes ≡ badLine ∷ []
+  unfolding measPieces
+  line-past b h = rw (← e, b, lt-leb _ _ h) refl
+
+  pub line-good : r .good ≡ true → r .count ≤ length bytes → measPieces w bytes ≡ payloadPieces (take (r .count) (hexAfter w bytes))
+  unfolding measPieces
+  line-good b h = rw (← e, b, le-leb _ _ h) refl

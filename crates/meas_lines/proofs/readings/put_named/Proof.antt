@@ -1,0 +1,14 @@
+-- The name, then the way.
+use Rattle.meas_lines.proofs.Answered.{named}
+use borrow.Author.Needs.{needs}
+use Rattle.meas_lines.proofs.readings.put_named.Statement.{statement}
+use Rattle.meas_lines.proofs.readings.put_named.Tie as tie
+
+pub put-named-spec : {M : Type 1} → statement M
+put-named-spec =
+    tie.close
+    (tie.spec
+    (λ c κs. search needs) (λ c κs. search needs) (λ c. search needs)
+    (λ c.
+    let at-put-bytes = c .before .before .before .before .before .before .put-bytes in
+    named _ _ _ _ _ _ _ _ (at-put-bytes .ensures) (c .before .before .put-bytes2 .ensures)))
