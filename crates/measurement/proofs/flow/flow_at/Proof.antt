@@ -9,7 +9,18 @@ flow-at-spec =
     tie.close
     (tie.spec
     (λ c κs. search needs)
-    (λ c. flow-zero _ _ (c .before .before .before .before .place-at .ensures) (c .before .before .if1 .taken) (c .if2 .taken))
-    (λ c. flow-in _ _ (c .before .before .before .before .place-at .ensures) (c .before .before .if1 .taken) (c .if2 .left))
-    (λ c. flow-out _ _ (c .before .before .before .before .place-at .ensures) (c .if3 .taken))
-    (λ c. flow-none _ _ (c .before .before .before .before .place-at .ensures) (c .before .before .if1 .left) (c .if3 .left)))
+    (λ c.
+    let at-if1 = c .before .before .if1 in
+    let at-place-at = c .before .before .before .before .place-at in
+    flow-zero _ _ (at-place-at .ensures) (at-if1 .taken) (c .if2 .taken))
+    (λ c.
+    let at-if1 = c .before .before .if1 in
+    let at-place-at = c .before .before .before .before .place-at in
+    flow-in _ _ (at-place-at .ensures) (at-if1 .taken) (c .if2 .left))
+    (λ c.
+    let at-place-at = c .before .before .before .before .place-at in
+    flow-out _ _ (at-place-at .ensures) (c .if3 .taken))
+    (λ c.
+    let at-if1 = c .before .before .if1 in
+    let at-place-at = c .before .before .before .before .place-at in
+    flow-none _ _ (at-place-at .ensures) (at-if1 .left) (c .if3 .left)))

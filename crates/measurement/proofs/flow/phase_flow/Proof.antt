@@ -11,5 +11,7 @@ phase-flow-spec =
     tie.close
     (tie.spec
     (λ c. search needs) (λ c κs. search needs)
-    (λ c. c .flow-at .ensures ∙ ap flowOf (phase-place (c .before .before .args .words .now) (c .before .before .args .phase) (c .before .if1 .taken)))
+    (λ c.
+    let at-args = c .before .before .args in
+    c .flow-at .ensures ∙ ap flowOf (phase-place (at-args .words .now) (at-args .phase) (c .before .if1 .taken)))
     (λ c. no-phase (c .before .args .words .now) (c .before .args .phase) (c .if1 .left)))
