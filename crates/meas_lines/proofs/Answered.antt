@@ -1,19 +1,20 @@
 -- The pieces of an answer, one behind the other. Assumes nothing.
 use Prim.Native.Nat.{ℕ, _≤_, _<_}
 use mathlib.Core.Path.{_≡_, refl, sym, ap, _∙_}
-use mathlib.Core.Bool.{Bool, true, false}
+use mathlib.Core.Bool.{Bool, true, false, cond, _||_}
 use mathlib.Core.List.{List, [], _∷_, _++_}
 use lib.ListN.{length, take}
 use lib.Seq.{take-length}
 use borrow.Author.Tests.{le-leb, lt-leb, ne-eqb}
-use Rattle.bytes.specs.Bytes.{putWhole, pastWhole}
+use Rattle.bytes.specs.Bytes.{put, putWhole, pastWhole}
+use Rattle.bytes.proofs.PutLaws.{length-put}
 use Rattle.sender.specs.Writing.{writtenOf, leftBy}
 use Rattle.sender.specs.declared.Written.{Written}
 use Rattle.text.specs.Text.{decimal}
 use Rattle.text.specs.Pieces.{putAll, pastAll}
 use Rattle.text.proofs.Pieces.{all-to-do, one-done, two-done, run-done, all-done}
 use Rattle.words.specs.Answers.{hexOrNone, badLine}
-use Rattle.words.specs.Hex.{hexRead, hexAfter}
+use Rattle.words.specs.Hex.{isNone, isPairs, hexBytes, hexRead, hexAfter}
 use Rattle.words.specs.declared.hex.Read.{Read}
 use Rattle.measurement_table.specs.Words.{flat, rangeNumber}
 use Rattle.measurement_table.specs.Payload.{readNumber, cellsRead}
@@ -77,15 +78,23 @@ module _ (s out : List ℕ) (at n : ℕ) (ws : List ℕ) (number : n ≡ readNum
       all-done _ _ _ _ _ _ (one-done _ _ _ _ _ _ _ _ _ w₄ h₅) refl
 
 -- the line, by what was read of its word
-module _ (w bytes : List ℕ) (r : Read) (e : r ≡ hexRead w (length bytes)) where
-  pub line-bad : r .good ≡ false → measPieces w bytes ≡ badLine ∷ []
-  unfolding measPieces
-  line-bad b = rw (← e, b) refl
+kept : (w bytes : List ℕ) → length (hexAfter w bytes) ≡ length bytes
+unfolding hexAfter
+kept w bytes = go (isNone w || isPairs w (length bytes))
+  where
+    go : (b : Bool) → length (cond b (put bytes 0 (hexBytes w)) bytes) ≡ length bytes
+    go true = length-put bytes (hexBytes w) 0
+    go false = refl
 
-  pub line-past : r .good ≡ true → length bytes < r .count → measPieces w bytes ≡ badLine ∷ []
+module _ (w bytes x : List ℕ) (r : Read) (e : r ≡ hexRead w (length bytes)) (f : x ≡ hexAfter w bytes) (out t : List ℕ) (at q : ℕ) where
+  pub line-bad : r .good ≡ false → One out at badLine q t → All out at (measPieces w bytes) q t
   unfolding measPieces
-  line-past b h = rw (← e, b, lt-leb _ _ h) refl
+  line-bad b h = rw (← e, b) (alone out at badLine t q h)
 
-  pub line-good : r .good ≡ true → r .count ≤ length bytes → measPieces w bytes ≡ payloadPieces (take (r .count) (hexAfter w bytes))
+  pub line-past : r .good ≡ true → length x < r .count → One out at badLine q t → All out at (measPieces w bytes) q t
   unfolding measPieces
-  line-good b h = rw (← e, b, le-leb _ _ h) refl
+  line-past b h i = rw (← e, b, lt-leb (r .count) (length bytes) (rw (f, kept w bytes) at h)) (alone out at badLine t q i)
+
+  pub line-good : r .good ≡ true → r .count ≤ length x → All out at (payloadPieces (take (r .count) x)) q t → All out at (measPieces w bytes) q t
+  unfolding measPieces
+  line-good b h i = rw (← e, b, le-leb (r .count) (length bytes) (rw (f, kept w bytes) at h)) (rw f at i)

@@ -2,7 +2,7 @@
 use mathlib.Core.Path.{sym}
 use lib.Seq.{length-take-le}
 use native.Mathlib.Omega.{arith}
-use Rattle.meas_lines.proofs.Answered.{line-bad, line-past, line-good, alone}
+use Rattle.meas_lines.proofs.Answered.{line-bad, line-past, line-good}
 use borrow.Author.Needs.{needs}
 use borrow.Author.Tests.{not-true, not-false}
 use Rattle.meas_lines.proofs.readings.meas.Statement.{statement}
@@ -13,8 +13,21 @@ meas-spec =
     tie.close
     (tie.spec
     (λ c κs. search needs) (λ c κs. search needs) (λ c. search needs) (λ c. search needs)
-    (λ c. rw (line-bad _ _ _ (c .before .before .before .before .before .before .before .before .read-hex .ensures .0) (not-true _ (c .before .before .before .before .if1 .taken))) (alone _ _ _ _ _ (c .before .before .put-bad .ensures)))
+    (λ c.
+    let at-if1 = c .before .before .before .before .if1 in
+    let at-read-hex = c .before .before .before .before .before .before .before .before .read-hex in
+    line-bad _ _ _ _ (at-read-hex .ensures .0) (at-read-hex .ensures .1) _ _ _ _ (not-true _ (at-if1 .taken)) (c .before .before .put-bad .ensures))
     (λ c κs. search needs) (λ c. search needs) (λ c. search needs)
-    (λ c. rw (line-past _ _ _ (c .before .before .before .before .before .before .before .before .before .read-hex .ensures .0) (not-false _ (c .before .before .before .before .before .if1 .left)) (c .before .before .before .before .if2 .taken)) (alone _ _ _ _ _ (c .before .before .put-bad2 .ensures)))
+    (λ c.
+    let at-if2 = c .before .before .before .before .if2 in
+    let at-if1 = c .before .before .before .before .before .if1 in
+    let at-read-hex = c .before .before .before .before .before .before .before .before .before .read-hex in
+    line-past _ _ _ _ (at-read-hex .ensures .0) (at-read-hex .ensures .1) _ _ _ _ (not-false _ (at-if1 .left)) (at-if2 .taken)
+    (c .before .before .put-bad2 .ensures))
     (λ c. search needs) (λ c. sym (length-take-le _ _ (omega arith))) (λ c κs. search needs) (λ c. search needs) (λ c. search needs)
-    (λ c. rw (line-good _ _ _ (c .before .before .before .before .before .before .before .before .before .before .read-hex .ensures .0) (not-false _ (c .before .before .before .before .before .before .if1 .left)) (c .before .before .before .before .before .if2 .left), ← c .before .before .before .before .before .before .before .before .before .before .read-hex .ensures .1) (c .before .before .payload .ensures)))
+    (λ c.
+    let at-if2 = c .before .before .before .before .before .if2 in
+    let at-if1 = c .before .before .before .before .before .before .if1 in
+    let at-read-hex = c .before .before .before .before .before .before .before .before .before .before .read-hex in
+    line-good _ _ _ _ (at-read-hex .ensures .0) (at-read-hex .ensures .1) _ _ _ _ (not-false _ (at-if1 .left)) (at-if2 .left)
+    (c .before .before .payload .ensures)))
