@@ -1401,7 +1401,9 @@ static bool read_attributes(const uint8_t *p, const uint8_t *end, struct plain_c
         p = head(p, end, &kind, &key);
         for (; a < measured_end && a->number < key; a++)
             to += a->cells;
-        if (a == measured_end || a->number != key)
+        if (a == measured_end) /* no larger key is known */
+            return true;
+        if (a->number != key)
             p = skip(p, end);
         else
             p = (a->cells == 1 ? read_cell : read_phases)(p, end, &type_ranges[a->type], to);

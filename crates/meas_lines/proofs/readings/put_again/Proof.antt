@@ -10,6 +10,12 @@ put-again-spec =
     (tie.spec
     (λ c. search needs) (λ c κs. search needs) (λ c. search needs) (λ c κs. search needs) (λ c. search needs)
     (λ c.
-    rw (again-written _ _ _ _ (c .before .before .before .before .before .before .before .before .if1 .taken) (c .before .before .before .before .before .before .write-measurement .ensures .0) (c .before .before .before .before .before .before .write-measurement .ensures .1)) (c .before .before .put-hex-or-none .ensures))
+    let at-put-hex-or-none = c .before .before .put-hex-or-none in
+    let at-write-measurement = c .before .before .before .before .before .before .write-measurement in
+    let at-if1 = c .before .before .before .before .before .before .before .before .if1 in
+    rw (again-written _ _ _ _ (at-if1 .taken) (at-write-measurement .ensures .0) (at-write-measurement .ensures .1)) (at-put-hex-or-none .ensures))
     (λ c κs. search needs) (λ c. search needs)
-    (λ c. rw (again-refused _ _ (c .before .before .before .before .if1 .left)) (c .before .before .put-byte .ensures)))
+    (λ c.
+    let at-put-byte = c .before .before .put-byte in
+    let at-if1 = c .before .before .before .before .if1 in
+    rw (again-refused _ _ (at-if1 .left)) (at-put-byte .ensures)))

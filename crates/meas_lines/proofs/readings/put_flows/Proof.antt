@@ -11,12 +11,33 @@ unfolding allFlows
 put-flows-spec =
     tie.close
     (tie.spec
-    (λ c κs. search needs) (λ c. search needs) (λ c κs. search needs) (λ c κs. search needs) (λ c. search needs) (λ c κs. search needs) (λ c κs. search needs) (λ c. search needs) (λ c κs. search needs) (λ c κs. search needs) (λ c. search needs) (λ c κs. search needs) (λ c κs. search needs) (λ c. search needs) (λ c κs. search needs) (λ c κs. search needs) (λ c. search needs)
+    (λ c κs. search needs) (λ c. search needs) (λ c κs. search needs) (λ c κs. search needs) (λ c. search needs) (λ c κs. search needs)
+    (λ c κs. search needs) (λ c. search needs) (λ c κs. search needs) (λ c κs. search needs) (λ c. search needs) (λ c κs. search needs)
+    (λ c κs. search needs) (λ c. search needs) (λ c κs. search needs) (λ c κs. search needs) (λ c. search needs)
     (λ c.
-    rw (flows-some _ _ (c .before .before .before .before .before .before .before .before .before .before .before .before .before .before .before .before .before .before .before .before .before .before .before .before .before .before .before .before .before .before .before .some-flow .ensures) (c .before .before .before .before .before .before .before .before .before .before .before .before .before .before .before .before .before .before .before .before .before .before .before .before .before .before .before .before .before .before .if1 .taken))
+    let at-put-flow5 = c .before .before .put-flow5 in
+    let at-phase-flow3 = c .before .before .before .phase-flow3 in
+    let at-put-flow4 = c .before .before .before .before .before .before .before .before .put-flow4 in
+    let back-8 = c .before .before .before .before .before .before .before .before in
+    let at-phase-flow2 = back-8 .before .phase-flow2 in
+    let at-put-flow3 = back-8 .before .before .before .before .before .before .put-flow3 in
+    let at-phase-flow = back-8 .before .before .before .before .before .before .before .phase-flow in
+    let back-16 = back-8 .before .before .before .before .before .before .before .before in
+    let at-put-flow2 = back-16 .before .before .before .before .put-flow2 in
+    let at-dc-flow = back-16 .before .before .before .before .before .dc-flow in
+    let back-24 = back-16 .before .before .before .before .before .before .before .before in
+    let at-put-flow = back-24 .before .before .put-flow in
+    let at-power-flow = back-24 .before .before .before .power-flow in
+    let at-if1 = back-24 .before .before .before .before .before .before .if1 in
+    let at-some-flow = back-24 .before .before .before .before .before .before .before .some-flow in
+    rw (flows-some _ _ (at-some-flow .ensures) (at-if1 .taken))
     (five _ _ _ _ _ _ _ _ _ _ _ _ _ _ _ _ _
-    (rw (c .before .before .before .before .before .before .before .before .before .before .before .before .before .before .before .before .before .before .before .before .before .before .before .before .before .before .before .power-flow .ensures) at (c .before .before .before .before .before .before .before .before .before .before .before .before .before .before .before .before .before .before .before .before .before .before .before .before .before .before .put-flow .ensures)) (rw (c .before .before .before .before .before .before .before .before .before .before .before .before .before .before .before .before .before .before .before .before .before .dc-flow .ensures) at (c .before .before .before .before .before .before .before .before .before .before .before .before .before .before .before .before .before .before .before .before .put-flow2 .ensures))
-    (rw (c .before .before .before .before .before .before .before .before .before .before .before .before .before .before .before .phase-flow .ensures) at (c .before .before .before .before .before .before .before .before .before .before .before .before .before .before .put-flow3 .ensures)) (rw (c .before .before .before .before .before .before .before .before .before .phase-flow2 .ensures) at (c .before .before .before .before .before .before .before .before .put-flow4 .ensures))
-    (rw (c .before .before .before .phase-flow3 .ensures) at (c .before .before .put-flow5 .ensures))))
+    (rw (at-power-flow .ensures) at (at-put-flow .ensures)) (rw (at-dc-flow .ensures) at (at-put-flow2 .ensures))
+    (rw (at-phase-flow .ensures) at (at-put-flow3 .ensures)) (rw (at-phase-flow2 .ensures) at (at-put-flow4 .ensures))
+    (rw (at-phase-flow3 .ensures) at (at-put-flow5 .ensures))))
     (λ c. search needs) (λ c κs. search needs) (λ c. search needs)
-    (λ c. rw (flows-none _ _ (c .before .before .before .before .before .before .some-flow .ensures) (c .before .before .before .before .before .if1 .left)) (alone _ _ _ _ _ (c .before .before .put-bytes .ensures))))
+    (λ c.
+    let at-put-bytes = c .before .before .put-bytes in
+    let at-if1 = c .before .before .before .before .before .if1 in
+    let at-some-flow = c .before .before .before .before .before .before .some-flow in
+    rw (flows-none _ _ (at-some-flow .ensures) (at-if1 .left)) (alone _ _ _ _ _ (at-put-bytes .ensures))))

@@ -10,5 +10,7 @@ put-named-spec =
     (tie.spec
     (λ c κs. search needs) (λ c κs. search needs) (λ c. search needs)
     (λ c.
-    let at-put-bytes = c .before .before .before .before .before .before .put-bytes in
-    named _ _ _ _ _ _ _ _ (at-put-bytes .ensures) (c .before .before .put-bytes2 .ensures)))
+    let at-put-bytes2 = c .before .before .put-bytes2 in
+    let at-put-bytes-2 = c .before .before .before .before .before .before .put-bytes in
+    let at-put-bytes = at-put-bytes-2 in
+    named _ _ _ _ _ _ _ _ (at-put-bytes .ensures) (at-put-bytes2 .ensures)))
