@@ -18,7 +18,9 @@ use Rattle.words.specs.Hex.{isNone, isPairs, hexBytes, hexRead, hexAfter}
 use Rattle.words.specs.declared.hex.Read.{Read}
 use Rattle.measurement_table.specs.Words.{flat, rangeNumber}
 use Rattle.measurement_table.specs.Payload.{readNumber, cellsRead}
-use Rattle.meas_lines.specs.Meas.{someFlow, allFlows, flowsPieces, room, payloadIn, againText, payloadPieces, measPieces}
+use Rattle.measurement.specs.Flow.{acActivePower, dcPower}
+use Rattle.measurement.specs.declared.flow.Flow.{Flow}
+use Rattle.meas_lines.specs.Meas.{flowPieces, flowIn, phaseIn, someFlow, allFlows, flowsPieces, room, payloadIn, againText, payloadPieces, measPieces}
 
 -- one piece, and pieces, written
 abbrev pub One : List ℕ → ℕ → List ℕ → ℕ → List ℕ → Type 0
@@ -43,17 +45,22 @@ module _ (s : List ℕ) (p : ℕ) (a b c d e : List (List ℕ)) where
       let w₄ = run-done _ _ _ _ _ d (e ++ []) _ _ w₃ h₄ in
       all-done _ _ _ _ _ _ (run-done _ _ _ _ _ e [] _ _ w₄ h₅) refl
 
--- flows, where one is there and where none is
-pub flows-some : (ws : List ℕ) (b : Bool) → b ≡ someFlow ws → b ≡ true → flowsPieces ws ≡ allFlows ws
-unfolding flowsPieces
-flows-some ws b e t = rw (sym e ∙ t) refl
-
-pub flows-none : (ws : List ℕ) (b : Bool) → b ≡ someFlow ws → b ≡ false → flowsPieces ws ≡ (32 ∷ 45 ∷ []) ∷ []
-unfolding flowsPieces
-flows-none ws b e t = rw (sym e ∙ t) refl
-
 pub alone : (s : List ℕ) (p : ℕ) (x t : List ℕ) (q : ℕ) → One s p x q t → All s p (x ∷ []) q t
 alone s p x t q h = all-done _ _ _ _ _ _ (one-done _ _ _ _ _ _ _ _ _ (all-to-do s p (x ∷ [])) h) refl
+
+-- flows, where one is there and where none is
+module _ (ws out : List ℕ) (at : ℕ) (b : Bool) (e : b ≡ someFlow ws) where
+  pub flows-some : b ≡ true → (f f₂ f₃ f₄ f₅ : Flow) (q q₂ q₃ q₄ q₅ : ℕ) (t t₂ t₃ t₄ t₅ : List ℕ)
+      → f ≡ flowIn ws acActivePower 0 → f₂ ≡ flowIn ws dcPower 0 → f₃ ≡ phaseIn ws 0 → f₄ ≡ phaseIn ws 1 → f₅ ≡ phaseIn ws 2
+      → All out at (flowPieces (32 ∷ 49 ∷ []) f) q t → All t q (flowPieces (32 ∷ 52 ∷ 48 ∷ []) f₂) q₂ t₂ → All t₂ q₂ (flowPieces (32 ∷ 49 ∷ 48 ∷ 46 ∷ 48 ∷ []) f₃) q₃ t₃
+      → All t₃ q₃ (flowPieces (32 ∷ 49 ∷ 48 ∷ 46 ∷ 49 ∷ []) f₄) q₄ t₄ → All t₄ q₄ (flowPieces (32 ∷ 49 ∷ 48 ∷ 46 ∷ 50 ∷ []) f₅) q₅ t₅ → All out at (flowsPieces ws) q₅ t₅
+  unfolding flowsPieces allFlows
+  flows-some y f f₂ f₃ f₄ f₅ q q₂ q₃ q₄ q₅ t t₂ t₃ t₄ t₅ g g₂ g₃ g₄ g₅ h h₂ h₃ h₄ h₅ =
+      rw (sym e ∙ y) (five _ _ _ _ _ _ _ _ _ _ _ _ _ _ _ _ _ (rw g at h) (rw g₂ at h₂) (rw g₃ at h₃) (rw g₄ at h₄) (rw g₅ at h₅))
+
+  pub flows-none : b ≡ false → (q : ℕ) (t : List ℕ) → One out at (32 ∷ 45 ∷ []) q t → All out at (flowsPieces ws) q t
+  unfolding flowsPieces
+  flows-none y q t h = rw (sym e ∙ y) (alone out at (32 ∷ 45 ∷ []) t q h)
 
 -- the payload again
 pub again-written : (n : ℕ) (ws x : List ℕ) (w : Written) → n ≡ 0 → w ≡ writtenOf (rangeNumber ws) (payloadIn ws) (length room) → x ≡ leftBy (rangeNumber ws) (payloadIn ws) room

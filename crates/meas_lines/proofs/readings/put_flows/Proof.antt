@@ -1,13 +1,10 @@
 -- The five flows one behind the other, or a dash.
-use mathlib.Core.Path.{sym}
-use Rattle.meas_lines.specs.Meas.{allFlows}
-use Rattle.meas_lines.proofs.Answered.{five, flows-some, flows-none, alone}
+use Rattle.meas_lines.proofs.Answered.{flows-some, flows-none}
 use borrow.Author.Needs.{needs}
 use Rattle.meas_lines.proofs.readings.put_flows.Statement.{statement}
 use Rattle.meas_lines.proofs.readings.put_flows.Tie as tie
 
 pub put-flows-spec : {M : Type 1} → statement M
-unfolding allFlows
 put-flows-spec =
     tie.close
     (tie.spec
@@ -30,14 +27,12 @@ put-flows-spec =
     let at-power-flow = back-24 .before .before .before .power-flow in
     let at-if1 = back-24 .before .before .before .before .before .before .if1 in
     let at-some-flow = back-24 .before .before .before .before .before .before .before .some-flow in
-    rw (flows-some _ _ (at-some-flow .ensures) (at-if1 .taken))
-    (five _ _ _ _ _ _ _ _ _ _ _ _ _ _ _ _ _
-    (rw (at-power-flow .ensures) at (at-put-flow .ensures)) (rw (at-dc-flow .ensures) at (at-put-flow2 .ensures))
-    (rw (at-phase-flow .ensures) at (at-put-flow3 .ensures)) (rw (at-phase-flow2 .ensures) at (at-put-flow4 .ensures))
-    (rw (at-phase-flow3 .ensures) at (at-put-flow5 .ensures))))
+    flows-some _ _ _ _ (at-some-flow .ensures) (at-if1 .taken) _ _ _ _ _ _ _ _ _ _ _ _ _ _ _
+    (at-power-flow .ensures) (at-dc-flow .ensures) (at-phase-flow .ensures) (at-phase-flow2 .ensures) (at-phase-flow3 .ensures)
+    (at-put-flow .ensures) (at-put-flow2 .ensures) (at-put-flow3 .ensures) (at-put-flow4 .ensures) (at-put-flow5 .ensures))
     (λ c. search needs) (λ c κs. search needs) (λ c. search needs)
     (λ c.
     let at-put-bytes = c .before .before .put-bytes in
     let at-if1 = c .before .before .before .before .before .if1 in
     let at-some-flow = c .before .before .before .before .before .before .some-flow in
-    rw (flows-none _ _ (at-some-flow .ensures) (at-if1 .left)) (alone _ _ _ _ _ (at-put-bytes .ensures))))
+    flows-none _ _ _ _ (at-some-flow .ensures) (at-if1 .left) _ _ (at-put-bytes .ensures)))
