@@ -7,7 +7,8 @@ use native.Mathlib.Omega.{arith}
 use lib.Dec.{eqb}
 use lib.ListN.{length}
 use borrow.Author.Tests.{not-false, lt-ltb, le-ltb}
-use Rattle.conformance.specs.Sizes.{types, pairCount}
+use Rattle.feature_tables.specs.Endpoints.{types}
+use Rattle.conformance.specs.Sizes.{pairCount}
 use Rattle.conformance.specs.Lists.{keep, ascends, firstOf, front}
 use Rattle.conformance.specs.Rules.{broken, brokenIn, breaches, candidates}
 use Rattle.conformance.specs.Report.{inRange, numberOf, reportOf, flat, pairsAfter}

@@ -11,15 +11,16 @@ use lib.Dec.{eqb, ltb}
 use lib.Pow.{pow-mono}
 use lib.ListN.{length, getD}
 use borrow.Author.Tests.{eqb-true, ltb-true}
-use Rattle.conformance.specs.Sizes.{types, bits, maps}
+use Rattle.feature_tables.specs.Endpoints.{types, required, bitsOf}
+use Rattle.feature_tables.specs.Features.{bits, maps, ASYMMETRIC, BATTERY, V2X}
 use Rattle.conformance.specs.Lists.{member}
-use Rattle.conformance.specs.Features.{ASYMMETRIC, BATTERY, V2X, bit}
-use Rattle.conformance.specs.Endpoints.{required, bitsOf}
-use Rattle.conformance.specs.Attributes.{rows, noRow, conditions, conditionIn, mandatory}
+use Rattle.conformance.specs.Features.{bit}
+use Rattle.feature_tables.specs.Attributes.{rows, noRow}
+use Rattle.conformance.specs.Attributes.{conditions, conditionIn, mandatory}
 use Rattle.conformance.specs.Rules.{has, need, lacksNeed, clashes, lacksSupply, lacksRequired, hasInvalid, lacksAttribute}
 use Rattle.conformance.specs.Report.{inRange}
 use Rattle.conformance.specs.declared.Inputs.{Inputs}
-use Rattle.conformance.specs.declared.attributes.Row.{Row}
+use Rattle.feature_tables.specs.declared.attributes.Row.{Row}
 use Rattle.conformance.proofs.Bools.{and-left, and-right, or-cases}
 use Rattle.conformance.proofs.Tables.{passes}
 

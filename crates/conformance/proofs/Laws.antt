@@ -5,9 +5,10 @@ use mathlib.Core.Path.{_≡_, refl, ap, _∙_}
 use mathlib.Core.List.{List, [], _∷_, List·Memᴰ, List·Memᴰ·head, List·Memᴰ·not-nil}
 use native.Mathlib.Omega.{arith}
 use lib.ListN.{length, getD}
-use Rattle.conformance.specs.Sizes.{bits, bitGroups, attributeGroup, bitPairs, rowCount, pairCount}
+use Rattle.feature_tables.specs.Features.{bits}
+use Rattle.feature_tables.specs.Attributes.{rowCount, rows, noRow}
+use Rattle.conformance.specs.Sizes.{bitGroups, attributeGroup, bitPairs, pairCount}
 use Rattle.conformance.specs.Lists.{member}
-use Rattle.conformance.specs.Attributes.{rows, noRow}
 use Rattle.conformance.specs.Rules.{bitRules, broken, candidates, noPair, breaches}
 use Rattle.conformance.specs.Report.{inRange}
 use Rattle.conformance.specs.Statements.{Exact, Ordered, Sound}

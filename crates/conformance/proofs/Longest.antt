@@ -7,11 +7,13 @@ use native.Mathlib.Omega.{arith}
 use lib.Dec.{eqb, ltb, leb}
 use lib.ListN.{length, getD}
 use borrow.Author.Tests.{eqb-true, leb-true}
-use Rattle.conformance.specs.Sizes.{types, bits, maps, longest}
+use Rattle.feature_tables.specs.Endpoints.{types, required, invalid, bitsOf}
+use Rattle.feature_tables.specs.Features.{bits, maps, BATTERY, ASYMMETRIC, V2X, allBits}
+use Rattle.conformance.specs.Sizes.{longest}
 use Rattle.conformance.specs.Lists.{member, keep}
-use Rattle.conformance.specs.Features.{BATTERY, ASYMMETRIC, V2X, allBits, bit}
-use Rattle.conformance.specs.Endpoints.{required, invalid, bitsOf}
-use Rattle.conformance.specs.Attributes.{optional, ifAsymmetricBoth, conditions, conditionIn, rows, mandatory}
+use Rattle.conformance.specs.Features.{bit}
+use Rattle.feature_tables.specs.Attributes.{optional, ifAsymmetricBoth, rows}
+use Rattle.conformance.specs.Attributes.{conditions, conditionIn, mandatory}
 use Rattle.conformance.specs.Rules.{has, need, lacksNeed, clashes, lacksSupply, lacksRequired, hasInvalid, lacksAttribute, bitRules, broken, pairs, candidates, breaches}
 use Rattle.conformance.specs.Report.{inRange}
 use Rattle.conformance.specs.Statements.{Longest}

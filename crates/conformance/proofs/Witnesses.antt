@@ -2,8 +2,9 @@
 use mathlib.Core.Path.{refl}
 use Rattle.conformance.specs.Lists.{member, keep}
 use Rattle.conformance.specs.Features.{bit}
-use Rattle.conformance.specs.Endpoints.{required, invalid}
-use Rattle.conformance.specs.Attributes.{conditions, rows, conditionIn, mandatory}
+use Rattle.feature_tables.specs.Endpoints.{required, invalid}
+use Rattle.feature_tables.specs.Attributes.{rows}
+use Rattle.conformance.specs.Attributes.{conditions, conditionIn, mandatory}
 use Rattle.conformance.specs.Rules.{lacksNeed, clashes, lacksSupply, lacksRequired, hasInvalid, lacksAttribute, bitRules, broken, candidates, breaches}
 use Rattle.conformance.specs.Report.{inRange, flat}
 use Rattle.conformance.specs.Examples.{examples, Witnessed}

@@ -1,18 +1,16 @@
 // The bits that an endpoint type requires and forbids (document 003 section 2.3), by type (document 000).
 ghost use mathlib.Core.Path.{_≡_};
-ghost use Prim.Native.Nat.{_<_};
-ghost use Rattle.conformance.specs.Endpoints.{required, invalid, bitsOf};
-ghost use Rattle.conformance.specs.Sizes.{types, bits};
-ghost use Rattle.conformance.specs.Lists.{member};
+ghost use Rattle.feature_tables.specs.Endpoints.{required, invalid, bitsOf, mask};
 use crate::features::BATTERY;
 use crate::features::CORE;
 use crate::features::EMOB;
 use crate::features::FLEX;
+use crate::features::MAPS;
 use crate::features::PROCESS;
 use crate::features::V2X;
-use crate::features::has;
-use crate::sizes::MAPS;
-use crate::sizes::TYPES;
+
+// Endpoint types.
+pub const TYPES: usize = 11;
 
 // What most types forbid: the bits of batteries and of vehicles.
 const STORES: u16 = 1 << BATTERY | 1 << EMOB | 1 << V2X;
@@ -51,18 +49,22 @@ fn wide(mask: u16) -> u64
     mask as u64
 }
 
-// Whether an endpoint type requires a bit.
-pub fn requires_bit(endpoint: u64, b: u64) -> bool
-    requires { ⌜ (endpoint < types) × (b < bits) ⌝ }
-    ensures { λ r. ⌜ r ≡ member b (bitsOf required endpoint) ⌝ }
+// The bits that an endpoint type requires, as a map; none past the last type.
+pub fn required_bits(endpoint: u64) -> u64
+    ensures { λ r. ⌜ r ≡ mask (bitsOf required endpoint) ⌝ }
 {
-    has(wide(REQUIRED[endpoint as usize]), b)
+    if endpoint < TYPES as u64 {
+        return wide(REQUIRED[endpoint as usize]);
+    }
+    0
 }
 
-// Whether an endpoint type forbids a bit.
-pub fn forbids_bit(endpoint: u64, b: u64) -> bool
-    requires { ⌜ (endpoint < types) × (b < bits) ⌝ }
-    ensures { λ r. ⌜ r ≡ member b (bitsOf invalid endpoint) ⌝ }
+// The bits that an endpoint type forbids, as a map; none past the last type.
+pub fn invalid_bits(endpoint: u64) -> u64
+    ensures { λ r. ⌜ r ≡ mask (bitsOf invalid endpoint) ⌝ }
 {
-    has(wide(INVALID[endpoint as usize]), b)
+    if endpoint < TYPES as u64 {
+        return wide(INVALID[endpoint as usize]);
+    }
+    0
 }

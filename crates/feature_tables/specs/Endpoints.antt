@@ -1,8 +1,12 @@
 -- Document 003 section 2.3, by endpoint type (document 000): the bits that must be set, and those that must not.
-use Prim.Native.Nat.{ℕ}
+use Prim.Native.Nat.{ℕ, _+_, _^_}
 use mathlib.Core.List.{List, [], _∷_}
 use lib.ListN.{getD}
-use Rattle.conformance.specs.Features.{CORE, FLEX, BATTERY, EMOB, PROCESS, V2X, allBits}
+use Rattle.feature_tables.specs.Features.{CORE, FLEX, BATTERY, EMOB, PROCESS, V2X, allBits}
+
+-- endpoint types
+abbrev pub types : ℕ
+types = 11
 
 -- the column "Required Bits"; types 8, 9 and 10 have no row there
 unfoldable pub required : List (List ℕ)
@@ -39,3 +43,8 @@ invalid =
 -- a type's cell of a column
 abbrev pub bitsOf : List (List ℕ) → ℕ → List ℕ
 bitsOf column type = getD column type []
+
+-- a set of bits as a map
+abbrev pub mask : List ℕ → ℕ
+mask [] = 0
+mask (b ∷ bs) = 2 ^ b + mask bs
