@@ -4,5 +4,3 @@ pub mod Features
 pub mod Attributes
 pub mod Rules
 pub mod Report
-pub mod Statements
-pub mod Examples

@@ -27,7 +27,3 @@ bitPairs = bitGroups * bits
 
 abbrev pub pairCount : ℕ
 pairCount = bitPairs + rowCount
-
--- pairs of the longest report (proofs/Longest)
-abbrev pub longest : ℕ
-longest = 48

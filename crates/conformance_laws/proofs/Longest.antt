@@ -9,19 +9,19 @@ use lib.ListN.{length, getD}
 use borrow.Author.Tests.{eqb-true, leb-true}
 use Rattle.feature_tables.specs.Endpoints.{types, required, invalid, bitsOf}
 use Rattle.feature_tables.specs.Features.{bits, maps, BATTERY, ASYMMETRIC, V2X, allBits}
-use Rattle.conformance.specs.Sizes.{longest}
 use Rattle.conformance.specs.Lists.{member, keep}
 use Rattle.conformance.specs.Features.{bit}
 use Rattle.feature_tables.specs.Attributes.{optional, ifAsymmetricBoth, rows}
 use Rattle.conformance.specs.Attributes.{conditions, conditionIn, mandatory}
 use Rattle.conformance.specs.Rules.{has, need, lacksNeed, clashes, lacksSupply, lacksRequired, hasInvalid, lacksAttribute, bitRules, broken, pairs, candidates, breaches}
 use Rattle.conformance.specs.Report.{inRange}
-use Rattle.conformance.specs.Statements.{Longest}
+use Rattle.conformance_laws.specs.Statements.{Longest, longest}
 use Rattle.conformance.specs.declared.Inputs.{Inputs}
 use Rattle.conformance.specs.declared.breaches.Pair.{Pair}
 use Rattle.conformance.proofs.Bools.{and-left, and-right, or-cases}
 use Rattle.conformance.proofs.Tables.{passes}
-use Rattle.conformance.proofs.Bounds.{type-below, features-below}
+use Rattle.conformance.proofs.Answers.{type-below}
+use Rattle.conformance_laws.proofs.Bounds.{features-below}
 
 -- how many of a list pass a test
 abbrev many : {A : Type 0} → (A → Bool) → List A → ℕ

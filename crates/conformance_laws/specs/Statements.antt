@@ -5,12 +5,11 @@ use mathlib.Core.Path.{_≡_}
 use mathlib.Core.Logic.{_⊎_}
 use mathlib.Core.List.{List, [], _∷_, List·Memᴰ}
 use lib.ListN.{length, getD}
-use Rattle.conformance.specs.Sizes.{longest}
 use Rattle.conformance.specs.Lists.{member, ascends}
 use Rattle.conformance.specs.Rules.{broken, breaches}
 use Rattle.conformance.specs.Report.{inRange}
 use Rattle.conformance.specs.declared.Inputs.{Inputs}
 use Rattle.conformance.specs.declared.breaches.Pair.{Pair}
 
 -- the device breaks the rule of the pair's group for its number
 abbrev pub Breaks : Inputs → List ℕ → Pair → Type 0
@@ -47,7 +46,11 @@ Sound =
     (i : Inputs) (attributes : List ℕ) → inRange i ≡ true
     → (breaches i attributes ≡ [] → (p : Pair) → Breaks i attributes p → ⊥) × (((p : Pair) → Breaks i attributes p → ⊥) → breaches i attributes ≡ [])
 
--- no report is longer than the longest, and one device has that one
+-- pairs of the longest report
+abbrev pub longest : ℕ
+longest = 48
+
+-- no report is longer than that, and one device has that one
 unfoldable pub Longest : Type 0
 Longest =
     ((i : Inputs) (attributes : List ℕ) → inRange i ≡ true → length (breaches i attributes) ≤ longest)

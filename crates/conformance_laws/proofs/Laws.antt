@@ -7,16 +7,16 @@ use native.Mathlib.Omega.{arith}
 use lib.ListN.{length, getD}
 use Rattle.feature_tables.specs.Features.{bits}
 use Rattle.feature_tables.specs.Attributes.{rowCount, rows, noRow}
 use Rattle.conformance.specs.Sizes.{bitGroups, attributeGroup, bitPairs, pairCount}
 use Rattle.conformance.specs.Lists.{member}
 use Rattle.conformance.specs.Rules.{bitRules, broken, candidates, noPair, breaches}
 use Rattle.conformance.specs.Report.{inRange}
-use Rattle.conformance.specs.Statements.{Exact, Ordered, Sound}
+use Rattle.conformance_laws.specs.Statements.{Exact, Ordered, Sound}
 use Rattle.conformance.specs.declared.Inputs.{Inputs}
 use Rattle.conformance.specs.declared.breaches.Pair.{Pair}
 use Rattle.conformance.proofs.Tables.{pairOf, bit-pair, row-pair, length-candidates, length-rows}
-use Rattle.conformance.proofs.Members.{stands, kept, keeps, keep-ascending, in-order}
-use Rattle.conformance.proofs.Bounds.{need-below, clash-below, supply-below, required-bit-below, invalid-below, attribute-row}
+use Rattle.conformance_laws.proofs.Members.{stands, kept, keeps, keep-ascending, in-order}
+use Rattle.conformance_laws.proofs.Bounds.{need-below, clash-below, supply-below, required-bit-below, invalid-below, attribute-row}
 
 -- the pair at a place stands among the candidates
 placed : (k : ℕ) (p : Pair) → k < pairCount → getD candidates k noPair ≡ p → List·Memᴰ p candidates

@@ -13,16 +13,17 @@ use lib.ListN.{length, getD}
 use borrow.Author.Tests.{eqb-true, ltb-true}
 use Rattle.feature_tables.specs.Endpoints.{types, required, bitsOf}
 use Rattle.feature_tables.specs.Features.{bits, maps, ASYMMETRIC, BATTERY, V2X}
 use Rattle.conformance.specs.Lists.{member}
 use Rattle.conformance.specs.Features.{bit}
 use Rattle.feature_tables.specs.Attributes.{rows, noRow}
 use Rattle.conformance.specs.Attributes.{conditions, conditionIn, mandatory}
 use Rattle.conformance.specs.Rules.{has, need, lacksNeed, clashes, lacksSupply, lacksRequired, hasInvalid, lacksAttribute}
 use Rattle.conformance.specs.Report.{inRange}
 use Rattle.conformance.specs.declared.Inputs.{Inputs}
 use Rattle.feature_tables.specs.declared.attributes.Row.{Row}
 use Rattle.conformance.proofs.Bools.{and-left, and-right, or-cases}
 use Rattle.conformance.proofs.Tables.{passes}
+use Rattle.conformance.proofs.Answers.{type-below}
 
 -- a map that the bits make has no other bit
 bit-below : (m b : ℕ) → m < maps → bit m b ≡ true → b < bits
@@ -51,10 +52,6 @@ member-below b (x ∷ bs) e m =
 required-below : (t b : ℕ) → t < types → member b (bitsOf required t) ≡ true → b < bits
 unfolding required
 required-below t b h m = member-below b (bitsOf required t) (passes (λ t. below (bitsOf required t)) types t refl h) m
-
-pub type-below : (i : Inputs) → inRange i ≡ true → i .endpoint < types
-unfolding inRange
-type-below i range = ltb-true _ _ (and-left _ _ (and-left _ _ (and-left _ _ (and-left _ _ range))))
 
 module _ (i : Inputs) (b : ℕ) (range : inRange i ≡ true) where
   pub features-below : i .features < maps

@@ -8,9 +8,9 @@ use native.Mathlib.Omega.{arith}
 use lib.Dec.{leb}
 use lib.ListN.{length, getD}
 use borrow.Author.Tests.{leb-true, le-leb}
 use Rattle.conformance.specs.Lists.{ascendsFrom}
-use Rattle.conformance.specs.Statements.{Rising, Strict}
+use Rattle.conformance_laws.specs.Statements.{Rising, Strict}
 use Rattle.conformance.proofs.Bools.{and-left, and-right}
 
 rises : (least : ℕ) (ns : List ℕ) → ascendsFrom least ns ≡ true → (k : ℕ) → suc k < length ns → getD ns k 0 < getD ns (suc k) 0
 unfolding ascendsFrom

@@ -8,10 +8,10 @@ use native.Mathlib.Nat.{not-suc-le-zero, le-of-suc-le-suc}
 use lib.Dec.{eqb, ltb}
 use lib.ListN.{length, getD}
 use borrow.Author.Tests.{ltb-true, eqb-true}
 use Rattle.conformance.specs.Lists.{keep}
-use Rattle.conformance.specs.Statements.{Before, Ascending}
+use Rattle.conformance_laws.specs.Statements.{Before, Ascending}
 use Rattle.conformance.specs.declared.breaches.Pair.{Pair}
 use Rattle.conformance.proofs.Bools.{and-left, and-right, or-cases}
 
 pub stands : {A : Type 0} (l : List A) (d : A) (k : ℕ) → k < length l → List·Memᴰ (getD l k d) l
 stands [] d k h = absurd (not-suc-le-zero h)
