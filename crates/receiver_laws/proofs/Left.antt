@@ -11,11 +11,11 @@ use borrow.Author.Tests.{ltb-true, ltb-false, eqb-true, eqb-false, le-leb}
 use Rattle.bytes.specs.Bytes.{Bytes}
 use Rattle.prefix.specs.Prefix.{endOf, badEnd}
 use Rattle.prefix.proofs.Ends.{good-end, end-good, end-short, end-read, four}
 use Rattle.receiver.specs.declared.record.Record.{Record}
 use Rattle.receiver.specs.Receive.{fresh, shut, isOpen, endFor, recordAt, refused, accepted, received}
-use Rattle.receiver.specs.Laws.{CallsLeave, CallsReach, ClosedForGood}
+use Rattle.receiver_laws.specs.Laws.{CallsLeave, CallsReach, ClosedForGood}
 use Rattle.receiver.proofs.Counts.{Counts, prefix, payload, counts, is-closed, in-prefix, in-payload, end-new, at-end, at-prefix, at-payload, record-is}
 use Rattle.receiver.proofs.Tests.{at-small-room, at-not-open, at-bad, at-taken, taken-fits}
 
 pub closed-for-good : ClosedForGood
 closed-for-good room scrap l = sym (at-not-open shut room scrap l (sym (is-closed shut (λ z. omega arith))))

@@ -10,14 +10,14 @@ use lib.Dec.{ltb, eqb}
 use borrow.Author.Tests.{ltb-true, ltb-false, lt-ltb, le-ltb, eq-eqb, ne-eqb}
 use Rattle.prefix.specs.Prefix.{endOf, badEnd}
 use Rattle.prefix.proofs.Ends.{good-end, end-stays, bad-four}
 use Rattle.receiver.specs.declared.record.Record.{Record}
-use Rattle.receiver.specs.Stream.{Cut, stop, halt, give, cutIn, cut}
+use Rattle.receiver_laws.specs.Stream.{Cut, stop, halt, give, cutIn, cut}
 use Rattle.receiver.specs.Receive.{fresh, shut, refused, received, Done}
-use Rattle.receiver.specs.Driver.{Effect, Effects, applied, Driven, still, behind, given, goesOn, feedIn, feed, drive, joined, collect, seen, recordOf}
-use Rattle.receiver.specs.Laws.{LedTo, EveryCutting, FramesOfStream}
+use Rattle.receiver_laws.specs.Driver.{Effect, Effects, applied, Driven, still, behind, given, goesOn, feedIn, feed, drive, joined, collect, seen, recordOf}
+use Rattle.receiver_laws.specs.Laws.{LedTo, EveryCutting, FramesOfStream}
 use Rattle.receiver.proofs.Counts.{is-closed, record-open}
 use Rattle.receiver.proofs.Tests.{at-small-room, at-not-open}
-use Rattle.receiver.proofs.Kept.{Holds, holds-none, holds-part, holds-record, Called, closes, takes, ends, called}
+use Rattle.receiver_laws.proofs.Kept.{Holds, holds-none, holds-part, holds-record, Called, closes, takes, ends, called}
 
 -- ---- the uncut stream, without a bound
 

@@ -10,11 +10,11 @@ use lib.Dec.{ltb}
 use borrow.Author.Tests.{ltb-true, ltb-false}
 use Rattle.prefix.specs.Prefix.{badEnd}
 use Rattle.prefix.proofs.Ends.{end-good, end-short}
 use Rattle.receiver.specs.declared.record.Record.{Record}
 use Rattle.receiver.specs.Receive.{isOpen, endFor, recordAt, refused, accepted, received}
-use Rattle.receiver.specs.Laws.{Unchanged, EmptyScrap}
+use Rattle.receiver_laws.specs.Laws.{Unchanged, EmptyScrap}
 use Rattle.receiver.proofs.Counts.{Counts, prefix, payload, counts, length-both, end-new, end-known, no-end, at-prefix, at-payload, record-is}
 use Rattle.receiver.proofs.Tests.{at-small-room, at-not-open, at-taken, put-empty}
 
 module _ (r : Record) (room : List ℕ) where
   unchanged-refused : (n : ℕ) → refused n r room ≡ received r room [] → Unchanged r room

@@ -11,10 +11,10 @@ use borrow.Author.Tests.{ltb-true, ltb-false, le-leb, lt-ltb, eq-eqb}
 use Rattle.bytes.specs.Bytes.{numberAt}
 use Rattle.prefix.specs.Prefix.{framed, endOf, badEnd}
 use Rattle.prefix.proofs.Ends.{no-both, good-end, end-good, end-short, end-read, end-stays, framed-ends, both}
-use Rattle.receiver.specs.Stream.{Cut, stop, halt, give, cutIn, cut, allFramed}
-use Rattle.receiver.specs.Driver.{joined}
-use Rattle.receiver.specs.Laws.{CutsFrames, CutsBad, CutFramed, FramesArrive}
-use Rattle.receiver.proofs.Cuttings.{Cuts, halts, stops, gives, cuts-cut, frames-of-stream}
+use Rattle.receiver_laws.specs.Stream.{Cut, stop, halt, give, cutIn, cut, allFramed}
+use Rattle.receiver_laws.specs.Driver.{joined}
+use Rattle.receiver_laws.specs.Laws.{CutsFrames, CutsBad, CutFramed, FramesArrive}
+use Rattle.receiver_laws.proofs.Cuttings.{Cuts, halts, stops, gives, cuts-cut, frames-of-stream}
 
 -- one frame more in front
 cons-cuts : (f s : List ℕ) (c : Cut) → framed f ≡ true → Cuts s c → Cuts (f ++ s) (give f c)

@@ -8,10 +8,10 @@ use lib.ListN.{length, take}
 use lib.Dec.{eqb}
 use Rattle.bytes.specs.Bytes.{Bytes}
 use Rattle.prefix.specs.Prefix.{mostFrame, endOf, badEnd}
 use Rattle.receiver.specs.declared.record.Record.{Record}
-use Rattle.receiver.specs.Stream.{Cut, allFramed, cut}
+use Rattle.receiver_laws.specs.Stream.{Cut, allFramed, cut}
 use Rattle.receiver.specs.Receive.{fresh, shut, isOpen, Done, refused, received}
-use Rattle.receiver.specs.Driver.{Effect, Effects, applied, Driven, drive, joined, collect, seen, recordOf}
+use Rattle.receiver_laws.specs.Driver.{Effect, Effects, applied, Driven, drive, joined, collect, seen, recordOf}
 
 -- what a driver has is what a stream leads to: the state and the outputs of its frames applied one by one, the record,
 -- and in the room the bytes of an unfinished frame

@@ -5,7 +5,7 @@ use mathlib.Core.Bool.{true, false}
 use mathlib.Core.List.{List, [], _∷_}
 use Rattle.bytes.specs.Bytes.{numberAt}
 use Rattle.prefix.specs.Prefix.{endOf, badEnd}
-use Rattle.receiver.specs.Stream.{cutIn, cut}
+use Rattle.receiver_laws.specs.Stream.{cutIn, cut}
 
 -- a frame of one byte, and part of a frame of two
 one-and-part : cut (0 ∷ 0 ∷ 0 ∷ 1 ∷ 7 ∷ 0 ∷ 0 ∷ 0 ∷ 2 ∷ 8 ∷ [])

@@ -5,9 +5,9 @@ use mathlib.Core.List.{List, [], _∷_, _++_}
 use lib.ListN.{length, take, drop}
 use lib.Dec.{ltb, eqb}
 use Rattle.prefix.specs.Prefix.{endOf}
 use Rattle.receiver.specs.declared.record.Record.{Record}
-use Rattle.receiver.specs.Stream.{Cut}
+use Rattle.receiver_laws.specs.Stream.{Cut}
 use Rattle.receiver.specs.Receive.{Done, shut, recordAt, received}
 
 -- the frame that a call gives out stands at the front of the room
 unfoldable pub given : Done → List (List ℕ)
