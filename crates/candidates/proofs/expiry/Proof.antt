@@ -4,9 +4,9 @@ use borrow.Author.Needs.{needs}
 use borrow.Author.Tests.{eq-eqb, ne-eqb}
 use Rattle.store.specs.Zones.{isJoined}
 use Rattle.store.specs.declared.Held.{Held}
-use Rattle.plain_planner.specs.Plain.{expiryAt}
-use Rattle.plain_planner.proofs.candidates.expiry.Statement.{statement}
-use Rattle.plain_planner.proofs.candidates.expiry.Tie as tie
+use Rattle.candidates.specs.Candidates.{expiryAt}
+use Rattle.candidates.proofs.expiry.Statement.{statement}
+use Rattle.candidates.proofs.expiry.Tie as tie
 
 pub expiry-spec : {M : Type 1} → statement M
 unfolding expiryAt isJoined

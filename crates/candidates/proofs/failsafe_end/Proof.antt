@@ -1,9 +1,9 @@
 -- A sum that could pass the end of time is not taken.
 use native.Mathlib.Omega.{arith}
 use borrow.Author.Needs.{needs}
-use Rattle.plain_planner.proofs.Next.{failsafe-low, failsafe-high}
-use Rattle.plain_planner.proofs.candidates.failsafe_end.Statement.{statement}
-use Rattle.plain_planner.proofs.candidates.failsafe_end.Tie as tie
+use Rattle.candidates.proofs.Nearest.{failsafe-low, failsafe-high}
+use Rattle.candidates.proofs.failsafe_end.Statement.{statement}
+use Rattle.candidates.proofs.failsafe_end.Tie as tie
 
 pub failsafe-end-spec : {M : Type 1} → statement M
 failsafe-end-spec =

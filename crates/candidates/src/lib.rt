@@ -1,4 +1,4 @@
-// The seconds at which what holds may change: each expiry held, and the failsafe end.
+// The seconds at which what holds may change: each expiry held, and the failsafe end; and the next of them.
 use store::END;
 use store::HELDS;
 use store::SLOTS;
@@ -11,12 +11,12 @@ ghost use mathlib.Core.Path.{_≡_};
 ghost use Rattle.store.specs.Words.{zonesOf};
 ghost use Rattle.holds.specs.Holds.{situationOf};
 ghost use Rattle.holds.specs.Dues.{nearer, nearest};
-ghost use Rattle.plain_planner.specs.Plain.{expiryAt, failsafeEnd, candidateAt, candidatesOf};
+ghost use Rattle.candidates.specs.Candidates.{expiryAt, failsafeEnd, candidateAt, candidatesOf};
 
 // The expiries, and how many candidates there are with the failsafe end.
-pub const EXPIRIES: usize = SLOTS * HELDS;
+const EXPIRIES: usize = SLOTS * HELDS;
 
-pub const CANDIDATES: usize = EXPIRIES + 1;
+const CANDIDATES: usize = EXPIRIES + 1;
 
 // When quantity q of the zone in slot i ends, 0 where the slot is free or nothing is held.
 fn expiry(d: &State, i: usize, q: usize) -> u64

@@ -8,10 +8,10 @@ use Rattle.store.specs.Sizes.{end}
 use Rattle.store.specs.Zones.{upTo}
 use Rattle.holds.specs.Holds.{situationOf}
 use Rattle.holds.specs.Dues.{nearer, nearest}
-use Rattle.plain_planner.specs.Plain.{expiries, candidateAt, candidatesOf}
-use Rattle.plain_planner.proofs.Next.{met-more}
-use Rattle.plain_planner.proofs.candidates.next_after.Statement.{statement}
-use Rattle.plain_planner.proofs.candidates.next_after.Tie as tie
+use Rattle.candidates.specs.Candidates.{expiries, candidateAt, candidatesOf}
+use Rattle.candidates.proofs.Nearest.{met-more}
+use Rattle.candidates.proofs.next_after.Statement.{statement}
+use Rattle.candidates.proofs.next_after.Tie as tie
 
 abbrev Inv-loop : tie.InvT-loop
 Inv-loop d t best₀ k₀ best k = (k ≤ expiries + 1) × (best ≡ foldl (nearer t) end (upTo (candidateAt (situationOf d)) k))

@@ -1,8 +1,8 @@
 -- A candidate past the second and before the nearest so far is the nearest.
 use borrow.Author.Tests.{lt-ltb, le-ltb}
 use Rattle.holds.specs.Dues.{nearer}
-use Rattle.plain_planner.proofs.candidates.nearer.Statement.{statement}
-use Rattle.plain_planner.proofs.candidates.nearer.Tie as tie
+use Rattle.candidates.proofs.nearer.Statement.{statement}
+use Rattle.candidates.proofs.nearer.Tie as tie
 
 pub nearer-spec : {M : Type 1} → statement M
 unfolding nearer

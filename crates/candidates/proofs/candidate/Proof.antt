@@ -2,9 +2,9 @@
 use mathlib.Core.Path.{_∙_}
 use borrow.Author.Needs.{needs}
 use borrow.Author.Tests.{lt-ltb, le-ltb}
-use Rattle.plain_planner.specs.Plain.{candidateAt}
-use Rattle.plain_planner.proofs.candidates.candidate.Statement.{statement}
-use Rattle.plain_planner.proofs.candidates.candidate.Tie as tie
+use Rattle.candidates.specs.Candidates.{candidateAt}
+use Rattle.candidates.proofs.candidate.Statement.{statement}
+use Rattle.candidates.proofs.candidate.Tie as tie
 
 pub candidate-spec : {M : Type 1} → statement M
 unfolding candidateAt
