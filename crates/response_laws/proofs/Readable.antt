@@ -13,10 +13,10 @@ use Rattle.request_reader.specs.declared.requests.Reading.{Reading}
 use Rattle.frame_laws.proofs.RequestAgain.{request-writable}
 use Rattle.frame_laws.proofs.ResponseBack.{response-reads-back, status-reads-back}
 use Rattle.frame_laws.proofs.Longest.{response-longest, status-longest}
 use Rattle.kernel.specs.Frame.{responseTo, responseFrame}
-use Rattle.kernel.specs.Laws.{ResponsesRead, UnservedReads, ResponsesShort}
-use Rattle.kernel.proofs.InRange.{response-writable, status-writable}
-use Rattle.kernel.proofs.Unserved.{unserved-id}
+use Rattle.response_laws.specs.Laws.{ResponsesRead, UnservedReads, ResponsesShort}
+use Rattle.response_laws.proofs.InRange.{response-writable, status-writable}
+use Rattle.response_laws.proofs.Unserved.{unserved-id}
 
 pub responses-read : ResponsesRead
 unfolding responseFrame
