@@ -1,10 +1,10 @@
 // One question asked of what a command says: of all quantities only those that its own fields are of can answer it.
+use command_fields::limit_field;
+use command_fields::setpoint_field;
 use command_says::top_of;
 use field_rules::field_above;
 use field_rules::field_names;
 use field_rules::field_negative;
-use field_rules::limit_field;
-use field_rules::setpoint_field;
 use messages::Command;
 use messages::CurrentLimits;
 use messages::Field;

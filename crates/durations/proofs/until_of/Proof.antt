@@ -1,10 +1,10 @@
 -- The sum is taken only where it is below the largest word.
 use borrow.Author.Tests.{eq-eqb, ne-eqb}
 use native.Mathlib.Omega.{arith}
-use Rattle.field_rules.specs.Fields.{untilOf}
+use Rattle.durations.specs.Durations.{untilOf}
 use borrow.Author.Needs.{needs}
-use Rattle.field_rules.proofs.numbers.until_of.Statement.{statement}
-use Rattle.field_rules.proofs.numbers.until_of.Tie as tie
+use Rattle.durations.proofs.until_of.Statement.{statement}
+use Rattle.durations.proofs.until_of.Tie as tie
 
 pub until-of-spec : {M : Type 1} → statement M
 unfolding untilOf

@@ -3,8 +3,8 @@ use mir.Val.{SFits}
 use mir.Syntax.{w64}
 use mir.Facts.{toZ-ofZ}
 use borrow.Author.Needs.{needs}
-use Rattle.field_rules.proofs.params.target_field.Statement.{statement}
-use Rattle.field_rules.proofs.params.target_field.Tie as tie
+use Rattle.command_fields.proofs.target_field.Statement.{statement}
+use Rattle.command_fields.proofs.target_field.Tie as tie
 
 pub target-field-spec : {M : Type 1} → statement M
 target-field-spec =

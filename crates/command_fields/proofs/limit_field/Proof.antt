@@ -1,7 +1,7 @@
 -- The direction decides, as it does in the definition.
 use borrow.Author.Tests.{eq-eqb, ne-eqb}
-use Rattle.field_rules.proofs.params.limit_field.Statement.{statement}
-use Rattle.field_rules.proofs.params.limit_field.Tie as tie
+use Rattle.command_fields.proofs.limit_field.Statement.{statement}
+use Rattle.command_fields.proofs.limit_field.Tie as tie
 
 pub limit-field-spec : {M : Type 1} → statement M
 limit-field-spec =

@@ -1,7 +1,7 @@
 -- The phase decides, as it does in the definition.
 use borrow.Author.Tests.{eq-eqb, ne-eqb}
-use Rattle.field_rules.proofs.params.phase_field.Statement.{statement}
-use Rattle.field_rules.proofs.params.phase_field.Tie as tie
+use Rattle.command_fields.proofs.phase_field.Statement.{statement}
+use Rattle.command_fields.proofs.phase_field.Tie as tie
 
 pub phase-field-spec : {M : Type 1} → statement M
 phase-field-spec =

@@ -1,8 +1,8 @@
 -- Each case is the case of the definition.
 use borrow.Author.Tests.{eq-eqb, ne-eqb}
 use borrow.Author.Needs.{needs}
-use Rattle.field_rules.proofs.params.aim_field.Statement.{statement}
-use Rattle.field_rules.proofs.params.aim_field.Tie as tie
+use Rattle.command_fields.proofs.aim_field.Statement.{statement}
+use Rattle.command_fields.proofs.aim_field.Tie as tie
 
 pub aim-field-spec : {M : Type 1} → statement M
 aim-field-spec =

@@ -1,8 +1,8 @@
 -- The direction decides, as it does in the definition.
 use borrow.Author.Tests.{eq-eqb, ne-eqb}
 use borrow.Author.Needs.{needs}
-use Rattle.field_rules.proofs.params.setpoint_field.Statement.{statement}
-use Rattle.field_rules.proofs.params.setpoint_field.Tie as tie
+use Rattle.command_fields.proofs.setpoint_field.Statement.{statement}
+use Rattle.command_fields.proofs.setpoint_field.Tie as tie
 
 pub setpoint-field-spec : {M : Type 1} → statement M
 setpoint-field-spec =

@@ -6,7 +6,7 @@ use messages::Phases;
 use messages::Setpoints;
 use messages::Target;
 ghost use mathlib.Core.Path.{_≡_};
-ghost use Rattle.field_rules.specs.Fields.{limitField, targetField, setpointField, aimField, phaseField};
+ghost use Rattle.command_fields.specs.Params.{limitField, targetField, setpointField, aimField, phaseField};
 
 pub fn limit_field(m: Limits, d: u64) -> Field
     ensures { λ r. ⌜ r ≡ limitField m d ⌝ }
