@@ -1,8 +1,8 @@
 -- The first field decides, else the second.
 use Rattle.store.proofs.Tests.{via}
 use borrow.Author.Needs.{needs}
-use Rattle.command_tests.proofs.asked.of_two.Statement.{statement}
-use Rattle.command_tests.proofs.asked.of_two.Tie as tie
+use Rattle.command_asks.proofs.of_two.Statement.{statement}
+use Rattle.command_asks.proofs.of_two.Tie as tie
 
 pub of-two-spec : {M : Type 1} → statement M
 of-two-spec =

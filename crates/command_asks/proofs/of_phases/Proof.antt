@@ -1,8 +1,8 @@
 -- The first phase decides, else the second, else the third.
 use Rattle.store.proofs.Tests.{via}
 use borrow.Author.Needs.{needs}
-use Rattle.command_tests.proofs.asked.of_phases.Statement.{statement}
-use Rattle.command_tests.proofs.asked.of_phases.Tie as tie
+use Rattle.command_asks.proofs.of_phases.Statement.{statement}
+use Rattle.command_asks.proofs.of_phases.Tie as tie
 
 pub of-phases-spec : {M : Type 1} → statement M
 of-phases-spec =

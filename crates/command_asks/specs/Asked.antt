@@ -1,15 +1,23 @@
 -- One question, asked of what a command says of each quantity. Assumes nothing: these are definitions.
 use Prim.Native.Nat.{ℕ}
-use mathlib.Core.Bool.{Bool}
+use mathlib.Core.Bool.{Bool, not, _&&_}
+use lib.Dec.{leb}
 use Rattle.messages.specs.declared.Field.{Field}
 use Rattle.messages.specs.declared.Command.{Command}
 use Rattle.store.specs.Sizes.{helds}
 use Rattle.store.specs.declared.Settings.{Settings}
-use Rattle.command_tests.specs.declared.asked.Question.{Question}
-use Rattle.command_says.specs.Says.{says, someOf, fieldNames, fieldNegative}
-use Rattle.command_tests.specs.Content.{beyond, outside}
-use Rattle.command_says.specs.Says.{topOf}
+use Rattle.quantities.specs.Quantities.{isCurrent, directionOf, phaseOf, supports}
 use Rattle.field_rules.specs.Fields.{fieldAbove}
+use Rattle.command_says.specs.Says.{says, topOf, someOf, fieldNames, fieldNegative}
+use Rattle.command_asks.specs.declared.Question.{Question}
+
+-- a quantity that is named though its direction is not supported
+abbrev pub beyond : ℕ → Field → ℕ → Bool
+beyond has f q = fieldNames f && not (supports has (directionOf q))
+
+-- a phase "from the phase count up", named by a number or by null
+abbrev pub outside : ℕ → Field → ℕ → Bool
+outside count f q = fieldNames f && (isCurrent q && leb count (phaseOf q))
 
 -- whether it is so of a field of quantity q
 abbrev pub isSo : Question → Settings → Field → ℕ → Bool

@@ -1,7 +1,7 @@
 -- Each question is the case of the definition.
 use borrow.Author.Needs.{needs}
-use Rattle.command_tests.proofs.asked.is_so.Statement.{statement}
-use Rattle.command_tests.proofs.asked.is_so.Tie as tie
+use Rattle.command_asks.proofs.is_so.Statement.{statement}
+use Rattle.command_asks.proofs.is_so.Tie as tie
 
 pub is-so-spec : {M : Type 1} → statement M
 is-so-spec =

@@ -1,8 +1,8 @@
 -- The tests are those of the definition, in its order.
 use Rattle.store.proofs.Tests.{via}
 use borrow.Author.Needs.{needs}
-use Rattle.command_tests.proofs.asked.is_outside.Statement.{statement}
-use Rattle.command_tests.proofs.asked.is_outside.Tie as tie
+use Rattle.command_asks.proofs.is_outside.Statement.{statement}
+use Rattle.command_asks.proofs.is_outside.Tie as tie
 
 pub is-outside-spec : {M : Type 1} → statement M
 is-outside-spec =

@@ -1,9 +1,9 @@
 -- A Set command is asked about its own fields, and a clear about none.
 use mathlib.Core.Path.{_∙_}
 use borrow.Author.Needs.{needs}
-use Rattle.command_tests.proofs.Quantities.{of-limits, of-setpoints}
-use Rattle.command_tests.proofs.asked.some_is.Statement.{statement}
-use Rattle.command_tests.proofs.asked.some_is.Tie as tie
+use Rattle.command_asks.proofs.Quantities.{of-limits, of-setpoints}
+use Rattle.command_asks.proofs.some_is.Statement.{statement}
+use Rattle.command_asks.proofs.some_is.Tie as tie
 
 pub some-is-spec : {M : Type 1} → statement M
 some-is-spec =

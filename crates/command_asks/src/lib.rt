@@ -21,8 +21,7 @@ ghost use mathlib.Core.Path.{_≡_};
 ghost use mathlib.Core.Bool.{_&&_, _||_};
 ghost use Rattle.quantities.specs.Quantities.{helds};
 ghost use Rattle.command_says.specs.Says.{isSet};
-ghost use Rattle.command_tests.specs.Content.{beyond, outside};
-ghost use Rattle.command_tests.specs.Asked.{isSo, someIs};
+ghost use Rattle.command_asks.specs.Asked.{beyond, outside, isSo, someIs};
 
 // Named at all, below 0, of a direction that is not supported, of a phase from the count up, above the most that it may be.
 pub enum Question {

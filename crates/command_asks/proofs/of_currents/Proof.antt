@@ -1,9 +1,9 @@
 -- The direction of the map decides which quantities are asked.
 use mathlib.Core.Path.{_∙_}
 use borrow.Author.Needs.{needs}
-use Rattle.command_tests.proofs.Quantities.{map-consumption, map-production, map-none}
-use Rattle.command_tests.proofs.asked.of_currents.Statement.{statement}
-use Rattle.command_tests.proofs.asked.of_currents.Tie as tie
+use Rattle.command_asks.proofs.Quantities.{map-consumption, map-production, map-none}
+use Rattle.command_asks.proofs.of_currents.Statement.{statement}
+use Rattle.command_asks.proofs.of_currents.Tie as tie
 
 pub of-currents-spec : {M : Type 1} → statement M
 of-currents-spec =

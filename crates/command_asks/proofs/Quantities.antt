@@ -1,12 +1,11 @@
 -- A question that no absent field answers: the quantities that a Set command has fields of decide it.
 use Prim.Native.Nat.{ℕ, zero, suc}
-use mathlib.Core.Bool.{Bool, true, false, cond, _&&_, _||_}
+use mathlib.Core.Bool.{Bool, true, false, cond, _||_}
 use mathlib.Core.Path.{_≡_, refl, sym, ap, _∙_}
 use native.Mathlib.Omega.{arith}
 use borrow.Author.Tests.{ne-eqb}
 use lib.Dec.{eqb}
 use Rattle.messages.specs.declared.Field.{Field}
-use Rattle.messages.specs.declared.Aim.{Aim}
 use Rattle.messages.specs.declared.Phases.{Phases}
 use Rattle.messages.specs.declared.Limits.{Limits}
 use Rattle.messages.specs.declared.Setpoints.{Setpoints}
@@ -14,14 +13,12 @@ use Rattle.messages.specs.declared.CurrentLimits.{CurrentLimits}
 use Rattle.messages.specs.declared.Command.{Command}
 use Rattle.store.specs.declared.Settings.{Settings}
 use Rattle.quantities.specs.Quantities.{helds, isLimit, isSetpoint, isCurrent, directionOf, phaseOf}
-use Rattle.command_says.specs.Says.{says, isSet, someOf, limitField, setpointField, aimField, phaseField}
-use Rattle.command_tests.specs.Asked.{isSo, someIs}
-use Rattle.field_rules.specs.Fields.{fieldAbove}
-use Rattle.command_tests.specs.Content.{isCapped}
-use Rattle.command_tests.specs.declared.asked.Question.{Question}
+use Rattle.command_says.specs.Says.{says, someOf, limitField, setpointField, phaseField}
+use Rattle.command_asks.specs.Asked.{isSo, someIs}
+use Rattle.command_asks.specs.declared.Question.{Question}
 
 -- a test that none passes, and one that two quantities or three decide
-some-none : (p : ℕ → Bool) → ((q : ℕ) → p q ≡ false) → (n : ℕ) → someOf p n ≡ false
+pub some-none : (p : ℕ → Bool) → ((q : ℕ) → p q ≡ false) → (n : ℕ) → someOf p n ≡ false
 unfolding someOf
 some-none p h zero = refl
 some-none p h (suc n) = rw (some-none p h n, h n)
@@ -103,24 +100,3 @@ module _ (k : Question) (s : Settings) where
     map-none n o =
         sym (some-none (mapped (m .phases) (m .direction))
         (λ q. rw (ne-eqb (directionOf q) (m .direction) (λ e. omega arith)) (away (isCurrent q) (phaseField (m .phases) (phaseOf q)) q)) helds)
-
--- a clear says no number, and so none above a top
-module _ (top : ℕ) where
-  null : (b : Bool) → fieldAbove top (cond b Field.Null Field.Absent) ≡ false
-  null true = refl
-  null false = refl
-
-  clears : (b : Bool) (a : Aim) (d : ℕ) → fieldAbove top (cond b (aimField a d) Field.Absent) ≡ false
-  clears true Aim.Both d = refl
-  clears true (Aim.One e) d = null (eqb e d)
-  clears false a d = refl
-
-pub capped : (s : Settings) (c : Command) → (isSet c && someIs Question.Above s c) ≡ isCapped s c
-unfolding isCapped says
-capped s (Command.SetLimit m) = refl
-capped s (Command.ClearLimit a) = sym (some-none _ (λ q. clears _ (isLimit q) a (directionOf q)) helds)
-capped s (Command.SetSetpoint m) = refl
-capped s (Command.ClearSetpoint a) = sym (some-none _ (λ q. clears _ (isSetpoint q) a (directionOf q)) helds)
-capped s (Command.SetCurrentLimits m) = refl
-capped s (Command.ClearCurrentLimits a) = sym (some-none _ (λ q. clears _ (isCurrent q) a (directionOf q)) helds)
-capped s (Command.Unserved n) = sym (some-none _ (λ q. refl) helds)
