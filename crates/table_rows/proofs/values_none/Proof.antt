@@ -4,9 +4,9 @@ use mir.Val.{SFits}
 use mir.Syntax.{w64}
 use borrow.Author.Needs.{needs}
 use Rattle.store.specs.Zones.{upTo}
-use Rattle.holds.specs.Pass.{valuesNone}
-use Rattle.holds.proofs.values.values_none.Statement.{statement}
-use Rattle.holds.proofs.values.values_none.Tie as tie
+use Rattle.table_rows.specs.Rows.{valuesNone}
+use Rattle.table_rows.proofs.values_none.Statement.{statement}
+use Rattle.table_rows.proofs.values_none.Tie as tie
 
 pub values-none-spec : {M : Type 1} → statement M
 unfolding valuesNone upTo

@@ -1,4 +1,4 @@
--- The rows of the table from the numbers that the passes met. The public contracts cite none of this: it parts the work of `values`.
+-- The rows of the table from the numbers that the passes met. The public contracts of `holds` cite none of this: it parts their work.
 use Prim.Native.Nat.{ℕ, _+_}
 use mathlib.Core.Bool.{Bool, cond}
 use mathlib.Core.Path.{_≡_}
@@ -12,10 +12,11 @@ use Rattle.store.specs.Sizes.{most}
 use Rattle.store.specs.Zones.{upTo}
 use Rattle.store.specs.Words.{settingsOf, sinceOf, overrideOf}
 use Rattle.store.specs.declared.Settings.{Settings}
+use Rattle.claims.specs.Claim.{Claim}
 use Rattle.claims.specs.Pass.{numberOf, LowsMet}
 use Rattle.claims.specs.declared.passes.Lows.{Lows}
 use Rattle.table_rules.specs.Leaves.{topOf, shownBelow, shownIn, stateUp, stateDown}
-use Rattle.holds.specs.Holds.{Claim, smallestWith}
+use Rattle.table_rows.specs.Smallest.{smallestWith}
 
 -- the values of the first row
 unfoldable pub valuesUp : ℕ → ℕ → List ℕ → List ℕ → List ℤ

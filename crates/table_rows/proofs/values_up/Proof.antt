@@ -3,9 +3,9 @@ use mir.Facts.{toZ-ofZ}
 use mir.Val.{SFits}
 use mir.Syntax.{w64}
 use borrow.Author.Needs.{needs}
-use Rattle.holds.proofs.Shows.{up-filled}
-use Rattle.holds.proofs.values.values_up.Statement.{statement}
-use Rattle.holds.proofs.values.values_up.Tie as tie
+use Rattle.table_rows.proofs.Filled.{up-filled}
+use Rattle.table_rows.proofs.values_up.Statement.{statement}
+use Rattle.table_rows.proofs.values_up.Tie as tie
 
 settings-at-requires : tie.Need-settings-at-requires
 settings-at-requires c κs = search needs

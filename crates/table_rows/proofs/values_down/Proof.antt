@@ -1,10 +1,10 @@
 -- Each limit is the smaller of the failsafe limit and what the pass met, currents are what it met; behind the end of the failsafe nothing holds.
 use borrow.Author.Needs.{needs}
-use Rattle.holds.specs.Pass.{valuesDown}
+use Rattle.table_rows.specs.Rows.{valuesDown}
 use Rattle.store.proofs.Tests.{via}
-use Rattle.holds.proofs.Shows.{first-met, second-met, safe-filled}
-use Rattle.holds.proofs.values.values_down.Statement.{statement}
-use Rattle.holds.proofs.values.values_down.Tie as tie
+use Rattle.table_rows.proofs.Filled.{first-met, second-met, safe-filled}
+use Rattle.table_rows.proofs.values_down.Statement.{statement}
+use Rattle.table_rows.proofs.values_down.Tie as tie
 
 settings-at-requires : tie.Need-settings-at-requires
 settings-at-requires c κs = search needs

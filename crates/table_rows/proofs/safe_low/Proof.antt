@@ -3,9 +3,9 @@ use Prim.Native.Nat.{ℕ}
 use mathlib.Core.Path.{_∙_, ap}
 use native.Mathlib.Omega.{arith}
 use Rattle.table_rules.specs.Leaves.{lesser}
-use Rattle.holds.proofs.Shows.{low-safe}
-use Rattle.holds.proofs.values.safe_low.Statement.{statement}
-use Rattle.holds.proofs.values.safe_low.Tie as tie
+use Rattle.table_rows.proofs.Filled.{low-safe}
+use Rattle.table_rows.proofs.safe_low.Statement.{statement}
+use Rattle.table_rows.proofs.safe_low.Tie as tie
 
 pub safe-low-spec : {M : Type 1} → statement M
 safe-low-spec =
