@@ -1,14 +1,14 @@
 -- The tables of the code and those of specs/ agree: each rule is one test, computed over the whole table, and one law that
 -- turns a passed test into the rule at every entry.
-use Prim.Native.Nat.{ℕ, zero, suc, _+_, _<_, _/_, _%_, _^_}
+use Prim.Native.Nat.{ℕ, zero, suc, _+_, _<_, _/_, _%_}
 use mathlib.Core.Bool.{Bool, true, _&&_, Bool·beq}
 use mathlib.Core.Path.{_≡_, refl}
-use mathlib.Core.List.{List, [], _∷_, map}
+use mathlib.Core.List.{List}
 use native.Mathlib.Decide.{decLt}
 use native.Mathlib.Nat.{not-suc-le-zero}
 use native.Mathlib.Omega.{arith}
 use lib.Dec.{eqb}
-use lib.ListN.{length, getD, List·getD-map}
+use lib.ListN.{length, getD}
 use borrow.Author.Tests.{eqb-true}
 use Rattle.feature_tables.specs.Endpoints.{types, bitsOf, mask}
 use Rattle.feature_tables.specs.Features.{bits}
