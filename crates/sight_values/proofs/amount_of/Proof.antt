@@ -1,8 +1,8 @@
 -- The test is the one of the definition.
 use borrow.Author.Tests.{ne-eqb}
-use Rattle.map_fields.specs.Sights.{amountOf}
-use Rattle.map_fields.proofs.readers.amount_of.Statement.{statement}
-use Rattle.map_fields.proofs.readers.amount_of.Tie as tie
+use Rattle.sight_values.specs.Values.{amountOf}
+use Rattle.sight_values.proofs.amount_of.Statement.{statement}
+use Rattle.sight_values.proofs.amount_of.Tie as tie
 
 pub amount-of-spec : {M : Type 1} → statement M
 unfolding amountOf

@@ -2,11 +2,11 @@
 use borrow.Author.Tests.{eq-eqb, ne-eqb}
 use native.Mathlib.Nat.{mod-lt}
 use native.Mathlib.Omega.{arith}
-use Rattle.map_fields.specs.Sights.{fieldOf}
-use Rattle.map_fields.proofs.Signs.{plain-read, negative-fits, minus-read}
+use Rattle.sight_values.specs.Values.{fieldOf}
+use Rattle.sight_values.proofs.Signs.{plain-read, negative-fits, minus-read}
 use borrow.Author.Needs.{needs}
-use Rattle.map_fields.proofs.readers.field_of.Statement.{statement}
-use Rattle.map_fields.proofs.readers.field_of.Tie as tie
+use Rattle.sight_values.proofs.field_of.Statement.{statement}
+use Rattle.sight_values.proofs.field_of.Tie as tie
 
 pub field-of-spec : {M : Type 1} → statement M
 unfolding fieldOf
