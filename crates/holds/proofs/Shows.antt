@@ -21,7 +21,8 @@ use Rattle.holds.specs.Holds.{Claim, winner, amountOf, Situation, inFail
 use Rattle.holds.specs.Dues.{lowDues, leadDues, dues, nearer, nearest}
 use Rattle.claims.specs.Pass.{numberOf, LowsMet, LeadsMet}
 use Rattle.table_rows.specs.Rows.{valuesUp, valuesNone, safeNumber, shownSafe, valuesDown}
-use Rattle.table_rules.specs.Leaves.{topOf, shownBelow, numberIn, shownIn, stateUp, stateDown}
+use Rattle.control_state.specs.States.{stateUp, stateDown}
+use Rattle.table_rules.specs.Leaves.{topOf, shownBelow, numberIn, shownIn}
 use Rattle.claims.specs.declared.passes.Lows.{Lows}
 use Rattle.claims.specs.declared.passes.Leads.{Leads}
 use Rattle.claims.proofs.Places.{setpoint-place, no-setpoint, limit-at, current-at}

@@ -15,7 +15,8 @@ use Rattle.store.specs.declared.Settings.{Settings}
 use Rattle.claims.specs.Claim.{Claim}
 use Rattle.claims.specs.Pass.{numberOf, LowsMet}
 use Rattle.claims.specs.declared.passes.Lows.{Lows}
-use Rattle.table_rules.specs.Leaves.{topOf, shownBelow, shownIn, stateUp, stateDown}
+use Rattle.control_state.specs.States.{stateUp, stateDown}
+use Rattle.table_rules.specs.Leaves.{topOf, shownBelow, shownIn}
 use Rattle.table_rows.specs.Smallest.{smallestWith}
 
 -- the values of the first row

@@ -1,6 +1,8 @@
 // The rows of the table of links, each from the numbers that the passes over the zones met, and the control state beside them.
 use claims::Leads;
 use claims::Lows;
+use control_state::state_down;
+use control_state::state_up;
 use quantities::LEADS;
 use store::MOST;
 use store::State;
@@ -11,8 +13,6 @@ use store::since;
 use table_rules::failsafe_holds;
 use table_rules::least;
 use table_rules::row;
-use table_rules::state_down;
-use table_rules::state_up;
 ghost use mathlib.Core.Path.{_≡_};
 ghost use Rattle.store.specs.Words.{overrideOf, settingsOf};
 ghost use Rattle.table_rows.specs.Rows.{valuesUp, valuesNone, SafeLow, ShowsDown};

@@ -1,8 +1,8 @@
 -- With no zone up only the override is asked.
 use borrow.Author.Tests.{eq-eqb, ne-eqb}
-use Rattle.table_rules.specs.Leaves.{stateDown}
-use Rattle.table_rules.proofs.state_down.Statement.{statement}
-use Rattle.table_rules.proofs.state_down.Tie as tie
+use Rattle.control_state.specs.States.{stateDown}
+use Rattle.control_state.proofs.state_down.Statement.{statement}
+use Rattle.control_state.proofs.state_down.Tie as tie
 
 pub state-down-spec : {M : Type 1} → statement M
 unfolding stateDown

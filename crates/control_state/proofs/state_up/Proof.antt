@@ -1,11 +1,11 @@
 -- The override first, then each limit shown: a number at least 0 is present.
+use mathlib.Core.Path.{sym, _∙_}
 use mir.Facts.{toZ-ofZ}
 use borrow.Author.Tests.{eq-eqb, ne-eqb}
-use Rattle.table_rules.specs.Leaves.{stateUp}
-use Rattle.store.proofs.Tests.{via}
-use Rattle.table_rules.proofs.Rows.{is-natural}
-use Rattle.table_rules.proofs.state_up.Statement.{statement}
-use Rattle.table_rules.proofs.state_up.Tie as tie
+use Rattle.control_state.specs.States.{stateUp}
+use Rattle.control_state.proofs.Naturals.{is-natural}
+use Rattle.control_state.proofs.state_up.Statement.{statement}
+use Rattle.control_state.proofs.state_up.Tie as tie
 
 pub state-up-spec : {M : Type 1} → statement M
 unfolding stateUp
@@ -16,16 +16,15 @@ state-up-spec =
     (λ c.
     let at-args = c .before .before .args in
     let at-fits = c .before .before .fits in
-    rw (eq-eqb _ _ (c .before .if1 .left), via (is-natural (at-args .a)) (rw (toZ-ofZ (at-fits .a)) at (c .if2 .taken))))
+    rw (eq-eqb _ _ (c .before .if1 .left), sym (is-natural (at-args .a)) ∙ (rw (toZ-ofZ (at-fits .a)) at (c .if2 .taken))))
     (λ c.
     let at-if1 = c .before .before .if1 in
     let at-args = c .before .before .before .args in
     let at-fits = c .before .before .before .fits in
     rw (
       eq-eqb _ _ (at-if1 .left),
-      via (is-natural (at-args .a)) (rw (toZ-ofZ (at-fits .a)) at (c .before .if2 .left)),
-      via (is-natural (at-args .b))
-          (rw (toZ-ofZ (at-fits .b)) at (c .if3 .taken)),
+      sym (is-natural (at-args .a)) ∙ (rw (toZ-ofZ (at-fits .a)) at (c .before .if2 .left)),
+      sym (is-natural (at-args .b)) ∙ (rw (toZ-ofZ (at-fits .b)) at (c .if3 .taken)),
     ))
     (λ c.
     let at-if1 = c .before .before .if1 in
@@ -33,7 +32,6 @@ state-up-spec =
     let at-fits = c .before .before .before .fits in
     rw (
       eq-eqb _ _ (at-if1 .left),
-      via (is-natural (at-args .a)) (rw (toZ-ofZ (at-fits .a)) at (c .before .if2 .left)),
-      via (is-natural (at-args .b))
-          (rw (toZ-ofZ (at-fits .b)) at (c .if3 .left)),
+      sym (is-natural (at-args .a)) ∙ (rw (toZ-ofZ (at-fits .a)) at (c .before .if2 .left)),
+      sym (is-natural (at-args .b)) ∙ (rw (toZ-ofZ (at-fits .b)) at (c .if3 .left)),
     )))
