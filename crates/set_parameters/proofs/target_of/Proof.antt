@@ -3,8 +3,8 @@ use mir.Syntax.{w64}
 use mir.Val.{SFits}
 use mir.ValLaws.{toZ-ofZ}
 use borrow.Author.Needs.{needs}
-use Rattle.request_reader.proofs.settings.target_of.Statement.{statement}
-use Rattle.request_reader.proofs.settings.target_of.Tie as tie
+use Rattle.set_parameters.proofs.target_of.Statement.{statement}
+use Rattle.set_parameters.proofs.target_of.Tie as tie
 
 pub target-of-spec : {M : Type 1} → statement M
 target-of-spec =

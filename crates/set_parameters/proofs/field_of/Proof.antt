@@ -3,8 +3,8 @@ use mir.Syntax.{w64}
 use mir.Val.{SFits}
 use mir.ValLaws.{toZ-ofZ}
 use borrow.Author.Needs.{needs}
-use Rattle.request_writer.proofs.settings.field_of.Statement.{statement}
-use Rattle.request_writer.proofs.settings.field_of.Tie as tie
+use Rattle.set_parameters.proofs.field_of.Statement.{statement}
+use Rattle.set_parameters.proofs.field_of.Tie as tie
 
 pub field-of-spec : {M : Type 1} → statement M
 field-of-spec =

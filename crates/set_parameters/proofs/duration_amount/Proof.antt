@@ -1,7 +1,7 @@
 -- The test is the one of `durationAmount`.
 use borrow.Author.Tests.{eq-eqb, ne-eqb}
-use Rattle.request_writer.proofs.settings.duration_amount.Statement.{statement}
-use Rattle.request_writer.proofs.settings.duration_amount.Tie as tie
+use Rattle.set_parameters.proofs.duration_amount.Statement.{statement}
+use Rattle.set_parameters.proofs.duration_amount.Tie as tie
 
 pub duration-amount-spec : {M : Type 1} → statement M
 duration-amount-spec =

@@ -1,9 +1,9 @@
 -- Field by field.
-use Rattle.request_writer.specs.Settings.{settingOfLimits}
+use Rattle.set_parameters.specs.Shapes.{settingOfLimits}
 use mathlib.Core.Path.{refl}
 use borrow.Author.Needs.{needs}
-use Rattle.request_writer.proofs.settings.setting_of_limits.Statement.{statement}
-use Rattle.request_writer.proofs.settings.setting_of_limits.Tie as tie
+use Rattle.set_parameters.proofs.setting_of_limits.Statement.{statement}
+use Rattle.set_parameters.proofs.setting_of_limits.Tie as tie
 
 pub setting-of-limits-spec : {M : Type 1} → statement M
 unfolding settingOfLimits

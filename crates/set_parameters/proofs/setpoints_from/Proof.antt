@@ -1,8 +1,8 @@
 -- Field by field.
-use Rattle.request_reader.specs.Settings.{setpointsFrom}
+use Rattle.set_parameters.specs.Shapes.{setpointsFrom}
 use borrow.Author.Needs.{needs}
-use Rattle.request_reader.proofs.settings.setpoints_from.Statement.{statement}
-use Rattle.request_reader.proofs.settings.setpoints_from.Tie as tie
+use Rattle.set_parameters.proofs.setpoints_from.Statement.{statement}
+use Rattle.set_parameters.proofs.setpoints_from.Tie as tie
 
 pub setpoints-from-spec : {M : Type 1} → statement M
 unfolding setpointsFrom

@@ -1,11 +1,12 @@
-// The parameters of a Set command as one shape, which SetLimit and SetSetpoint alike are read into.
+// The parameters of a Set command as one shape, which SetLimit and SetSetpoint alike are read into and written from.
 use messages::Amount;
 use messages::Field;
 use messages::Limits;
 use messages::Setpoints;
 use messages::Target;
 ghost use mathlib.Core.Path.{_≡_};
-ghost use Rattle.request_reader.specs.Settings.{durationOf, targetOf, limitsFrom, setpointsFrom};
+ghost use Rattle.set_parameters.specs.Shapes.{durationOf, targetOf, limitsFrom, setpointsFrom};
+ghost use Rattle.set_parameters.specs.Shapes.{durationAmount, fieldOf, settingOfLimits, settingOfSetpoints};
 
 // The values, and apart from them the duration as it stands on the wire: what an omitted one means is the command's to say.
 pub struct Setting {
@@ -62,5 +63,53 @@ pub fn setpoints_from(s: Setting) -> Setpoints
         production: target_of(p),
         duration: d,
         cause: s.cause,
+    }
+}
+
+// A duration of 0 is omitted, of limits and current limits.
+pub fn duration_amount(d: u64) -> Amount
+    ensures { λ r. ⌜ r ≡ durationAmount d ⌝ }
+{
+    if d == 0 {
+        return Amount::Absent;
+    }
+    Amount::Is(d)
+}
+
+fn field_of(t: Target) -> Field
+    ensures { λ r. ⌜ r ≡ fieldOf t ⌝ }
+{
+    match t {
+        Target::Absent => Field::Absent,
+        Target::Value(v) => Field::Value(v),
+    }
+}
+
+// The parameters of SetLimit.
+pub fn setting_of_limits(l: Limits) -> Setting
+    ensures { λ r. ⌜ r ≡ settingOfLimits l ⌝ }
+{
+    let c = l.consumption;
+    let p = l.production;
+    Setting {
+        consumption: c,
+        production: p,
+        duration: duration_amount(l.duration),
+        cause: l.cause,
+    }
+}
+
+// The parameters of SetSetpoint, with the duration as it stands: a 0 is written.
+pub fn setting_of_setpoints(l: Setpoints) -> Setting
+    ensures { λ r. ⌜ r ≡ settingOfSetpoints l ⌝ }
+{
+    let c = l.consumption;
+    let p = l.production;
+    let lasts = l.duration;
+    Setting {
+        consumption: field_of(c),
+        production: field_of(p),
+        duration: lasts,
+        cause: l.cause,
     }
 }

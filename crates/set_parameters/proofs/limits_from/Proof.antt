@@ -1,9 +1,9 @@
 -- Field by field.
-use Rattle.request_reader.specs.Settings.{limitsFrom}
+use Rattle.set_parameters.specs.Shapes.{limitsFrom}
 use mathlib.Core.Path.{refl}
 use borrow.Author.Needs.{needs}
-use Rattle.request_reader.proofs.settings.limits_from.Statement.{statement}
-use Rattle.request_reader.proofs.settings.limits_from.Tie as tie
+use Rattle.set_parameters.proofs.limits_from.Statement.{statement}
+use Rattle.set_parameters.proofs.limits_from.Tie as tie
 
 pub limits-from-spec : {M : Type 1} → statement M
 unfolding limitsFrom

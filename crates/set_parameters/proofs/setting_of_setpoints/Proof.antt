@@ -1,8 +1,8 @@
 -- Field by field.
-use Rattle.request_writer.specs.Settings.{settingOfSetpoints}
+use Rattle.set_parameters.specs.Shapes.{settingOfSetpoints}
 use borrow.Author.Needs.{needs}
-use Rattle.request_writer.proofs.settings.setting_of_setpoints.Statement.{statement}
-use Rattle.request_writer.proofs.settings.setting_of_setpoints.Tie as tie
+use Rattle.set_parameters.proofs.setting_of_setpoints.Statement.{statement}
+use Rattle.set_parameters.proofs.setting_of_setpoints.Tie as tie
 
 pub setting-of-setpoints-spec : {M : Type 1} → statement M
 unfolding settingOfSetpoints
