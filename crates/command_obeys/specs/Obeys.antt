@@ -7,7 +7,7 @@ use Rattle.store.specs.Zones.{upTo, nothing, holding, heldOf}
 use Rattle.store.specs.declared.Held.{Held}
 use Rattle.store.specs.declared.Zone.{Zone}
 use Rattle.store.specs.declared.Settings.{Settings}
-unfoldable pub use Rattle.field_rules.specs.Fields.{untilOf}
+unfoldable pub use Rattle.durations.specs.Durations.{untilOf}
 use Rattle.command_obeys.specs.declared.Action.{Action}
 use Rattle.command_says.specs.Says.{says, durationOf, topOf, natural}
 

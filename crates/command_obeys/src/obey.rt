@@ -1,12 +1,12 @@
 // What a command leaves held by its zone.
 use crate::Action;
+use command_fields::aim_field;
+use command_fields::limit_field;
+use command_fields::setpoint_field;
 use command_says::duration_of;
 use command_says::top_of;
-use field_rules::aim_field;
-use field_rules::limit_field;
+use durations::until_of;
 use field_rules::natural_of;
-use field_rules::setpoint_field;
-use field_rules::until_of;
 use messages::Aim;
 use messages::Command;
 use messages::CurrentLimits;

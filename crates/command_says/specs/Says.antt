@@ -10,7 +10,9 @@ use Rattle.messages.specs.declared.Command.{Command}
 use Rattle.store.specs.Sizes.{most}
 use Rattle.store.specs.declared.Settings.{Settings}
 use Rattle.quantities.specs.Quantities.{isLimit, isSetpoint, isCurrent, directionOf, phaseOf}
-pub use Rattle.field_rules.specs.Fields.{limitField, targetField, setpointField, aimField, phaseField, negative, natural, fieldNames, fieldNegative, forgotten, setpointDuration}
+pub use Rattle.command_fields.specs.Params.{limitField, targetField, setpointField, aimField, phaseField}
+pub use Rattle.durations.specs.Durations.{forgotten, setpointDuration}
+pub use Rattle.field_rules.specs.Fields.{negative, natural, fieldNames, fieldNegative}
 use Rattle.command_says.specs.declared.said.Kind.{Kind}
 
 -- A COMMAND SEEN BY QUANTITY: what it says of each, beside its kind, aim and duration. All else goes by these and the answers below.

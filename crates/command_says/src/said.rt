@@ -1,9 +1,9 @@
 // A command seen by quantity: what it says of each, and its kind, aim and duration.
-use field_rules::aim_field;
-use field_rules::limit_field;
-use field_rules::phase_field;
-use field_rules::setpoint_duration;
-use field_rules::setpoint_field;
+use command_fields::aim_field;
+use command_fields::limit_field;
+use command_fields::phase_field;
+use command_fields::setpoint_field;
+use durations::setpoint_duration;
 use messages::Aim;
 use messages::Command;
 use messages::CurrentLimits;

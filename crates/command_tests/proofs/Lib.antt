@@ -1,1 +1,1 @@
-mod Quantities
+mod Capped

@@ -2,15 +2,15 @@
 use Prim.Native.Nat.{ℕ}
 use mathlib.Core.Bool.{Bool, true, false, not, _&&_, _||_}
 use mathlib.Core.List.{List, [], _∷_}
-use lib.Dec.{leb, eqb}
-use Rattle.messages.specs.declared.Field.{Field}
+use lib.Dec.{eqb}
 use Rattle.messages.specs.declared.Aim.{Aim}
 use Rattle.messages.specs.declared.Command.{Command}
 use Rattle.store.specs.Sizes.{helds}
 use Rattle.store.specs.declared.Settings.{Settings}
-use Rattle.quantities.specs.Quantities.{isCurrent, directionOf, phaseOf, supports}
+use Rattle.quantities.specs.Quantities.{supports}
 unfoldable pub use Rattle.field_rules.specs.Fields.{tooLow}
 use Rattle.field_rules.specs.Fields.{fieldTooLow, fieldAbove}
+use Rattle.command_asks.specs.Asked.{beyond, outside}
 use Rattle.command_says.specs.declared.said.Kind.{Kind}
 use Rattle.command_says.specs.Says.{says, kindOf, isSet, aimOf, topOf, someOf, fieldNames, fieldNegative}
 
@@ -36,9 +36,6 @@ abbrev pub aimUnsupported : ℕ → Aim → Bool
 aimUnsupported has Aim.Both = false
 aimUnsupported has (Aim.One d) = not (supports has d)
 
-abbrev pub beyond : ℕ → Field → ℕ → Bool
-beyond has f q = fieldNames f && not (supports has (directionOf q))
-
 unfoldable pub unsupported : Settings → Command → Bool
 unsupported s c =
     not (accepts s (kindOf c))
@@ -53,10 +50,6 @@ ofLimits Kind.Unserved = false
 
 abbrev pub setsLimits : Command → Bool
 setsLimits c = ofLimits (kindOf c) && isSet c
-
--- a phase "from the phase count up", named by a number or by null
-abbrev pub outside : ℕ → Field → ℕ → Bool
-outside count f q = fieldNames f && (isCurrent q && leb count (phaseOf q))
 
 -- 13: "a Set command with a negative value or naming neither direction"; L5: a phase "from the phase count up, a negative value or an empty map"
 unfoldable pub invalid : Settings → Command → Bool

@@ -1,6 +1,6 @@
 // What is asked of a command itself, whatever zone it comes from: one test for each number.
-use crate::asked::Question;
-use crate::asked::some_is;
+use command_asks::Question;
+use command_asks::some_is;
 use command_says::Kind;
 use command_says::aim_of;
 use command_says::is_set;

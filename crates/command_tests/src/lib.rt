@@ -1,5 +1,4 @@
 // What is asked of a command itself, whatever zone it comes from.
-mod asked; // asked.rt: one question asked of every field
 mod content; // content.rt: the tests of a command's content
 
 pub use content::content_number;

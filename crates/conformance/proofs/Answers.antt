@@ -6,16 +6,21 @@ use mathlib.Core.List.{List, [], _∷_}
 use native.Mathlib.Omega.{arith}
 use lib.Dec.{eqb}
 use lib.ListN.{length}
-use borrow.Author.Tests.{not-false, lt-ltb, le-ltb}
-use Rattle.conformance.specs.Sizes.{types, pairCount}
+use borrow.Author.Tests.{not-false, lt-ltb, le-ltb, ltb-true}
+use Rattle.feature_tables.specs.Endpoints.{types}
+use Rattle.conformance.specs.Sizes.{pairCount}
 use Rattle.conformance.specs.Lists.{keep, ascends, firstOf, front}
 use Rattle.conformance.specs.Rules.{broken, brokenIn, breaches, candidates}
 use Rattle.conformance.specs.Report.{inRange, numberOf, reportOf, flat, pairsAfter}
 use Rattle.conformance.specs.declared.Inputs.{Inputs}
 use Rattle.conformance.specs.declared.Answer.{Answer}
 use Rattle.conformance.specs.declared.breaches.Pair.{Pair}
-use Rattle.conformance.proofs.Bounds.{type-below}
+use Rattle.conformance.proofs.Bools.{and-left}
 use Rattle.conformance.proofs.Tables.{length-candidates}
+
+pub type-below : (i : Inputs) → inRange i ≡ true → i .endpoint < types
+unfolding inRange
+type-below i range = ltb-true _ _ (and-left _ _ (and-left _ _ (and-left _ _ (and-left _ _ range))))
 
 pub judged-type : (i : Inputs) {b : Bool} → b ≡ inRange i → not b ≡ false → i .endpoint < types
 judged-type i {b} range e = type-below i (sym range ∙ not-false b e)

@@ -8,9 +8,11 @@ use native.Mathlib.Omega.{arith}
 use lib.Dec.{eqb}
 use lib.ListN.{getD, drop, drop-of-length-le, List·getD-append}
 use lib.Seq.{drop-cons}
-use Rattle.conformance.specs.Sizes.{bits, rowCount, bitPairs, pairCount}
+use Rattle.feature_tables.specs.Features.{bits}
+use Rattle.feature_tables.specs.Attributes.{rowCount, rows, noRow}
+use Rattle.conformance.specs.Sizes.{bitPairs, pairCount}
 use Rattle.conformance.specs.Lists.{keep}
-use Rattle.conformance.specs.Attributes.{rows, noRow, conditions, mandatory}
+use Rattle.conformance.specs.Attributes.{conditions, mandatory}
 use Rattle.conformance.specs.Rules.{bitRules, lacksAttribute, broken, brokenIn, candidates, noPair}
 use Rattle.conformance.specs.declared.Inputs.{Inputs}
 use Rattle.conformance.proofs.Tables.{bit-pair, row-pair, row-condition, length-candidates}

@@ -10,7 +10,8 @@ use lib.Seq.{getD-set-same, getD-set-other}
 use borrow.Author.Tests.{eqb-true, eqb-false, ltb-true}
 use Rattle.conformance.specs.Sizes.{numberEnd, pairCount}
 use Rattle.conformance.specs.Lists.{member, keep, flagged, marked}
-use Rattle.conformance.specs.Attributes.{rows, mandatory}
+use Rattle.feature_tables.specs.Attributes.{rows}
+use Rattle.conformance.specs.Attributes.{mandatory}
 use Rattle.conformance.specs.Rules.{bitRules, lacksAttribute, broken, brokenIn, candidates, noPair, breaches}
 use Rattle.conformance.specs.declared.Inputs.{Inputs}
 use Rattle.conformance.specs.declared.breaches.Pair.{Pair}

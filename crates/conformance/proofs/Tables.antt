@@ -1,22 +1,24 @@
 -- The tables of the code and those of specs/ agree: each rule is one test, computed over the whole table, and one law that
 -- turns a passed test into the rule at every entry.
-use Prim.Native.Nat.{ℕ, zero, suc, _+_, _<_, _/_, _%_, _^_}
+use Prim.Native.Nat.{ℕ, zero, suc, _+_, _<_, _/_, _%_}
 use mathlib.Core.Bool.{Bool, true, _&&_, Bool·beq}
 use mathlib.Core.Path.{_≡_, refl}
-use mathlib.Core.List.{List, [], _∷_, map}
+use mathlib.Core.List.{List}
 use native.Mathlib.Decide.{decLt}
 use native.Mathlib.Nat.{not-suc-le-zero}
 use native.Mathlib.Omega.{arith}
 use lib.Dec.{eqb}
-use lib.ListN.{length, getD, List·getD-map}
+use lib.ListN.{length, getD}
 use borrow.Author.Tests.{eqb-true}
-use Rattle.conformance.specs.Sizes.{types, bits, bitPairs, attributeGroup, rowCount, pairCount}
+use Rattle.feature_tables.specs.Endpoints.{types, bitsOf, mask}
+use Rattle.feature_tables.specs.Features.{bits}
+use Rattle.feature_tables.specs.Attributes.{rowCount, rows, noRow}
+use Rattle.conformance.specs.Sizes.{bitPairs, attributeGroup, pairCount}
 use Rattle.conformance.specs.Lists.{member}
 use Rattle.conformance.specs.Features.{bit}
-use Rattle.conformance.specs.Endpoints.{bitsOf}
-use Rattle.conformance.specs.Attributes.{rows, noRow, conditionIn}
+use Rattle.conformance.specs.Attributes.{conditionIn}
 use Rattle.conformance.specs.Rules.{candidates, noPair}
-use Rattle.conformance.specs.declared.attributes.Row.{Row}
+use Rattle.feature_tables.specs.declared.attributes.Row.{Row}
 use Rattle.conformance.specs.declared.breaches.Pair.{Pair}
 use Rattle.conformance.proofs.Bools.{and-left, and-right, same}
 
@@ -33,19 +35,13 @@ passes p (suc n) k e h =
       | no l ↦ let m : k ≡ n = omega arith in rw m (and-right (every p n) (p n) e)
     ]
 
--- section 2.3: a set of bits as a mask; a column of sets, read through masks, type by type and bit by bit
-abbrev pub mask : List ℕ → ℕ
-mask [] = 0
-mask (b ∷ bs) = 2 ^ b + mask bs
-
+-- section 2.3: a column of sets, read through masks, type by type and bit by bit
 abbrev right : List (List ℕ) → ℕ → ℕ → Bool
 right column t b = Bool·beq (bit (mask (bitsOf column t)) b) (member b (bitsOf column t))
 
 pub mask-at : (column : List (List ℕ)) → every (λ t. every (right column t) bits) types ≡ true → (t b : ℕ) → t < types → b < bits
-    → bit (getD (map mask column) t 0) b ≡ member b (bitsOf column t)
-mask-at column e t b ht hb =
-    rw (List·getD-map mask column t [])
-    (same _ _ (passes (right column t) bits b (passes (λ t. every (right column t) bits) types t e ht) hb))
+    → bit (mask (bitsOf column t)) b ≡ member b (bitsOf column t)
+mask-at column e t b ht hb = same _ _ (passes (right column t) bits b (passes (λ t. every (right column t) bits) types t e ht) hb)
 
 -- section 3.3: a row's condition is that of its number
 pub row-condition : (k : ℕ) → k < rowCount → conditionIn rows (getD rows k noRow .0) ≡ getD rows k noRow .1

@@ -4,7 +4,9 @@ use mathlib.Core.Bool.{Bool, not, _&&_, cond}
 use mathlib.Core.List.{List, [], _∷_}
 use lib.Dec.{ltb, leb, eqb}
 use lib.ListN.{length}
-use Rattle.conformance.specs.Sizes.{types, maps, phaseCount, directionKinds}
+use Rattle.feature_tables.specs.Endpoints.{types}
+use Rattle.feature_tables.specs.Features.{maps}
+use Rattle.conformance.specs.Sizes.{phaseCount, directionKinds}
 use Rattle.conformance.specs.Lists.{ascends, firstOf, front}
 use Rattle.conformance.specs.Rules.{breaches}
 use Rattle.conformance.specs.declared.Inputs.{Inputs}

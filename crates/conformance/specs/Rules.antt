@@ -5,9 +5,11 @@ use mathlib.Core.List.{List, [], _∷_, _++_, map}
 use lib.Dec.{eqb}
 use lib.ListN.{getD}
 use Rattle.conformance.specs.Lists.{member, keep}
-use Rattle.conformance.specs.Features.{CORE, BATTERY, EMOB, ASYMMETRIC, V2X, allBits, bit}
-use Rattle.conformance.specs.Endpoints.{required, invalid, bitsOf}
-use Rattle.conformance.specs.Attributes.{rows, mandatory}
+use Rattle.feature_tables.specs.Features.{CORE, BATTERY, EMOB, ASYMMETRIC, V2X, allBits}
+use Rattle.conformance.specs.Features.{bit}
+use Rattle.feature_tables.specs.Endpoints.{required, invalid, bitsOf}
+use Rattle.feature_tables.specs.Attributes.{rows}
+use Rattle.conformance.specs.Attributes.{mandatory}
 use Rattle.conformance.specs.declared.Inputs.{Inputs}
 use Rattle.conformance.specs.declared.breaches.Pair.{Pair}
 

@@ -1,16 +1,7 @@
--- Sizes of the tables, each said once; src/sizes.rt has them for the code.
-use Prim.Native.Nat.{ℕ, _+_, _*_, _^_}
-
--- endpoint types (document 000)
-abbrev pub types : ℕ
-types = 11
-
--- bits of the feature map (document 003 section 1), and the maps that they make
-abbrev pub bits : ℕ
-bits = 11
-
-abbrev pub maps : ℕ
-maps = 2 ^ bits
+-- Sizes of the report, each said once; src/sizes.rt has them for the code.
+use Prim.Native.Nat.{ℕ, _+_, _*_}
+use Rattle.feature_tables.specs.Features.{bits}
+use Rattle.feature_tables.specs.Attributes.{rowCount}
 
 -- phases at most, and the kinds of supported directions: consumption, production, both
 abbrev pub phaseCount : ℕ
@@ -26,10 +17,7 @@ bitGroups = 5
 abbrev pub attributeGroup : ℕ
 attributeGroup = bitGroups + 1
 
--- rows of section 3.3, and one more than the largest attribute number
-abbrev pub rowCount : ℕ
-rowCount = 33
-
+-- one more than the largest attribute number
 abbrev pub numberEnd : ℕ
 numberEnd = 82
 
@@ -39,7 +27,3 @@ bitPairs = bitGroups * bits
 
 abbrev pub pairCount : ℕ
 pairCount = bitPairs + rowCount
-
--- pairs of the longest report (proofs/Longest)
-abbrev pub longest : ℕ
-longest = 48

@@ -3,17 +3,19 @@ ghost use mathlib.Core.Path.{_≡_};
 ghost use mathlib.Core.Bool.{false};
 ghost use Prim.Native.Nat.{_<_};
 ghost use lib.ListN.{getD};
-ghost use Rattle.conformance.specs.Sizes.{types, bits, bitGroups};
+ghost use Rattle.feature_tables.specs.Endpoints.{types};
+ghost use Rattle.feature_tables.specs.Features.{bits};
+ghost use Rattle.conformance.specs.Sizes.{bitGroups};
 ghost use Rattle.conformance.specs.Rules.{need, lacksNeed, clashes, lacksSupply, lacksRequired, hasInvalid, bitRules};
 use crate::Inputs;
-use crate::endpoints::forbids_bit;
-use crate::endpoints::requires_bit;
-use crate::features::ASYMMETRIC;
-use crate::features::BATTERY;
-use crate::features::CORE;
-use crate::features::EMOB;
-use crate::features::V2X;
+use crate::features::forbids_bit;
 use crate::features::has;
+use crate::features::requires_bit;
+use feature_tables::ASYMMETRIC;
+use feature_tables::BATTERY;
+use feature_tables::CORE;
+use feature_tables::EMOB;
+use feature_tables::V2X;
 
 // Section 2.1: the bit that a bit needs. CORE needs nothing, which is to need itself.
 fn need(b: u64) -> u64

@@ -4,19 +4,21 @@ ghost use mathlib.Core.List.{_∷_, []};
 ghost use Prim.Native.Nat.{_+_, _≤_, _<_};
 ghost use lib.ListN.{length, getD};
 ghost use lib.Seq.{sets};
-ghost use Rattle.conformance.specs.Sizes.{types, rowCount, pairCount};
+ghost use Rattle.feature_tables.specs.Endpoints.{types};
+ghost use Rattle.feature_tables.specs.Attributes.{rowCount, rows, noRow};
+ghost use Rattle.conformance.specs.Sizes.{pairCount};
 ghost use Rattle.conformance.specs.Lists.{flagged, front};
-ghost use Rattle.conformance.specs.Attributes.{rows, noRow, conditions};
+ghost use Rattle.conformance.specs.Attributes.{conditions};
 ghost use Rattle.conformance.specs.Rules.{lacksAttribute, broken, candidates, noPair, brokenIn};
 ghost use Rattle.conformance.specs.Report.{flat};
 use crate::Inputs;
 use crate::attributes::flag;
-use crate::attributes::row_at;
 use crate::bit_rules::broken_bit;
 use crate::sizes::ATTRIBUTE_GROUP;
 use crate::sizes::BIT_GROUPS;
-use crate::sizes::BITS;
-use crate::sizes::ROWS;
+use feature_tables::BITS;
+use feature_tables::ROWS;
+use feature_tables::row_at;
 
 pub struct Pair {
     pub group: u64,

@@ -1,29 +1,12 @@
-// The feature map: its eleven bits (document 003 section 1).
+// The feature map (document 003 section 1) by bits, and those that an endpoint type requires and forbids (section 2.3).
 ghost use mathlib.Core.Path.{_≡_};
 ghost use Prim.Native.Nat.{_<_};
+ghost use Rattle.feature_tables.specs.Features.{bits};
+ghost use Rattle.feature_tables.specs.Endpoints.{types, required, invalid, bitsOf};
+ghost use Rattle.conformance.specs.Lists.{member};
 ghost use Rattle.conformance.specs.Features.{bit};
-
-pub const CORE: u64 = 0;
-
-pub const FLEX: u64 = 1;
-
-pub const BATTERY: u64 = 2;
-
-pub const EMOB: u64 = 3;
-
-pub const SIGNALS: u64 = 4;
-
-pub const TARIFF: u64 = 5;
-
-pub const PLAN: u64 = 6;
-
-pub const PROCESS: u64 = 7;
-
-pub const FORECAST: u64 = 8;
-
-pub const ASYMMETRIC: u64 = 9;
-
-pub const V2X: u64 = 10;
+use feature_tables::invalid_bits;
+use feature_tables::required_bits;
 
 // Whether a bit of a map is set.
 pub fn has(map: u64, b: u64) -> bool
@@ -31,4 +14,20 @@ pub fn has(map: u64, b: u64) -> bool
     ensures { λ r. ⌜ r ≡ bit map b ⌝ }
 {
     (map >> b) % 2 == 1
+}
+
+// Whether an endpoint type requires a bit.
+pub fn requires_bit(endpoint: u64, b: u64) -> bool
+    requires { ⌜ (endpoint < types) × (b < bits) ⌝ }
+    ensures { λ r. ⌜ r ≡ member b (bitsOf required endpoint) ⌝ }
+{
+    has(required_bits(endpoint), b)
+}
+
+// Whether an endpoint type forbids a bit.
+pub fn forbids_bit(endpoint: u64, b: u64) -> bool
+    requires { ⌜ (endpoint < types) × (b < bits) ⌝ }
+    ensures { λ r. ⌜ r ≡ member b (bitsOf invalid endpoint) ⌝ }
+{
+    has(invalid_bits(endpoint), b)
 }

@@ -2,7 +2,6 @@
 mod attributes;
 mod bit_rules;
 mod breaches;
-mod endpoints;
 mod features;
 mod sizes;
 
@@ -14,11 +13,11 @@ use attributes::conditions;
 use attributes::mark_listed;
 use breaches::count;
 use breaches::write;
+use feature_tables::MAPS;
+use feature_tables::TYPES;
 use sizes::DIRECTIONS;
-use sizes::MAPS;
 use sizes::NUMBERS;
 use sizes::PHASES;
-use sizes::TYPES;
 
 // What a device says of itself. Numbers are wider than their ranges, so that one out of range can be told and refused.
 #[repr(C)]

@@ -23,7 +23,7 @@ use Rattle.conformance.specs.declared.Inputs.{Inputs}
 use Rattle.conformance.specs.Lists.{front}
 use Rattle.conformance.specs.Rules.{breaches}
 use Rattle.conformance.specs.Report.{numberOf, reportOf, flat, pairsAfter}
-use Rattle.conformance.proofs.Laws.{exact, ordered}
+use Rattle.conformance_laws.proofs.Laws.{exact, ordered}
 use Rattle.demands.specs.Answers.{Written, Determined}
 use Rattle.demands.proofs.Codecs.{id-read, id-unserved}
 use Rattle.demands.specs.Demands.{Demand2}

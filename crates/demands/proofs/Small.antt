@@ -21,7 +21,7 @@ use Rattle.frames.specs.Prefix.{framed, payloadIn}
 use Rattle.map_fields.specs.Fields.{mapIn, upTo, needed, optional, inRange, signed, most32, valueIn, amountIn, aimIn}
 use Rattle.map_fields.specs.ByPhase.{onlyPhases, eachPhase, byPhase, phasesFrom, phasesIn}
 use Rattle.frames.specs.Settings.{settingIn, targetOf, limitsFrom, setpointsFrom, currentLimitsIn}
-use Rattle.request_reader.specs.declared.settings.Setting.{Setting}
+use Rattle.set_parameters.specs.declared.Setting.{Setting}
 use Rattle.frames.specs.Requests.{Envelope, envelopeIn, servedAt, servedCommand, commandIn, withCommand, fromEnvelope, fromPayload, readRequest}
 use Rattle.request_reader.specs.declared.requests.Reading.{Reading}
 use Rattle.store.specs.declared.Settings.{Settings}

@@ -32,7 +32,7 @@ use Rattle.kernel.specs.Frame.{frameNumber, frameAnswer, frameOut}
 use Rattle.conformance.specs.declared.Inputs.{Inputs}
 use Rattle.conformance.specs.Rules.{breaches}
 use Rattle.conformance.specs.Report.{numberOf, reportOf, flat, pairsAfter}
-use Rattle.conformance.specs.Statements.{Exact, Ordered}
+use Rattle.conformance_laws.specs.Statements.{Exact, Ordered}
 use Rattle.demands.specs.Run.{Call, number, run}
 use Rattle.demands.specs.History.{newest, saysRank, clockBy, joinedBy, recordBy}
 use Rattle.demands.specs.Accepted.{numberBy, planNumberBy, responseFrameBy, startedWith, InPairs, history, told}

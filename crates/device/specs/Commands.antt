@@ -1,28 +1,23 @@
 -- A command as a call to the device: its number, what it leaves, and what is answered.
 use Prim.Native.Nat.{ℕ}
-use mathlib.Core.Bool.{Bool, cond, not}
-use mathlib.Core.List.{List, [], _∷_}
+use mathlib.Core.Bool.{cond}
+use mathlib.Core.List.{List}
 use lib.Dec.{eqb}
 use Rattle.messages.specs.declared.Command.{Command}
 use Rattle.messages.specs.declared.Outcome.{Outcome}
 use Rattle.store.specs.Sizes.{slots}
 use Rattle.store.specs.Zones.{freeZone, slotOf, joined, zoneOf}
 use Rattle.store.specs.Words.{clockOf, sinceOf, overrideOf, settingsOf, zonesOf, after}
-use Rattle.store.specs.declared.Settings.{Settings}
 use Rattle.holds.specs.Holds.{situationOf, withZone, valuesAt}
-use Rattle.command.specs.Content.{isUnserved, contentTests}
+pub use Rattle.command_order.specs.Order.{commandTests}
 use Rattle.command.specs.Obeys.{obeyed}
 use Rattle.command.specs.Outcomes.{isCapped, outcomeWith}
-use Rattle.device.specs.Refusals.{firstOf, late}
+use Rattle.device.specs.Refusals.{firstOf}
 use Rattle.device.specs.Calls.{zoneChange}
 use Rattle.device.specs.declared.Decision.{Decision}
 use Rattle.device.specs.declared.Answer.{Answer}
 
--- a command from zone z at t: document 01's order
-abbrev pub commandTests : ℕ → Bool → Bool → Settings → ℕ → ℕ → Command → List (Bool × ℕ)
-commandTests clock there up s override t c =
-    (isUnserved c, 4) ∷ (late clock t, 5) ∷ (not there, 9) ∷ (not up, 10) ∷ contentTests s override c
-
+-- the number of a command from zone z at t
 unfoldable pub commandNumber : List ℕ → ℕ → ℕ → Command → ℕ
 commandNumber ws z t c =
     firstOf (commandTests (clockOf ws) (joined (zonesOf ws) z) (zoneOf (zonesOf ws) z .up) (settingsOf ws) (overrideOf ws) t c)

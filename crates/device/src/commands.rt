@@ -2,41 +2,13 @@
 use crate::Change;
 use crate::Decision;
 use crate::SLOTS;
-use crate::Settings;
 use crate::State;
 use messages::Command;
 use messages::Outcome;
 ghost use mathlib.Core.Path.{_≡_};
 ghost use mathlib.Core.Bool.{cond};
 ghost use lib.Dec.{eqb};
-ghost use Rattle.device.specs.Refusals.{firstOf};
-ghost use Rattle.device.specs.Commands.{commandTests, decisionOf, outcomeFor, enacted};
-
-fn number_of(
-    clock: u64,
-    there: bool,
-    up: bool,
-    s: Settings,
-    overridden: u64,
-    t: u64,
-    c: Command,
-) -> u64
-    ensures { λ r. ⌜ r ≡ firstOf (commandTests clock there up s overridden t c) ⌝ }
-{
-    if command::is_unserved(c) {
-        return 4;
-    }
-    if rules::is_late(clock, t) {
-        return 5;
-    }
-    if !there {
-        return 9;
-    }
-    if !up {
-        return 10;
-    }
-    command::content_number(s, overridden, c)
-}
+ghost use Rattle.device.specs.Commands.{decisionOf, outcomeFor, enacted};
 
 // The number, and the record that the zone would then have.
 pub fn decide(d: &State, zone: u64, t: u64, c: Command) -> Decision
@@ -45,7 +17,7 @@ pub fn decide(d: &State, zone: u64, t: u64, c: Command) -> Decision
     let slot = store::slot_of_joined(d, zone);
     let x = store::zone_at(d, slot);
     let s = store::settings_at(d);
-    let n = number_of(
+    let n = command_order::number_of(
         store::clock(d),
         slot < SLOTS,
         x.up,

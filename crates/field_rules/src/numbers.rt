@@ -1,37 +1,10 @@
-// The end of a value, and what stands for one number in an answer.
+// What stands for one number in an answer.
 use crate::fields::is_negative;
 use crate::fields::natural_of;
 use messages::Amount;
-use store::MOST;
 ghost use mathlib.Core.Path.{_≡_};
 ghost use mathlib.Core.Bool.{cond};
-ghost use Rattle.field_rules.specs.Fields.{untilOf, setpointDuration, reasonOf, stated};
-
-// The second until which a value set at n for a duration holds.
-pub fn until_of(n: u64, duration: u64) -> u64
-    ensures { λ r. ⌜ r ≡ untilOf n duration ⌝ }
-{
-    if duration == 0 {
-        return MOST;
-    }
-    if n < MOST - duration {
-        return n + duration;
-    }
-    MOST
-}
-
-// The seconds after which a setpoint ends whose duration was left out.
-const FORGOTTEN: u64 = 3600;
-
-// The duration of a setpoint: one that was forgotten ends, and a 0 that was sent does not.
-pub fn setpoint_duration(a: Amount) -> u64
-    ensures { λ r. ⌜ r ≡ setpointDuration a ⌝ }
-{
-    match a {
-        Amount::Absent => FORGOTTEN,
-        Amount::Is(d) => d,
-    }
-}
+ghost use Rattle.field_rules.specs.Fields.{reasonOf, stated};
 
 fn above_if(capped: bool) -> Amount
     ensures { λ r. ⌜ r ≡ cond capped (Amount.Is 1) Amount.Absent ⌝ }

@@ -23,7 +23,7 @@ use Rattle.map_fields.specs.Fields.{present, upTo, mapIn, needed, most32, value
 use Rattle.map_fields.specs.ByPhase.{phasesIn}
 use Rattle.frames.specs.Settings.{settingIn, durationOf, durationAmount, targetOf, fieldOf, limitsFrom, setpointsFrom, settingOfLimits, settingOfSetpoints, settingFields}
 use Rattle.frames.specs.Settings.{currentLimitsIn, currentLimitFields}
-use Rattle.request_reader.specs.declared.settings.Setting.{Setting}
+use Rattle.set_parameters.specs.declared.Setting.{Setting}
 use Rattle.frames.specs.Responses.{amountUpTo}
 use Rattle.frames.specs.Requests.{Envelope, envelopeIn, commandIn, servedAt, servedCommand, withCommand, fromEnvelope, fromPayload, readRequest, commandFields, requestFields, requestItem, durationWide, commandWide, aimWide, isServed, requestWide, requestUnserved, requestNumber}
 use Rattle.frames.specs.Writing.{itemFrame}

@@ -23,7 +23,7 @@ use Rattle.messages.specs.declared.Request.{Request}
 use Rattle.map_fields.specs.Fields.{present, mapIn, needed, most32, aimItem}
 use Rattle.frames.specs.Settings.{settingIn, durationOf, durationAmount, targetOf, fieldOf, limitsFrom, setpointsFrom, settingOfLimits, settingOfSetpoints, settingFields}
 use Rattle.frames.specs.Settings.{currentLimitsIn, currentLimitFields}
-use Rattle.request_reader.specs.declared.settings.Setting.{Setting}
+use Rattle.set_parameters.specs.declared.Setting.{Setting}
 use Rattle.frames.specs.Responses.{amountUpTo}
 use Rattle.frames.specs.Requests.{envelopeIn, commandIn, servedAt, servedCommand, fromEnvelope, readRequest, commandFields, requestFields, requestItem, durationWide, commandWide, isServed, requestWide, requestUnserved, requestNumber}
 use Rattle.map_fields.specs.Puts.{fieldBytes}

@@ -17,6 +17,7 @@ use Rattle.store.specs.declared.Settings.{Settings}
 pub use Rattle.claims.specs.Claim.{Claim, noClaim, amountOf}
 unfoldable pub use Rattle.claims.specs.Claim.{claimOf, goesBefore, better, winner}
 unfoldable pub use Rattle.table_rules.specs.Edges.{shown}
+unfoldable pub use Rattle.table_rows.specs.Smallest.{smallestWith}
 
 -- What the table reads: settings, zones, since when no link is up, the override.
 pub record Situation : Type 0 where
@@ -35,10 +36,6 @@ withZone s i x = record { settings = s .settings; zones = set (s .zones) i x; si
 -- the second row: "zones joined, none up since second s, t < s + duration"
 unfoldable pub inFailsafe : Situation → ℕ → Bool
 inFailsafe s t = not (anyUp (s .zones)) && (anyJoined (s .zones) && ltb t (s .since + s .settings .duration))
-
--- "the limit is the smallest of the failsafe limit and all unexpired limits of joined zones": the failsafe limit beside the claim that wins among theirs
-unfoldable pub smallestWith : ℕ → Claim → ℕ
-smallestWith safe c = cond (c .there && ltb (c .value) safe) (c .value) safe
 
 -- the second row of a quantity: setpoints are absent, current limits hold on, without a failsafe limit of their own
 unfoldable pub failsafeValue : Situation → ℕ → ℕ → Amount

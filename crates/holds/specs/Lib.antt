@@ -1,3 +1,2 @@
 pub mod Holds
 pub mod Dues
-pub mod Pass

@@ -1,5 +1,2 @@
--- What the proofs of several functions use, and the laws that callers cite.
-pub mod InRange
-pub mod Unserved
+-- What the proofs of several functions use.
 pub mod Framing
-pub mod Readable

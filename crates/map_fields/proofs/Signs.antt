@@ -1,39 +1,23 @@
--- Signed numbers as they are read and written: n, and -1 - n. Assumes nothing.
-use Prim.Native.Nat.{ℕ, zero, suc, _-_, _<_, _^_}
+-- Signed numbers as they are written: n, and -1 - n. Assumes nothing.
+use Prim.Native.Nat.{ℕ, suc, _-_, _<_, _^_}
 use mathlib.Core.Path.{_≡_, refl, sym, ap, subst, _∙_}
 use mathlib.Core.Bool.{true, false}
-use native.Mathlib.Nat.{zero-add}
 use native.Mathlib.Omega.{arith}
 use lib.Dec.{T}
 use lib.IntN.{ℤ, pos, negsuc, natAbs, _-ℤ_}
 use lib.Signed.{ltZ, nonNeg}
-use borrow.Author.Tests.{ltb-true, lt-ltb, le-ltb}
-use mir.Val.{Fits, SFits, toZ, ofZ}
+use borrow.Author.Tests.{ltb-true, le-ltb}
+use mir.Val.{Fits, SFits}
 use mir.ValLaws.{toZ-ofZ}
 use mir.Syntax.{w64}
 use Rattle.cbor.specs.Item.{Item}
+use Rattle.sight_values.proofs.Signs.{again, minus-one}
 use Rattle.map_fields.specs.Laws.{MinusOneMinus}
 use Rattle.map_fields.specs.Fields.{intItem}
 use Rattle.map_fields.proofs.Joined.{no-both}
 
--- z as 64 bits, and back
-abbrev pub again : ℤ → ℤ
-again z = toZ w64 (ofZ w64 z)
-
 pub minus-one-minus : MinusOneMinus
-minus-one-minus zero = refl
-minus-one-minus (suc n) = ap (λ (k : ℕ). negsuc (suc k)) (sym (zero-add n))
-
--- what 64 bits say is read
-module _ (n : ℕ) (h : n < 2 ^ 63) where
-  pub plain-read : toZ w64 n ≡ pos n
-  plain-read = rw (lt-ltb n (2 ^ 63) h)
-
-  pub negative-fits : SFits w64 (negsuc 0 -ℤ toZ w64 n)
-  negative-fits = rw (plain-read, ← minus-one-minus n) (record { sfits = h })
-
-  pub minus-read : again (negsuc 0 -ℤ toZ w64 n) ≡ negsuc n
-  minus-read = rw (plain-read, ← minus-one-minus n) (toZ-ofZ w64 (negsuc n) (record { sfits = h }))
+minus-one-minus n = minus-one n
 
 minus-negative : (n : ℕ) → negsuc 0 -ℤ negsuc n ≡ pos n
 minus-negative n = rw (le-ltb (suc n) 1 (omega arith)) (ap pos (omega arith))

@@ -1,17 +1,16 @@
 -- What the readers make of a field, told by what is seen of it. Assumes nothing: these are definitions.
-use Prim.Native.Nat.{ℕ, _^_, _%_}
+use Prim.Native.Nat.{ℕ}
 use mathlib.Core.Path.{_≡_}
 use mathlib.Core.Bool.{Bool, true, false, cond, _&&_}
 use mathlib.Core.List.{List}
 use mathlib.Core.Option.{Option, some, none}
 use lib.Dec.{ltb, leb, eqb}
-use lib.IntN.{pos, negsuc}
 use Rattle.cbor.specs.Item.{Item, Pairs}
 use Rattle.cbor.specs.Scan.{LEVELS, sightOf, pairsIn, mapAt, sightsAlong, wordsOf}
 use Rattle.cbor.specs.declared.sights.Sight.{Sight}
-use Rattle.messages.specs.declared.Field.{Field}
 use Rattle.messages.specs.declared.Amount.{Amount}
 use Rattle.messages.specs.declared.Aim.{Aim}
+unfoldable pub use Rattle.sight_values.specs.Values.{fieldOf, amountOf}
 use Rattle.map_fields.specs.Fields.{upTo, mapIn, needed, amountIn}
 use Rattle.map_fields.specs.declared.ranges.Range.{Range}
 
@@ -31,17 +30,6 @@ Tells k f r = (o : Option Item) → k ≡ sightOf o → f o ≡ r
 -- a number of a range
 abbrev pub numberSeen : Range → Sight → Bool
 numberSeen g k = cond (eqb (k .major) 0) (leb (k .arg) (g .high)) (eqb (k .major) 1 && ltb (k .arg) (g .below))
-
--- a signed number, null or nothing; where the number is past 64 signed bits, what its low 63 bits say
-unfoldable pub fieldOf : Sight → Field
-fieldOf k =
-    cond (eqb (k .major) 0) (Field.Value (pos (k .arg % 2 ^ 63)))
-    (cond (eqb (k .major) 1) (Field.Value (negsuc (k .arg % 2 ^ 63)))
-    (cond (eqb (k .major) 7) Field.Null Field.Absent))
-
--- an unsigned number, or nothing
-unfoldable pub amountOf : Sight → Amount
-amountOf k = cond (eqb (k .major) 0) (Amount.Is (k .arg)) Amount.Absent
 
 -- an unsigned number of at most `most`, which must be there or may be absent
 unfoldable pub UintReads : Sight → Bool → ℕ → Bool → Type 0

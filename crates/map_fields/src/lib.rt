@@ -28,8 +28,6 @@ pub use ranges::is_in;
 pub use ranges::is_number;
 pub use ranges::up_to;
 pub use readers::Value;
-pub use readers::amount_of;
-pub use readers::field_of;
 pub use readers::is_map;
 pub use readers::is_success;
 pub use readers::is_truth;

@@ -6,13 +6,12 @@ use crate::ranges::up_to;
 use crate::truths::both;
 use crate::truths::either;
 use cbor::Sight;
-use messages::Amount;
 use messages::Field;
-ghost use mathlib.Core.Path.{_≡_};
+use sight_values::field_of;
 ghost use lib.Dec.{eqb};
 ghost use mathlib.Core.Bool.{true};
 ghost use Rattle.map_fields.specs.Fields.{truth, needed, valueIn, successIn};
-ghost use Rattle.map_fields.specs.Sights.{Reads, UintReads, MapReads, amountOf, fieldOf};
+ghost use Rattle.map_fields.specs.Sights.{Reads, UintReads, MapReads};
 
 // A signed number, null or nothing; not `ok` is refusal 3.
 pub struct Value {
@@ -20,42 +19,11 @@ pub struct Value {
     pub field: Field,
 }
 
-// Numbers of 64 signed bits are below it.
-const LIMIT: u64 = 9223372036854775808;
-
 // Whether an unsigned number of at most `most` is there, or nothing where it need not be.
 pub fn is_uint(k: Sight, must: bool, most: u64) -> bool
     ensures { λ r. ⌜ UintReads k must most r ⌝ }
 {
     either(both(!must, k.major == 8), is_in(k, up_to(most)))
-}
-
-// The number that is there, or none.
-pub fn amount_of(k: Sight) -> Amount
-    ensures { λ r. ⌜ r ≡ amountOf k ⌝ }
-{
-    if k.major == 0 {
-        return Amount::Is(k.arg);
-    }
-    Amount::Absent
-}
-
-// The signed number that is there, null, or nothing: n is n in major type 0 and -1 - n in major type 1.
-// A number past 64 signed bits, which no reader accepts, counts by its low 63 bits: so there is nothing to test.
-pub fn field_of(k: Sight) -> Field
-    ensures { λ r. ⌜ r ≡ fieldOf k ⌝ }
-{
-    let v = (k.arg % LIMIT) as i64;
-    if k.major == 0 {
-        return Field::Value(v);
-    }
-    if k.major == 1 {
-        return Field::Value(-1 - v);
-    }
-    if k.major == 7 {
-        return Field::Null;
-    }
-    Field::Absent
 }
 
 // A signed number, or null where that is allowed, or nothing.

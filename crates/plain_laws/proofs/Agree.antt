@@ -23,7 +23,8 @@ use Rattle.planner.specs.Plan.{planOf, rowSize, numbersOf, rowsFrom, planNumber
 use Rattle.planner.proofs.IsPlan.{planOf-only}
 use Rattle.planner.proofs.Answers.{numbers-length}
 use Rattle.plain_planner.specs.Same.{same}
-use Rattle.plain_planner.specs.Plain.{candidatesOf, isOneOf, stands, secondsOf, plainSeconds, rowsAt, plainRows}
+use Rattle.candidates.specs.Candidates.{candidatesOf}
+use Rattle.plain_planner.specs.Plain.{isOneOf, stands, secondsOf, plainSeconds, rowsAt, plainRows}
 use Rattle.plain_planner.specs.Records.{rowOf, recordsOf, rowsNow, plainNumber, plainAnswer}
 use Rattle.plain_planner.proofs.Equal.{equal-self, equal-is}
 use Rattle.plain_laws.specs.Agree.{SameRows, fieldsOf, allFields, SameFields, SameAnswer}

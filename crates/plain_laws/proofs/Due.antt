@@ -15,7 +15,8 @@ use Rattle.store.specs.Zones.{upTo, any, isJoined, heldOf, anyUp, anyJoined}
 use Rattle.store.specs.declared.Zone.{Zone}
 use Rattle.holds.specs.Holds.{Situation}
 use Rattle.holds.specs.Dues.{zoneDues, heldDues, lowDues, leadDues, dues}
-use Rattle.plain_planner.specs.Plain.{expiryAt, failsafeEnd, expiries, candidateAt, candidatesOf, isOneOf}
+use Rattle.candidates.specs.Candidates.{expiryAt, failsafeEnd, expiries, candidateAt, candidatesOf}
+use Rattle.plain_planner.specs.Plain.{isOneOf}
 
 abbrev Mem : ℕ → List ℕ → Type 0
 Mem t l = List·Memᴰ t l

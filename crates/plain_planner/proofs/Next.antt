@@ -3,29 +3,20 @@ use Prim.Native.Nat.{ℕ, zero, suc, _+_, _-_, _<_, _≤_}
 use mathlib.Core.Bool.{Bool, true, false, cond, _&&_, _||_}
 use mathlib.Core.Path.{_≡_, refl, sym, ap, _∙_}
 use mathlib.Core.Logic.{_⊎_, inl, inr, ⊎-elim}
-use mathlib.Core.List.{List, [], _∷_, foldl, foldl-append}
+use mathlib.Core.List.{List, [], _∷_, foldl}
 use native.Mathlib.Decide.{decLt}
 use native.Mathlib.Nat.{zero-add, suc-add, add-zero}
-use native.Mathlib.Numerals.{add-one}
 use native.Mathlib.Omega.{arith}
 use lib.Dec.{ltb, eqb}
 use lib.ListN.{length}
-use borrow.Author.Tests.{lt-ltb, le-ltb, ltb-true, ltb-false, eqb-true, eq-eqb}
+use borrow.Author.Tests.{ltb-true, ltb-false, eqb-true, eq-eqb}
 use Rattle.store.specs.Sizes.{end}
-use Rattle.store.specs.Zones.{any, upTo}
+use Rattle.store.specs.Zones.{any}
 use Rattle.holds.specs.Holds.{Situation, valuesAt}
 use Rattle.holds.specs.Dues.{nearer, nearest}
+use Rattle.candidates.specs.Candidates.{candidatesOf}
 use Rattle.plain_planner.specs.Same.{same}
-use Rattle.plain_planner.specs.Plain.{failsafeEnd, candidateAt, candidatesOf, isOneOf, stands, secondsOf, plainSeconds, firstOr, nextRow}
-
--- the failsafe end is the sum where that lies before the end of time
-pub failsafe-low : (since n : ℕ) → since + n < end → since + n ≡ failsafeEnd since n
-unfolding failsafeEnd
-failsafe-low since n h = rw (lt-ltb (since + n) end h)
-
-pub failsafe-high : (since n : ℕ) → end ≤ since + n → end ≡ failsafeEnd since n
-unfolding failsafeEnd
-failsafe-high since n h = rw (le-ltb (since + n) end h)
+use Rattle.plain_planner.specs.Plain.{isOneOf, stands, secondsOf, plainSeconds, firstOr, nextRow}
 
 -- x is r, or the least of the list past t
 pub record Least (t r : ℕ) (cs : List ℕ) (x : ℕ) : Type 0 where
@@ -80,12 +71,6 @@ fold-least t r (c ∷ cs) = go (ltb t c) refl (ltb c r) refl (λ v. fold-least t
 nearest-least : (t : ℕ) (cs : List ℕ) → Least t end cs (nearest t cs)
 unfolding nearest
 nearest-least t cs = fold-least t end cs
-
--- one candidate more is met
-pub met-more : (s : Situation) (t k best c r : ℕ) → best ≡ foldl (nearer t) end (upTo (candidateAt s) k) → c ≡ candidateAt s k → r ≡ nearer t best c
-    → r ≡ foldl (nearer t) end (upTo (candidateAt s) (k + 1))
-unfolding upTo
-met-more s t k best c r inv e q = q ∙ rw (inv, e, add-one k, foldl-append (nearer t) end (upTo (candidateAt s) k) (candidateAt s k ∷ []))
 
 -- SECONDS: those between that do not pass the test are passed over
 module _ (p : ℕ → Bool) where

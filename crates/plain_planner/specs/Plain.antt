@@ -1,34 +1,16 @@
 -- The plan made the slow way: "for each expiry held, and for the failsafe end, work out every value at that second and at the second before".
-use Prim.Native.Nat.{ℕ, zero, suc, _+_, _*_, _-_, _/_, _%_}
+use Prim.Native.Nat.{ℕ, zero, suc, _-_}
 use mathlib.Core.Bool.{Bool, cond, not, _&&_}
 use mathlib.Core.List.{List, [], _∷_}
-use lib.Dec.{ltb, eqb}
+use lib.Dec.{eqb}
 use lib.IntN.{ℤ}
-use lib.ListN.{getD}
-use Rattle.store.specs.Sizes.{end, slots, helds}
-use Rattle.store.specs.Zones.{upTo, any, freeZone, isJoined, heldOf}
+use Rattle.store.specs.Sizes.{end}
+use Rattle.store.specs.Zones.{any}
 use Rattle.holds.specs.Holds.{Situation, valuesAt}
-use Rattle.store.specs.declared.Zone.{Zone}
+use Rattle.candidates.specs.Candidates.{candidatesOf}
 use Rattle.plain_planner.specs.Same.{same}
 
--- when quantity q of the zone in slot i ends; 0, which is past no second, where the slot is free or nothing is held
-unfoldable pub expiryAt : List Zone → ℕ → ℕ → ℕ
-expiryAt zs i q = cond (isJoined (getD zs i freeZone)) (heldOf (getD zs i freeZone) q .until) 0
-
--- the failsafe end, the end of time where it lies past it
-unfoldable pub failsafeEnd : ℕ → ℕ → ℕ
-failsafeEnd since duration = cond (ltb (since + duration) end) (since + duration) end
-
-abbrev pub expiries : ℕ
-expiries = slots * helds
-
--- the expiries slot by slot, then the failsafe end
-unfoldable pub candidateAt : Situation → ℕ → ℕ
-candidateAt s k = cond (ltb k expiries) (expiryAt (s .zones) (k / helds) (k % helds)) (failsafeEnd (s .since) (s .settings .duration))
-
-unfoldable pub candidatesOf : Situation → List ℕ
-candidatesOf s = upTo (candidateAt s) (expiries + 1)
-
+-- n is one of some seconds
 unfoldable pub isOneOf : ℕ → List ℕ → Bool
 isOneOf n cs = any (λ c. eqb n c) cs
 

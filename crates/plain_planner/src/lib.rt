@@ -1,6 +1,5 @@
 // The plan made the slow way, for the bench: its rows as records. It shares nothing with the first planner but what holds at a
 // second, and the device is lent unchangeable.
-mod candidates;
 mod records;
 mod rows;
 

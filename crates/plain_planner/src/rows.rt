@@ -1,5 +1,5 @@
 // The seconds of the rows: a candidate at which the values are not those of the second before.
-use crate::candidates::next_after;
+use candidates::next_after;
 use holds::values_at;
 use store::END;
 use store::State;

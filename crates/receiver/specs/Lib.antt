@@ -1,5 +1,2 @@
 pub mod Receive
-pub mod Stream
-pub mod Driver
-pub mod Laws
 pub mod Words

@@ -4,10 +4,10 @@ use mathlib.Core.Path.{_≡_, sym, ap, _∙_}
 use mathlib.Core.List.{List}
 use lib.ListN.{length, take}
 use Rattle.receiver.specs.declared.record.Record.{Record}
-use Rattle.receiver.specs.Stream.{Cut, cut}
-use Rattle.receiver.specs.Driver.{Driven, applied, joined, recordOf}
-use Rattle.receiver.specs.Laws.{LedTo}
-use Rattle.receiver.proofs.Cuttings.{every-cutting}
+use Rattle.receiver_laws.specs.Stream.{Cut, cut}
+use Rattle.receiver_laws.specs.Driver.{Driven, applied, joined, recordOf}
+use Rattle.receiver_laws.specs.Laws.{LedTo}
+use Rattle.receiver_laws.proofs.Cuttings.{every-cutting}
 use Rattle.receiving.specs.Receiving.{Kept, Came, With, applyFrame, KernelEveryCutting, Alike, CuttingsAlike}
 
 pub kernel-every-cutting : KernelEveryCutting

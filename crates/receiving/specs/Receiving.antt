@@ -7,9 +7,9 @@ use mathlib.Core.List.{List}
 use lib.ListN.{length, take}
 use Rattle.prefix.specs.Prefix.{mostFrame}
 use Rattle.receiver.specs.Receive.{fresh}
-use Rattle.receiver.specs.Stream.{cut}
-use Rattle.receiver.specs.Driver.{Effect, Driven, drive, joined}
-use Rattle.receiver.specs.Laws.{LedTo}
+use Rattle.receiver_laws.specs.Stream.{cut}
+use Rattle.receiver_laws.specs.Driver.{Effect, Driven, drive, joined}
+use Rattle.receiver_laws.specs.Laws.{LedTo}
 use Rattle.kernel.specs.Frame.{frameAnswer, frameAfter, frameOut}
 use Rattle.kernel.specs.declared.frame_call.Framed.{Framed}
 

@@ -1,18 +1,14 @@
 -- The parameters of a Set command, read: one shape, which SetLimit and SetSetpoint alike are read into, and that of SetCurrentLimits. Assumes nothing: these are definitions.
-use Prim.Native.Nat.{ℕ}
 use mathlib.Core.Bool.{Bool, true}
 use mathlib.Core.Option.{Option, some, bind}
 use Rattle.cbor.specs.Item.{Pairs}
 use Rattle.cbor.specs.Find.{valueOf}
-use Rattle.messages.specs.declared.Field.{Field}
-use Rattle.messages.specs.declared.Target.{Target}
-use Rattle.messages.specs.declared.Amount.{Amount}
-use Rattle.messages.specs.declared.Limits.{Limits}
-use Rattle.messages.specs.declared.Setpoints.{Setpoints}
 use Rattle.messages.specs.declared.CurrentLimits.{CurrentLimits}
 use Rattle.map_fields.specs.Fields.{upTo, needed, most32, valueIn, amountIn}
 use Rattle.map_fields.specs.ByPhase.{phasesIn}
-use Rattle.request_reader.specs.declared.settings.Setting.{Setting}
+use Rattle.set_parameters.specs.declared.Setting.{Setting}
+unfoldable pub use Rattle.set_parameters.specs.Shapes.{limitsFrom, setpointsFrom}
+pub use Rattle.set_parameters.specs.Shapes.{durationOf, targetOf}
 
 -- "SetLimit: 1 consumption, 2 production, 3 duration (32 bits), 4 cause (0 to 255, required, not kept)"; null where it is allowed
 unfoldable pub settingIn : Bool → Pairs → Option Setting
@@ -22,24 +18,6 @@ settingIn null ps =
     bind (amountIn most32 (valueOf ps 3)) (λ d.
     bind (needed (upTo 255) (valueOf ps 4)) (λ k.
     some (record { consumption = c; production = p; duration = d; cause = k })))))
-
--- of limits and current limits: an omitted duration and 0 are alike
-abbrev pub durationOf : Amount → ℕ
-durationOf Amount.Absent = 0
-durationOf (Amount.Is d) = d
-
-unfoldable pub limitsFrom : Setting → Limits
-limitsFrom s = record { consumption = s .consumption; production = s .production; duration = durationOf (s .duration); cause = s .cause }
-
-abbrev pub targetOf : Field → Target
-targetOf Field.Absent = Target.Absent
-targetOf Field.Null = Target.Absent
-targetOf (Field.Value z) = Target.Value z
-
--- "SetSetpoint has the same keys, without null"; L8: "distinguishes omitted from 0", so its duration is kept as it stands
-unfoldable pub setpointsFrom : Setting → Setpoints
-setpointsFrom s =
-    record { consumption = targetOf (s .consumption); production = targetOf (s .production); duration = s .duration; cause = s .cause }
 
 -- SetCurrentLimits: "1 a map of phase (A 0, B 1, C 2) to mA or null, 2 direction, 3 duration, 4 cause"; 3 may be absent
 unfoldable pub currentLimitsIn : Pairs → Option CurrentLimits

@@ -1,8 +1,6 @@
 // Requests, read: the frame's prefix, the payload's one pass, the envelope, the parameters of each command.
 mod requests; // requests.rt: requests, read
-mod settings; // settings.rt: the parameters of a Set command
 
 pub use requests::Reading;
 pub use requests::read_payload;
 pub use requests::read_request;
-pub use settings::Setting;

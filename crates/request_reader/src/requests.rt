@@ -1,15 +1,10 @@
 // Requests, read.
-use crate::settings::Setting;
-use crate::settings::duration_of;
-use crate::settings::limits_from;
-use crate::settings::setpoints_from;
 use cbor::Sight;
 use cbor::Sights;
 use cbor::sight_of;
 use map_fields::MOST32;
 use map_fields::all4;
 use map_fields::all5;
-use map_fields::amount_of;
 use map_fields::both;
 use map_fields::is_map;
 use map_fields::is_uint;
@@ -24,6 +19,11 @@ use messages::is_command;
 use messages::is_served;
 use prefix::PREFIX;
 use prefix::is_framed;
+use set_parameters::Setting;
+use set_parameters::duration_of;
+use set_parameters::limits_from;
+use set_parameters::setpoints_from;
+use sight_values::amount_of;
 ghost use mathlib.Core.Path.{_≡_};
 ghost use mathlib.Core.Bool.{true};
 ghost use Rattle.cbor.specs.Item.{payloadOf};

@@ -13,7 +13,7 @@ use Rattle.messages.specs.declared.Request.{Request}
 use Rattle.map_fields.specs.Fields.{present, valueItem, amountItem}
 use Rattle.map_fields.specs.ByPhase.{phasesItem}
 use Rattle.request_writer.specs.Settings.{durationAmount, settingFields, currentLimitFields}
-use Rattle.request_reader.specs.declared.settings.Setting.{Setting}
+use Rattle.set_parameters.specs.declared.Setting.{Setting}
 use Rattle.request_writer.specs.Requests.{commandFields, requestFields, requestItem}
 use Rattle.map_fields.specs.Puts.{pairBytes, fieldBytes, pairsOf}
 use Rattle.map_fields.proofs.Added.{pairs-small, under-key, map-bytes, fields-more, fields-one, count-more, count-none}

@@ -1,5 +1,4 @@
 // Requests, written: tested, then put into a local and sent behind their length.
-mod settings; // settings.rt: the parameters of a Set command
 mod writes; // writes.rt: requests, written
 
 pub use writes::write_request;

@@ -1,8 +1,5 @@
 // Requests, written.
 use crate::ROOM;
-use crate::settings::duration_amount;
-use crate::settings::setting_of_limits;
-use crate::settings::setting_of_setpoints;
 use map_fields::MOST32;
 use map_fields::both;
 use map_fields::count_amount;
@@ -23,10 +20,13 @@ use messages::Phases;
 use messages::Request;
 use messages::Setpoints;
 use messages::is_served;
-use request_reader::Setting;
 use sender::Written;
 use sender::refused;
 use sender::send;
+use set_parameters::Setting;
+use set_parameters::duration_amount;
+use set_parameters::setting_of_limits;
+use set_parameters::setting_of_setpoints;
 ghost use mathlib.Core.Path.{_≡_};
 ghost use mathlib.Core.Bool.{_||_};
 ghost use lib.Dec.{ltb};

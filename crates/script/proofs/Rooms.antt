@@ -20,7 +20,7 @@ use Rattle.planner.specs.Plan.{planOf, rowSize, numbersOf, rowsFrom, planNumber
 use Rattle.planner.proofs.Walk.{planOf-few}
 use Rattle.planner.proofs.Find.{values-length}
 use Rattle.planner.proofs.Answers.{numbers-length}
-use Rattle.kernel.proofs.Readable.{responses-short}
+use Rattle.response_laws.proofs.Readable.{responses-short}
 use Rattle.kernel.specs.Frame.{responseFrame, numberFrom, frameNumber, frameAfter}
 use Rattle.script.specs.Answers.{rowPieces, tablePieces}
 use Rattle.script.specs.Bench.{responseRoom, planPieces, frameRoom, rowsRoom}

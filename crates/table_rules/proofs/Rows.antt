@@ -1,15 +1,13 @@
--- A row filled place by place, below the bound of each direction; and a number at least 0.
+-- A row filled place by place, below the bound of each direction.
 use Prim.Native.Nat.{ℕ, zero, suc, _+_, _<_, _≤_}
 use mathlib.Core.Bool.{Bool, true, false, cond}
 use mathlib.Core.Path.{_≡_, refl, _∙_}
 use mathlib.Core.List.{List, [], _∷_}
 use native.Mathlib.Omega.{arith}
 use native.Mathlib.Decide.{ℕ-discrete}
-use borrow.Author.Tests.{le-leb}
-use lib.IntN.{ℤ, pos, negsuc}
+use lib.IntN.{ℤ, pos}
 use lib.ListN.{length, getD, set}
 use lib.Seq.{getD-set-same, getD-set-other}
-use lib.Signed.{leZ, nonNeg}
 use Rattle.quantities.specs.Quantities.{supports}
 use Rattle.store.specs.Sizes.{valueEnd}
 use Rattle.table_rules.specs.Leaves.{topOf, Filled}
@@ -36,8 +34,3 @@ pub top-at : (has m : ℕ) → m < 2 → getD (topOf has 0 ∷ topOf has 1 ∷ [
 top-at has zero h = refl
 top-at has (suc zero) h = refl
 top-at has (suc (suc m)) h = absurd (omega arith)
-
--- a number at least 0
-pub is-natural : (z : ℤ) → leZ (pos 0) z ≡ nonNeg z
-is-natural (pos n) = le-leb 0 n (omega arith)
-is-natural (negsuc n) = refl

@@ -1,13 +1,11 @@
 -- What the leaves of the table answer of plain numbers. The contracts of the table cite none of this: it parts the work.
 use Prim.Native.Nat.{ℕ, _+_, _-_, _<_}
-use mathlib.Core.Bool.{cond, not, _||_}
+use mathlib.Core.Bool.{cond}
 use mathlib.Core.Path.{_≡_}
 use mathlib.Core.List.{List}
-use lib.Dec.{ltb, eqb}
+use lib.Dec.{ltb}
 use lib.IntN.{ℤ, pos, negsuc}
 use lib.ListN.{getD}
-use lib.Signed.{nonNeg}
-use Rattle.messages.specs.Numbers.{AUTONOMOUS, CONTROLLED, LIMITED, OVERRIDE}
 use Rattle.quantities.specs.Quantities.{limits, setpoints, isLimit, isSetpoint, directionOf, supports}
 use Rattle.store.specs.Sizes.{valueEnd}
 
@@ -32,10 +30,3 @@ shownIn has low lead q = shownBelow (topOf has (directionOf q)) (numberIn low le
 
 abbrev pub Filled : (ℕ → ℤ) → List ℤ → ℕ → Type 0
 Filled f v n = (k : ℕ) → k < n → getD v (k + 1) (pos 0) ≡ f k
-
--- the control state beside the limits a and b that are shown, some zone up; and with no value, no zone up
-unfoldable pub stateUp : ℕ → ℤ → ℤ → ℤ
-stateUp o a b = cond (not (eqb o 0)) (pos OVERRIDE) (cond (nonNeg a || nonNeg b) (pos LIMITED) (pos CONTROLLED))
-
-unfoldable pub stateDown : ℕ → ℤ
-stateDown o = cond (not (eqb o 0)) (pos OVERRIDE) (pos AUTONOMOUS)

@@ -1,5 +1,5 @@
-// The leaves of the table of links, over plain numbers: what is shown of a number, the row of all quantities, the control
-// state beside it, the end of the failsafe.
+// The leaves of the table of links, over plain numbers: what is shown of a number, the row of all quantities, the end of the
+// failsafe.
 use messages::Amount;
 use quantities::CURRENTS;
 use quantities::HELDS;
@@ -18,7 +18,7 @@ ghost use lib.ListN.{length};
 ghost use Rattle.quantities.specs.Quantities.{helds};
 ghost use Rattle.store.specs.Sizes.{end, valueEnd};
 ghost use Rattle.table_rules.specs.Edges.{shown, nearer};
-ghost use Rattle.table_rules.specs.Leaves.{lesser, topOf, shownBelow, numberIn, shownIn, Filled, stateUp, stateDown};
+ghost use Rattle.table_rules.specs.Leaves.{lesser, topOf, shownBelow, numberIn, shownIn, Filled};
 
 // The smaller of two numbers.
 pub fn least(a: u64, b: u64) -> u64
@@ -80,29 +80,6 @@ pub fn row(has: u64, low: [u64; LOWS], lead: [u64; LEADS]) -> [i64; VALUES]
         q += 1;
     }
     v
-}
-
-// The control state beside the two power limits that are shown, some zone up.
-pub fn state_up(overridden: u64, a: i64, b: i64) -> i64
-    ensures { λ r. ⌜ r ≡ stateUp overridden a b ⌝ }
-{
-    if overridden != 0 {
-        return 4;
-    }
-    if 0 <= a {
-        return 2;
-    }
-    if 0 <= b {
-        return 2;
-    }
-    1
-}
-
-// With no value, no zone up.
-pub fn state_down(overridden: u64) -> i64
-    ensures { λ r. ⌜ r ≡ stateDown overridden ⌝ }
-{
-    if overridden != 0 { 4 } else { 0 }
 }
 
 // The end is tested by a difference: a sum could pass the largest word.

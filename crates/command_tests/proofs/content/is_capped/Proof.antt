@@ -1,6 +1,6 @@
 -- The question is whether a number is above the most that it may be; a clear has none.
 use mathlib.Core.Path.{_∙_}
-use Rattle.command_tests.proofs.Quantities.{capped}
+use Rattle.command_tests.proofs.Capped.{capped}
 use borrow.Author.Needs.{needs}
 use Rattle.command_tests.proofs.content.is_capped.Statement.{statement}
 use Rattle.command_tests.proofs.content.is_capped.Tie as tie

@@ -3,7 +3,7 @@ use Prim.Native.Nat.{_<_}
 use mathlib.Core.Bool.{Bool, true, false, cond}
 use native.Mathlib.Omega.{arith}
 use lib.Dec.{eqb}
-use Rattle.conformance.specs.Features.{CORE, EMOB, V2X}
+use Rattle.feature_tables.specs.Features.{CORE, EMOB, V2X}
 use Rattle.conformance.specs.Rules.{lacksNeed}
 use borrow.Author.Needs.{needs}
 use Rattle.conformance.proofs.bit_rules.lacks_need.Statement.{statement}

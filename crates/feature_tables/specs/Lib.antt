@@ -1,0 +1,3 @@
+pub mod Features
+pub mod Endpoints
+pub mod Attributes

@@ -1,0 +1,3 @@
+pub mod Stream
+pub mod Driver
+pub mod Laws
