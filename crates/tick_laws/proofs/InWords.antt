@@ -5,9 +5,10 @@ use mathlib.Core.List.{List, [], _∷_}
 use native.Mathlib.Omega.{arith}
 use lib.ListN.{length}
 use Rattle.ticks.specs.declared.front.Reading.{Reading}
+use Rattle.ticks.specs.declared.words.Answer.{Answer}
 use Rattle.ticks.specs.Ticks.{refused, accepted}
-use Rattle.ticks.specs.Words.{frontIn, frontWords, kept, readingIn, wordsLeft}
-use Rattle.tick_laws.specs.Laws.{Answer, answer, answers, wordAnswers, KernelsEnd, InWords}
+use Rattle.ticks.specs.Words.{frontIn, frontWords, kept, answer, readingIn, wordsLeft}
+use Rattle.tick_laws.specs.Laws.{answers, wordAnswers, KernelsEnd, InWords}
 use Rattle.tick_laws.proofs.Over.{Does, starts, refusing, moving, does}
 
 pub kernels-end : KernelsEnd

@@ -9,8 +9,10 @@ use lib.Dec.{ltb}
 use borrow.Author.Tests.{ltb-true, ltb-false}
 use Rattle.ticks.specs.declared.front.Front.{Front}
 use Rattle.ticks.specs.declared.front.Reading.{Reading}
+use Rattle.ticks.specs.declared.words.Answer.{Answer}
 use Rattle.ticks.specs.Ticks.{END, stepOf, refused, accepted, readingOf}
-use Rattle.tick_laws.specs.Laws.{Answer, refusal, at, answer, answers, after, shown, since, truly}
+use Rattle.ticks.specs.Words.{answer}
+use Rattle.tick_laws.specs.Laws.{refusal, at, answers, after, shown, since, truly}
 use Rattle.tick_laws.specs.Laws.{Gaps, last, gap, Within, done, more, TrueSeconds, AsLongAs}
 use Rattle.tick_laws.specs.Laws.{Rising, empty, refuses, gives, NeverFalls, NeverFallsFrom, RefusedLeaves}
 use Rattle.ticks.proofs.Steps.{at-first, at-back, at-past, at-good}

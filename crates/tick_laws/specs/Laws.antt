@@ -4,28 +4,20 @@ use Prim.Native.Nat.{ℕ, zero, suc, _+_, _-_, _/_, _%_, _^_, _≤_, _<_}
 use mathlib.Core.Path.{_≡_}
 use mathlib.Core.Bool.{true, false}
 use mathlib.Core.List.{List, [], _∷_, map}
-use lib.IntN.{ℤ, pos, negsuc}
+use lib.IntN.{pos, negsuc}
 use lib.ListN.{length, getD}
 use Rattle.ticks.specs.declared.front.Front.{Front}
-use Rattle.ticks.specs.declared.front.Reading.{Reading}
+use Rattle.ticks.specs.declared.words.Answer.{Answer}
 use Rattle.store.specs.Sizes.{end}
 use Rattle.ticks.specs.Ticks.{END, readingOf}
-use Rattle.ticks.specs.Words.{frontIn, readingIn, wordsLeft}
+use Rattle.ticks.specs.Words.{frontIn, answer, readingIn, wordsLeft}
 
 -- ANSWERS
--- what a reading answers
-pub record Answer : Type 0 where
-  pub number : ℕ
-  pub seconds : ℤ
-
 abbrev pub refusal : Answer
 refusal = record { number = 5; seconds = negsuc 0 }
 
 abbrev pub at : ℕ → Answer
 at s = record { number = 0; seconds = pos s }
-
-abbrev pub answer : Reading → Answer
-answer r = record { number = r .number; seconds = r .seconds }
 
 -- reading after reading, each with the front that the one before left
 unfoldable pub answers : Front → List ℕ → List Answer

@@ -12,7 +12,7 @@ use borrow.Author.Tests.{lt-ltb, le-ltb, eq-eqb, ne-eqb}
 use Rattle.ticks.specs.declared.front.Front.{Front}
 use Rattle.ticks.specs.declared.front.Reading.{Reading}
 use Rattle.ticks.specs.Ticks.{END, stepOf, refused, accepted, moved, readingOf}
-use Rattle.ticks.specs.Words.{frontIn, frontWords, kept, readingIn, wordsLeft}
+use Rattle.ticks.specs.Words.{frontIn, frontWords, kept, answer, readingIn, wordsLeft}
 
 -- the number that added to the last wraps to the tick is the step
 pub step-is : (last tick s : ℕ) → last < 2 ^ 32 → s < 2 ^ 32 → (s + last) % 2 ^ 32 ≡ tick → s ≡ stepOf last tick
@@ -58,7 +58,7 @@ module _ (ws : List ℕ) (r : Reading) where
 
 -- a reading over words is the reading over the front that they say
 pub worded : (ws us : List ℕ) (tick : ℕ) (f : Front) (r : Reading) → f ≡ frontIn ws → r ≡ readingOf f (tick % 2 ^ 32) → us ≡ kept ws r
-    → (r .number ≡ readingIn ws tick .number) × ((us ≡ wordsLeft ws tick) × (r .seconds ≡ readingIn ws tick .seconds))
+    → (answer r ≡ answer (readingIn ws tick)) × (us ≡ wordsLeft ws tick)
 worded ws us tick f r e d u =
     let a : r ≡ readingIn ws tick = d ∙ ap (λ (g : Front). readingOf g (tick % 2 ^ 32)) e in
-    (ap (λ (z : Reading). z .number) a, (u ∙ ap (λ (z : Reading). kept ws z) a, ap (λ (z : Reading). z .seconds) a))
+    (ap answer a, u ∙ ap (λ (z : Reading). kept ws z) a)

@@ -8,6 +8,7 @@ use lib.Seq.{sets}
 use Rattle.ticks.specs.Ticks.{readingOf}
 use Rattle.ticks.specs.declared.front.Front.{Front}
 use Rattle.ticks.specs.declared.front.Reading.{Reading}
+use Rattle.ticks.specs.declared.words.Answer.{Answer}
 
 -- the front that words say: begun is any but 0; of a reading and of a remainder the low 32 bits count
 unfoldable pub frontIn : List ℕ → Front
@@ -25,6 +26,10 @@ frontWords f = 1 ∷ f .last ∷ f .seconds ∷ f .remainder ∷ []
 -- the words afterwards: those of an accepted reading's front, and all that they were at a refusal
 unfoldable pub kept : List ℕ → Reading → List ℕ
 kept ws r = cond (eqb (r .number) 0) (sets ws 0 (frontWords (r .front))) ws
+
+-- what a reading answers
+abbrev pub answer : Reading → Answer
+answer r = record { number = r .number; seconds = r .seconds }
 
 -- a reading over words; of the tick the low 32 bits count
 abbrev pub readingIn : List ℕ → ℕ → Reading

@@ -4,7 +4,13 @@ use crate::front::Reading;
 use crate::front::read_tick;
 ghost use mathlib.Core.Path.{_≡_};
 ghost use lib.Seq.{sets};
-ghost use Rattle.ticks.specs.Words.{frontIn, frontWords, kept, readingIn, wordsLeft};
+ghost use Rattle.ticks.specs.Words.{frontIn, frontWords, kept, answer, readingIn, wordsLeft};
+
+// What a reading answers: 0 or the refusal number; the seconds, -1 beside a refusal.
+pub struct Answer {
+    pub number: u64,
+    pub seconds: i64,
+}
 
 // How many words a front has: begun (any but 0), the last reading, seconds, remainder.
 pub const FRONT: usize = 4;
@@ -44,14 +50,14 @@ fn keep_front(words: &mut [u64; FRONT], r: Reading)
 }
 
 // Takes a reading, as `read_tick`; at a refusal no word is stored.
-pub fn read_words(words: &mut [u64; FRONT], tick: u64, seconds: &mut i64) -> u64
-    ensures { λ n. ⌜ n ≡ readingIn (now (words .entry)) tick .number ⌝ }
+pub fn read_words(words: &mut [u64; FRONT], tick: u64) -> Answer
+    ensures { λ r. ⌜ r ≡ answer (readingIn (now (words .entry)) tick) ⌝ }
     ensures { λ _. ⌜ now (words .exit) ≡ wordsLeft (now (words .entry)) tick ⌝ }
-    ensures { λ _. ⌜ now (seconds .exit) ≡ readingIn (now (words .entry)) tick .seconds ⌝ }
 {
     let r = read_tick(front_in(words), (tick % ROUND) as u32);
     keep_front(words, r);
-    let told = r.seconds;
-    *seconds = told;
-    r.number
+    Answer {
+        number: r.number,
+        seconds: r.seconds,
+    }
 }
