@@ -26,6 +26,7 @@ struct kernel {
     uint64_t (*read_response)(uint64_t command, const uint8_t *in, size_t n, struct plain_response *r);
     struct plain_written (*write_response)(uint64_t command, const struct plain_response *r, uint8_t *out, size_t room);
     struct plain_received (*receive)(struct plain_receiver *r, uint8_t *room, size_t room_length, const uint8_t *scrap, size_t n);
+    struct plain_second (*tick)(struct plain_front *f, uint32_t tick);
     struct plain_written (*report)(const struct plain_inputs *in, const uint16_t *attributes, size_t n, uint64_t *pairs,
                                    size_t room);
 };

@@ -51,5 +51,6 @@ const struct kernel KERNEL = {
     .read_response = plain_read_response,
     .write_response = plain_write_response,
     .receive = plain_receive,
+    .tick = plain_tick,
     .report = plain_report,
 };

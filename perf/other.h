@@ -19,3 +19,4 @@
 #define plain_write_response other_write_response
 #define plain_report other_report
 #define plain_receive other_receive
+#define plain_tick other_tick

@@ -131,6 +131,20 @@ struct plain_received {
 
 struct plain_received plain_receive(struct plain_receiver *r, uint8_t *room, size_t room_length, const uint8_t *scrap, size_t n);
 
+/* A counter of milliseconds in 32 bits: the last accepted reading, the seconds it gave, the milliseconds left over. */
+struct plain_front {
+    bool begun;
+    uint32_t last, remainder;
+    uint64_t seconds;
+};
+
+struct plain_second {
+    uint64_t number;
+    int64_t seconds;
+};
+
+struct plain_second plain_tick(struct plain_front *f, uint32_t tick);
+
 /* Pairs: two numbers each, group then bit or attribute. */
 struct plain_written plain_report(const struct plain_inputs *in, const uint16_t *attributes, size_t n, uint64_t *pairs,
                                   size_t room);
