@@ -1,11 +1,11 @@
-/* The kernel on a bare Cortex-M4: a vector table, a timer that counts seconds, a serial port, and a loop that moves the kernel's
-   clock each second, asks, and acts when the answer changes. For ARM's MPS2 board (AN386), which qemu has as mps2-an386;
+/* The kernel on a bare Cortex-M4: a vector table, a timer that counts milliseconds in 32 bits, a serial port, and a loop that makes
+   seconds of the ticks, moves the kernel's clock each second, asks, and acts when the answer changes. For ARM's MPS2 board (AN386), which qemu has as mps2-an386;
    docs/BOARDS.md has the two lines that build and run it. What the network would bring stands in a table. */
 #include "cekarum.h"
 
 /* ---- the board ---- */
 
-enum { CLOCK = 25000000, TICKS = 10 }; /* the timer has 24 bits: ten ticks a second */
+enum { CLOCK = 25000000, TICKS = 1000 }; /* a second */
 
 #define REGISTER(address) (*(volatile uint32_t *)(address))
 #define SERIAL_DATA REGISTER(0x40004000)
@@ -16,15 +16,12 @@ enum { CLOCK = 25000000, TICKS = 10 }; /* the timer has 24 bits: ten ticks a sec
 #define TIMER_RELOAD REGISTER(0xe000e014)
 #define TIMER_NOW REGISTER(0xe000e018)
 
-static volatile uint32_t seconds;
+/* All the time that the board has. It was switched on some 49 days ago: within five seconds the counter returns to zero. */
+static volatile uint32_t ticks = UINT32_MAX - 4499;
 
 static void tick(void)
 {
-    static uint32_t ticks;
-    if (++ticks == TICKS) {
-        ticks = 0;
-        seconds++;
-    }
+    ticks++;
 }
 
 static void begin_board(void)
@@ -117,10 +114,18 @@ static void act(uint64_t time, const struct cekarum_answer *now)
     say("\n");
 }
 
+/* The second that it is, since the first reading; -1 at a refused one, which is no new second. */
+static int64_t second(void)
+{
+    static struct cekarum_front front;
+    return cekarum_tick(&front, ticks).seconds;
+}
+
 static void endpoint(void)
 {
     int64_t state = -1, consumption = -1;
     cekarum_start(device, settings);
+    second();
     for (uint64_t seen = 0;; seen++) {
         network(seen);
         cekarum_move(device, seen); /* a second in which the network brings nothing passes too */
@@ -129,7 +134,7 @@ static void endpoint(void)
             act(seen, &now);
         state = now.values[CEKARUM_STATE];
         consumption = now.values[CEKARUM_LIMIT_CONSUMPTION];
-        while (seconds == (uint32_t)seen)
+        while (second() <= (int64_t)seen)
             __asm__ volatile("wfi");
     }
 }

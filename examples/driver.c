@@ -1,6 +1,6 @@
 /* A small driver of a three-phase box: two zones join, set limits of power and of current by frames that come in scraps, and
    setpoints, of which one is forgotten and ends; a display polls, and the plan says what will change, as numbers and as records,
-   and comes true. */
+   and comes true. Last, what a board does that has only a tick counter. */
 #include "cekarum.h"
 #include <stdio.h>
 #include <string.h>
@@ -182,6 +182,19 @@ static void live_through(uint64_t *device)
     }
 }
 
+/* A counter of milliseconds in 32 bits, shortly before it returns to zero: its readings become seconds from 0 on. The last reading
+   but one is a step back; it is refused and changes nothing. */
+static void count_ticks(void)
+{
+    static const uint32_t readings[] = {4294967000u, 4294967295u, 703u, 704u, 2704u, 2703u, 3704u};
+    struct cekarum_front front = {{0}};
+    for (unsigned i = 0; i < sizeof readings / sizeof *readings; i++) {
+        struct cekarum_second now = cekarum_tick(&front, readings[i]);
+        say("tick", now.number);
+        printf("second %lld\n", (long long)now.seconds);
+    }
+}
+
 int main(void)
 {
     static uint64_t device[CEKARUM_WORDS];
@@ -206,5 +219,6 @@ int main(void)
     print_plan(device);
     print_rows(device);
     live_through(device);
+    count_ticks();
     return 0;
 }

@@ -287,6 +287,34 @@ static inline struct cekarum_received cekarum_receive(struct cekarum_receiver *r
     return received;
 }
 
+/* ---- a board that has only a tick counter ---- */
+
+/* Turns the readings of one counter, which counts milliseconds in 32 bits and returns to zero after about 49.7 days, into the
+ * seconds that the calls above take. All zero before the first reading; the driver never looks inside. */
+struct cekarum_front {
+    uint64_t words[4];
+};
+
+struct cekarum_second {
+    uint64_t number;
+    int64_t seconds; /* since the first reading; -1 beside a refusal */
+};
+
+/* The export beneath cekarum_tick; nothing else calls it. */
+uint64_t cekarum_raw_tick(uint64_t *front, uint64_t tick, int64_t *seconds);
+
+/* Takes a reading. The first gives second 0. Read at least once in 2^31 ms, some 24.8 days, and the seconds are the true
+ * milliseconds since the first reading divided by 1,000, rounded down, whatever the counter showed then and however often it has
+ * returned to zero. Two readings further apart look nearer than they were, or like a step back.
+ * Refuses: 5 for a step back, which is a difference to the last accepted reading of 2^31 or more, and where the seconds would pass
+ * CEKARUM_LAST_SECOND. A refused reading changes nothing. */
+static inline struct cekarum_second cekarum_tick(struct cekarum_front *front, uint32_t tick)
+{
+    struct cekarum_second read;
+    read.number = cekarum_raw_tick(front->words, tick, &read.seconds);
+    return read;
+}
+
 /* ---- messages, for the other side of the wire ---- */
 
 /* What a field of a Set command is. */

@@ -13,7 +13,7 @@
 #define S(n) ((long long)(n))
 
 enum { OUT = PLAIN_MEASUREMENT_MAX + 10, ROWS = PLAIN_ROW * PLAIN_ROWS + 16, PAIRS = 2 * PLAIN_PAIRS + 16 };
-enum { CALLS = 20, NUMBERS = 19, FLOWS = 7 };
+enum { CALLS = 21, NUMBERS = 19, FLOWS = 7 };
 
 /* From JOIN to FRAME those that take a time, and move the clock to it where they are accepted. */
 enum call {
@@ -36,7 +36,8 @@ enum call {
     REPORT,
     RECEIVE,
     READ_MEASUREMENT,
-    WRITE_MEASUREMENT
+    WRITE_MEASUREMENT,
+    TICK
 };
 
 static const char *const call_names[CALLS] = {
@@ -60,6 +61,7 @@ static const char *const call_names[CALLS] = {
     [RECEIVE] = "receive",
     [READ_MEASUREMENT] = "read_meas",
     [WRITE_MEASUREMENT] = "write_meas",
+    [TICK] = "tick",
 };
 
 /* One kernel's side: its device, what it was lent and what it answered. */
@@ -79,6 +81,8 @@ struct side {
     struct plain_receiver receiver;
     uint64_t taken;
     uint8_t wire[PLAIN_FRAME_MAX]; /* the receiver's room */
+    struct plain_front front;
+    int64_t seconds;
 };
 
 /* One call, as both kernels get it. */
@@ -96,6 +100,7 @@ struct ask {
     struct bytes in;
     const uint8_t *scrap;
     size_t scrap_length;
+    uint32_t tick;
 };
 
 static struct side sides[2];
@@ -120,6 +125,7 @@ static uint64_t call_one(struct side *s, const struct ask *q)
     const struct kernel *k = s->k;
     struct plain_written w = {0, 0};
     struct plain_received got;
+    struct plain_second read;
     switch (q->call) {
     case START:
         return k->start(s->device, &q->settings);
@@ -175,6 +181,10 @@ static uint64_t call_one(struct side *s, const struct ask *q)
         s->taken = got.taken;
         w = (struct plain_written){got.number, got.length};
         break;
+    case TICK:
+        read = k->tick(&s->front, q->tick);
+        s->seconds = read.seconds;
+        return read.number;
     }
     s->length = w.length;
     return w.number;
@@ -204,6 +214,11 @@ static bool same_response(const struct plain_response *x, const struct plain_res
            memcmp(x->current, y->current, sizeof x->current) == 0;
 }
 
+static bool same_front(const struct plain_front *x, const struct plain_front *y)
+{
+    return x->begun == y->begun && x->last == y->last && x->seconds == y->seconds && x->remainder == y->remainder;
+}
+
 /* The first thing in which the two sides differ, or NULL. */
 static const char *difference(const struct side *x, const struct side *y, const struct ask *q)
 {
@@ -229,6 +244,8 @@ static const char *difference(const struct side *x, const struct side *y, const 
         return "flows";
     if (q->call == READ_MEASUREMENT && memcmp(&x->measurement, &y->measurement, sizeof x->measurement) != 0)
         return "measurements";
+    if (q->call == TICK && (x->seconds != y->seconds || !same_front(&x->front, &y->front)))
+        return "seconds or fronts";
     if (x->number != 0)
         return NULL;
     if (q->call == READ_REQUEST && !same_request(&x->request, &y->request))
@@ -538,6 +555,57 @@ static void odd_counts(void)
     both();
 }
 
+/* The milliseconds between two readings: short, around whole seconds, and up to the longest that is promised. */
+static uint64_t some_gap(void)
+{
+    switch (mix_below(6)) {
+    case 0:
+        return mix_below(3);
+    case 1:
+        return 998 + mix_below(4);
+    case 2:
+        return mix_below(100000);
+    case 3:
+        return (UINT64_C(1) << 31) - 1 - mix_below(3);
+    default:
+        return mix_below(UINT64_C(1) << 31);
+    }
+}
+
+static uint64_t read_tick(uint64_t tick)
+{
+    ask.call = TICK;
+    ask.tick = (uint32_t)tick;
+    return both();
+}
+
+/* A counter read at random true times, over rollovers, with readings between them that look like a step back: the seconds are the
+   true ones, and a refused reading is as if it had not been. */
+static void ticks(void)
+{
+    uint64_t first = mix_any() >> 24, now = first;
+    sides[0].front = sides[1].front = (struct plain_front){false, 0, 0, 0};
+    for (unsigned i = 0; i < 12 && differ < 100; i++) {
+        if (read_tick(now) != 0 || sides[0].seconds != (int64_t)((now - first) / 1000))
+            complain("not the true seconds");
+        struct plain_front before = sides[0].front;
+        if (mix_chance(300) && (read_tick(now - 1 - some_gap()) != 5 || !same_front(&sides[0].front, &before)))
+            complain("a step back is not refused whole");
+        now += some_gap();
+    }
+}
+
+/* Fronts around the last second, and such as no reading leaves. */
+static void odd_fronts(void)
+{
+    uint64_t odd[] = {0, PLAIN_LAST_SECOND - mix_below(2200000), PLAIN_LAST_SECOND - mix_below(3), PLAIN_LAST_SECOND + 1, UINT64_MAX};
+    struct plain_front f = {mix_chance(900), (uint32_t)mix_any(), (uint32_t)(mix_chance(800) ? mix_below(1000) : mix_any()),
+                            odd[mix_below(5)]};
+    sides[0].front = sides[1].front = f;
+    for (unsigned i = 0; i < 4; i++)
+        read_tick(sides[0].front.last + (mix_chance(800) ? some_gap() : mix_any()));
+}
+
 static void start(bool sound)
 {
     ask.call = START;
@@ -718,6 +786,10 @@ int main(int argc, char **argv)
             scraps();
         } else if (mix_chance(5)) {
             odd_counts();
+        } else if (mix_chance(3)) {
+            ticks();
+        } else if (mix_chance(5)) {
+            odd_fronts();
         }
         mix_call();
         both();

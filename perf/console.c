@@ -307,6 +307,20 @@ static bool do_meas(char **w)
     return true;
 }
 
+static bool do_tick(char **w)
+{
+    static struct plain_front front;
+    bool fresh = strcmp(w[1], "new") == 0;
+    uint64_t tick;
+    if ((!fresh && strcmp(w[1], "same") != 0) || !natural(w[2], &tick) || tick > UINT32_MAX)
+        return false;
+    if (fresh)
+        front = (struct plain_front){false, 0, 0, 0};
+    struct plain_second r = plain_tick(&front, (uint32_t)tick);
+    printf("%llu %lld\n", (unsigned long long)r.number, (long long)r.seconds);
+    return true;
+}
+
 static bool do_conf(char **w)
 {
     static uint64_t pairs[PAIRS_ROOM];
@@ -337,6 +351,7 @@ static const struct {
     {"plan", 2, do_plan},      {"request", 2, do_request},   {"response", 3, do_response},
     {"rows", 2, do_rows},      {"frame", 5, do_frame},       {"scrap", 4, do_scrap},
     {"conf", 11, do_conf},     {"meas", 2, do_meas},
+    {"tick", 3, do_tick},
 };
 
 /* Words parted by one space: their count, or -1 where there are too many. */

@@ -13,6 +13,7 @@
 static uint64_t device[CEKARUM_WORDS];
 #define DEVICE device
 static struct cekarum_receiver receiver;
+static struct cekarum_front front;
 static struct cekarum_row records[CEKARUM_ROWS_MAX];
 static struct cekarum_measurement measurement;
 #else
@@ -21,6 +22,7 @@ static struct cekarum_measurement measurement;
 static struct plain device;
 #define DEVICE &device
 static struct plain_receiver receiver;
+static struct plain_front front;
 static struct plain_row records[PLAIN_ROWS];
 static struct plain_measurement measurement;
 #endif
@@ -442,6 +444,13 @@ static void scraps_all(uint64_t times)
         receive_by(2052);
 }
 
+/* A reading each 300 ms: of ten, three give a new second. */
+static void ticks(uint64_t times)
+{
+    for (uint64_t i = 0; i < times; i++)
+        kept = CALL(tick)(&front, (uint32_t)(300 * i)).number;
+}
+
 /* Tries the counting itself: a hundred instructions and the loop around them. */
 static void hundred(uint64_t times)
 {
@@ -493,6 +502,7 @@ static const struct {
     {"scrap1460", "2,052 bytes received in scraps of 1,460", 0, string_2048, scraps_1460},
     {"scrap64", "2,052 bytes received in scraps of 64", 0, string_2048, scraps_64},
     {"scrap1", "2,052 bytes received in scraps of 1", 0, string_2048, scraps_1},
+    {"tick", "tick read", 0, no_zone, ticks},
 };
 
 /* ---- the stack ---- */

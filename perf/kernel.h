@@ -31,6 +31,7 @@ struct kernel {
     uint64_t (*power_flow)(const struct plain_measurement *m);
     uint64_t (*dc_flow)(const struct plain_measurement *m);
     uint64_t (*phase_flow)(const struct plain_measurement *m, uint64_t phase);
+    struct plain_second (*tick)(struct plain_front *f, uint32_t tick);
     struct plain_written (*report)(const struct plain_inputs *in, const uint16_t *attributes, size_t n, uint64_t *pairs,
                                    size_t room);
 };

@@ -51,6 +51,7 @@ const struct kernel KERNEL = {
     .read_response = plain_read_response,
     .write_response = plain_write_response,
     .receive = plain_receive,
+    .tick = plain_tick,
     .report = plain_report,
     .read_measurement = plain_read_measurement,
     .write_measurement = plain_write_measurement,

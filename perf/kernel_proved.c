@@ -168,6 +168,14 @@ static struct plain_received receive(struct plain_receiver *r, uint8_t *room, si
     return (struct plain_received){got.number, got.taken, got.length};
 }
 
+static struct plain_second tick(struct plain_front *f, uint32_t tick)
+{
+    struct cekarum_front words = {{f->begun, f->last, f->seconds, f->remainder}};
+    struct cekarum_second got = cekarum_tick(&words, tick);
+    *f = (struct plain_front){words.words[0] != 0, (uint32_t)words.words[1], (uint32_t)words.words[3], words.words[2]};
+    return (struct plain_second){got.number, got.seconds};
+}
+
 static struct plain_written report(const struct plain_inputs *in, const uint16_t *attributes, size_t n, uint64_t *pairs,
                                    size_t room)
 {
@@ -269,6 +277,7 @@ const struct kernel second_kernel = {
     .read_response = read_response,
     .write_response = write_response,
     .receive = receive,
+    .tick = tick,
     .report = report,
     .read_measurement = read_measurement,
     .write_measurement = write_measurement,

@@ -24,3 +24,4 @@
 #define plain_power_flow other_power_flow
 #define plain_dc_flow other_dc_flow
 #define plain_phase_flow other_phase_flow
+#define plain_tick other_tick

@@ -1498,3 +1498,19 @@ uint64_t plain_phase_flow(const struct plain_measurement *m, uint64_t phase)
 {
     return phase < PLAIN_PHASES ? flow_of(&m->cell[PHASE_CELL + phase]) : PLAIN_FLOW_ABSENT;
 }
+
+/* ---- a tick counter ---- */
+
+struct plain_second plain_tick(struct plain_front *f, uint32_t tick)
+{
+    if (!f->begun) {
+        *f = (struct plain_front){true, tick, 0, 0};
+        return (struct plain_second){0, 0};
+    }
+    uint32_t step = tick - f->last;
+    uint64_t passed = (uint64_t)f->remainder + step;
+    if (step >= 1u << 31 || f->seconds > PLAIN_LAST_SECOND || passed / 1000 > PLAIN_LAST_SECOND - f->seconds)
+        return (struct plain_second){5, -1};
+    *f = (struct plain_front){true, tick, (uint32_t)(passed % 1000), f->seconds + passed / 1000};
+    return (struct plain_second){0, (int64_t)f->seconds};
+}

@@ -153,6 +153,20 @@ uint64_t plain_power_flow(const struct plain_measurement *m);
 uint64_t plain_dc_flow(const struct plain_measurement *m);
 uint64_t plain_phase_flow(const struct plain_measurement *m, uint64_t phase);
 
+/* A counter of milliseconds in 32 bits: the last accepted reading, the seconds it gave, the milliseconds left over. */
+struct plain_front {
+    bool begun;
+    uint32_t last, remainder;
+    uint64_t seconds;
+};
+
+struct plain_second {
+    uint64_t number;
+    int64_t seconds;
+};
+
+struct plain_second plain_tick(struct plain_front *f, uint32_t tick);
+
 /* Pairs: two numbers each, group then bit or attribute. */
 struct plain_written plain_report(const struct plain_inputs *in, const uint16_t *attributes, size_t n, uint64_t *pairs,
                                   size_t room);

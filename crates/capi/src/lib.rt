@@ -3,6 +3,7 @@
 // include/cekarum.h makes structs of them.
 // Nothing is decided here. Each export states what the call beneath it states.
 mod calls; // calls.rt: the device's calls, the plan, the report
+mod counter; // counter.rt: a tick counter's readings
 mod frame; // frame.rt: a frame applied
 mod meter; // meter.rt: what the box measures, read and written, and its flows
 mod requests; // requests.rt: requests, read and written

@@ -7,6 +7,7 @@ use lines::ANSWER;
 use lines::LONGEST;
 use lines::ROOM;
 use receiver::RECORD;
+use ticks::FRONT;
 ghost use Prim.Native.Nat.{_≤_};
 
 // How much of a line is kept from earlier pieces of the input, and where the next answer goes.
@@ -68,6 +69,7 @@ fn answer_kept(
     d: &mut State,
     words: &mut [u64; RECORD],
     room: &mut [u8],
+    front: &mut [u64; FRONT],
     kept: &[u8],
     n: usize,
     bytes: &mut [u8],
@@ -76,7 +78,7 @@ fn answer_kept(
 ) -> usize {
     if n <= kept.len() {
         let p = settle(out, at);
-        return lines::answer(d, words, room, &kept[..n], bytes, out, p);
+        return lines::answer(d, words, room, front, &kept[..n], bytes, out, p);
     }
     at
 }
@@ -86,6 +88,7 @@ fn line(
     d: &mut State,
     words: &mut [u64; RECORD],
     room: &mut [u8],
+    front: &mut [u64; FRONT],
     s: &[u8],
     kept: &mut [u8],
     bytes: &mut [u8],
@@ -95,10 +98,10 @@ fn line(
     let have = place.kept;
     if have == 0 {
         let p = settle(out, place.at);
-        return lines::answer(d, words, room, s, bytes, out, p);
+        return lines::answer(d, words, room, front, s, bytes, out, p);
     }
     let n = keep(kept, have, s);
-    answer_kept(d, words, room, kept, n, bytes, out, place.at)
+    answer_kept(d, words, room, front, kept, n, bytes, out, place.at)
 }
 
 // Answers the line from `from` to `to`.
@@ -106,6 +109,7 @@ fn part(
     d: &mut State,
     words: &mut [u64; RECORD],
     room: &mut [u8],
+    front: &mut [u64; FRONT],
     s: &[u8],
     from: usize,
     to: usize,
@@ -116,7 +120,7 @@ fn part(
 ) -> usize {
     if to <= s.len() {
         if from <= to {
-            return line(d, words, room, &s[from..to], kept, bytes, out, place);
+            return line(d, words, room, front, &s[from..to], kept, bytes, out, place);
         }
     }
     place.at
@@ -135,6 +139,7 @@ fn piece(
     d: &mut State,
     words: &mut [u64; RECORD],
     room: &mut [u8],
+    front: &mut [u64; FRONT],
     s: &[u8],
     kept: &mut [u8],
     bytes: &mut [u8],
@@ -154,6 +159,7 @@ fn piece(
             d,
             words,
             room,
+            front,
             s,
             from,
             end,
@@ -173,6 +179,7 @@ fn turn(
     d: &mut State,
     words: &mut [u64; RECORD],
     room: &mut [u8],
+    front: &mut [u64; FRONT],
     kept: &mut [u8],
     bytes: &mut [u8],
     out: &mut [u8],
@@ -190,6 +197,7 @@ fn turn(
         d,
         words,
         room,
+        front,
         &input[..n],
         kept,
         bytes,
@@ -205,12 +213,13 @@ fn finish(
     d: &mut State,
     words: &mut [u64; RECORD],
     room: &mut [u8],
+    front: &mut [u64; FRONT],
     kept: &[u8],
     n: usize,
     bytes: &mut [u8],
     out: &mut [u8],
 ) {
-    let at = answer_kept(d, words, room, kept, n, bytes, out, 0);
+    let at = answer_kept(d, words, room, front, kept, n, bytes, out, 0);
     flush(out, at);
 }
 
@@ -218,6 +227,7 @@ fn run(
     d: &mut State,
     words: &mut [u64; RECORD],
     room: &mut [u8],
+    front: &mut [u64; FRONT],
     kept: &mut [u8],
     bytes: &mut [u8],
     out: &mut [u8],
@@ -226,16 +236,17 @@ fn run(
     let mut have = 0;
     let mut turns = u64::MAX;
     while turns > 0 && more {
-        have = turn(d, words, room, kept, bytes, out, have, &mut more);
+        have = turn(d, words, room, front, kept, bytes, out, have, &mut more);
         turns -= 1;
     }
-    finish(d, words, room, kept, have, bytes, out);
+    finish(d, words, room, front, kept, have, bytes, out);
 }
 
 fn main() {
     let mut d = [0u64; WORDS];
     let mut words = [0u64; RECORD];
     let mut room = [0u8; ROOM];
+    let mut front = [0u64; FRONT];
     let mut kept = [0u8; LONGEST + 1];
     let mut bytes = [0u8; LONGEST / 2];
     let mut out = io::large_buffer();
@@ -244,6 +255,7 @@ fn main() {
         &mut d,
         &mut words,
         &mut room,
+        &mut front,
         &mut kept,
         &mut bytes,
         &mut out,

@@ -15,6 +15,9 @@ use receiver::RECORD;
 use row_lines::rows;
 use scrap_lines::is_scrap;
 use scrap_lines::scrap;
+use tick_lines::is_tick;
+use tick_lines::tick;
+use ticks::FRONT;
 use words::put_bad;
 use words::put_end;
 use words::put_list;
@@ -171,12 +174,13 @@ fn last_word(
     put_bad(out, at)
 }
 
-// Writes the answer to a line behind `at`, and says the position past it. `words` and `room` are the receiver's, `bytes` is
-// room for the bytes of a line: half of the longest line is enough.
+// Writes the answer to a line behind `at`, and says the position past it. `words` and `room` are the receiver's, `front` is the
+// tick counter's, `bytes` is room for the bytes of a line: half of the longest line is enough.
 pub fn answer(
     d: &mut State,
     words: &mut [u64; RECORD],
     room: &mut [u8],
+    front: &mut [u64; FRONT],
     s: &[u8],
     bytes: &mut [u8],
     out: &mut [u8],
@@ -192,6 +196,9 @@ pub fn answer(
     let count = split(s, &mut ends);
     if is_scrap(s, &ends) {
         return scrap(words, room, s, &ends, count, bytes, out, at);
+    }
+    if is_tick(s, &ends) {
+        return tick(front, s, &ends, count, out, at);
     }
     line(d, s, &ends, count, bytes, out, at)
 }

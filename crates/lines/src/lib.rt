@@ -6,6 +6,7 @@
 // ask, plan ROOM, rows RECORDS
 // frame ZONE TIME ROOM BYTES, request BYTES, response COMMAND BYTES
 // scrap new ROOM BYTES, scrap same ROOM BYTES
+// tick new TICK, tick same TICK
 // conf TYPE MAP PHASES DIRECTIONS LIMITS CURRENT SETPOINTS PROCESS ROOM ATTRIBUTES
 // meas BYTES
 //

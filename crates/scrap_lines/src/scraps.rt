@@ -2,39 +2,23 @@
 // zeros; ROOM is how many bytes of the room are lent.
 use receiver::COUNTS;
 use receiver::RECORD;
+use words::is_word;
 use words::number_in;
 use words::put_bad;
 use words::put_end;
 use words::put_hex_or_none;
 use words::read_hex;
-use words::same;
 use words::span;
 ghost use mathlib.Core.Path.{_≡_};
 ghost use Prim.Native.Nat.{_≤_};
 ghost use lib.ListN.{length};
-ghost use Rattle.scrap_lines.specs.Scraps.{isWord, isScrap};
+ghost use Rattle.scrap_lines.specs.Scraps.{isScrap};
 
 // Bytes of the longest room that is lent.
 pub const ROOM: usize = 2052;
 
 // Words of such a line.
 const WORDS: usize = 4;
-
-// Whether word k of a line is this one.
-fn is_word(s: &[u8], ends: &[usize], k: usize, word: &[u8]) -> bool
-    ensures { λ r. ⌜ r ≡ isWord (now (s .entry)) (now (ends .entry)) k (now (word .entry)) ⌝ }
-{
-    let w = span(ends, k);
-    let from = w.from;
-    let to = w.to;
-    if s.len() < to {
-        return false;
-    }
-    if to < from {
-        return false;
-    }
-    same(&s[from..to], word)
-}
 
 // Whether a line is about a scrap.
 pub fn is_scrap(s: &[u8], ends: &[usize]) -> bool

@@ -6,3 +6,4 @@ mod Written
 mod Ends
 mod Places
 mod Attributes
+mod WordLaws

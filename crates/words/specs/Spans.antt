@@ -1,9 +1,9 @@
 -- Where a line's words are, and when two are the same. Assumes nothing: these are definitions.
-use Prim.Native.Nat.{ℕ, zero, suc, _+_}
-use mathlib.Core.Bool.{Bool, true, false, cond}
+use Prim.Native.Nat.{ℕ, zero, suc, _+_, _-_}
+use mathlib.Core.Bool.{Bool, true, false, cond, _&&_}
 use mathlib.Core.List.{List, [], _∷_}
 use lib.Dec.{leb, eqb}
-use lib.ListN.{length, getD, take}
+use lib.ListN.{length, getD, take, drop}
 use lib.Seq.{sets}
 use Rattle.words.specs.Numbers.{upTo}
 use Rattle.words.specs.declared.spans.Bounds.{Bounds}
@@ -48,6 +48,13 @@ sameBytes [] [] = true
 sameBytes [] (b ∷ t) = false
 sameBytes (a ∷ s) [] = false
 sameBytes (a ∷ s) (b ∷ t) = cond (eqb a b) (sameBytes s t) false
+
+-- whether word k of a line is w, by the ends of its words
+unfoldable pub isWord : List ℕ → List ℕ → ℕ → List ℕ → Bool
+isWord s ends k w =
+    cond (leb (spanOf ends k .to) (length s) && leb (spanOf ends k .from) (spanOf ends k .to))
+    (sameBytes (take (spanOf ends k .to - spanOf ends k .from) (drop (spanOf ends k .from) s)) w)
+    false
 
 -- the words themselves
 unfoldable pub longer : ℕ → List (List ℕ) → List (List ℕ)

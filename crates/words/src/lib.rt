@@ -21,6 +21,7 @@ pub use print::put_list;
 pub use print::put_number;
 pub use print::put_pairs;
 pub use spans::Bounds;
+pub use spans::is_word;
 pub use spans::place;
 pub use spans::same;
 pub use spans::span;

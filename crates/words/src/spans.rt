@@ -2,7 +2,7 @@
 ghost use mathlib.Core.Path.{_≡_};
 ghost use Prim.Native.Nat.{_≤_};
 ghost use lib.ListN.{length, getD, drop};
-ghost use Rattle.words.specs.Spans.{nextOf, wordsIn, endsAfter, startOf, spanOf, sameBytes, wordsOf, placeFrom};
+ghost use Rattle.words.specs.Spans.{nextOf, wordsIn, endsAfter, startOf, spanOf, sameBytes, isWord, wordsOf, placeFrom};
 
 // The start and the end of a word.
 pub struct Bounds {
@@ -95,6 +95,22 @@ pub fn same(a: &[u8], b: &[u8]) -> bool
         i += 1;
     }
     true
+}
+
+// Whether word k of a line is this one, by the ends of its words.
+pub fn is_word(s: &[u8], ends: &[usize], k: usize, word: &[u8]) -> bool
+    ensures { λ r. ⌜ r ≡ isWord (now (s .entry)) (now (ends .entry)) k (now (word .entry)) ⌝ }
+{
+    let w = span(ends, k);
+    let from = w.from;
+    let to = w.to;
+    if s.len() < to {
+        return false;
+    }
+    if to < from {
+        return false;
+    }
+    same(&s[from..to], word)
 }
 
 // Which word of a line is the same as `word`, the first being 0; the largest number where none is.

@@ -7,11 +7,11 @@ use Rattle.console.proofs.piece.Statement.{statement}
 use Rattle.console.proofs.piece.Tie as tie
 
 abbrev Inv-loop : tie.InvT-loop
-Inv-loop d₀ words₀ room₀ s kept₀ bytes₀ out₀ have₀ at₀ from₀ d words room kept bytes out have at from =
+Inv-loop d₀ words₀ room₀ front₀ s kept₀ bytes₀ out₀ have₀ at₀ from₀ d words room front kept bytes out have at from =
     (length room ≡ length room₀) × (length kept ≡ length kept₀) × (length bytes ≡ length bytes₀) × (length out ≡ length out₀)
 
 abbrev μ-loop : tie.MeasureT-loop
-μ-loop d₀ words₀ room₀ s kept₀ bytes₀ out₀ have₀ at₀ from₀ d words room kept bytes out have at from = length s - from
+μ-loop d₀ words₀ room₀ front₀ s kept₀ bytes₀ out₀ have₀ at₀ from₀ d words room front kept bytes out have at from = length s - from
 
 pub piece-spec : {M : Type 1} → statement M
 piece-spec =

@@ -5,9 +5,8 @@ use mathlib.Core.Bool.{Bool, false}
 use mathlib.Core.List.{List}
 use lib.ListN.{length, take, drop}
 use borrow.Author.Tests.{le-leb, lt-leb}
-use Rattle.words.specs.Spans.{sameBytes, spanOf}
+use Rattle.words.specs.Spans.{sameBytes, spanOf, isWord}
 use Rattle.words.specs.declared.spans.Bounds.{Bounds}
-use Rattle.scrap_lines.specs.Scraps.{isWord}
 
 module _ (s ends : List ℕ) (k : ℕ) (w : List ℕ) (b : Bounds) (e : b ≡ spanOf ends k) where
   pub word-past : length s < b .to → false ≡ isWord s ends k w

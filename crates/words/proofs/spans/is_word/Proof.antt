@@ -1,8 +1,8 @@
 -- A word within the line is compared whole.
-use Rattle.scrap_lines.proofs.WordLaws.{word-past, word-crossed, word-whole}
+use Rattle.words.proofs.WordLaws.{word-past, word-crossed, word-whole}
 use borrow.Author.Needs.{needs}
-use Rattle.scrap_lines.proofs.scraps.is_word.Statement.{statement}
-use Rattle.scrap_lines.proofs.scraps.is_word.Tie as tie
+use Rattle.words.proofs.spans.is_word.Statement.{statement}
+use Rattle.words.proofs.spans.is_word.Tie as tie
 
 pub is-word-spec : {M : Type 1} → statement M
 is-word-spec =
