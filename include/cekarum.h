@@ -70,7 +70,7 @@ enum {
     CEKARUM_BAD_MESSAGE = 3,     /* not a map, a needed key missing, or a known key with a wrong type or range */
     CEKARUM_NOT_SERVED = 4,      /* endpoint, feature or command is not served */
     CEKARUM_BAD_TIME = 5,        /* time before the last accepted call's, or past the last second */
-    CEKARUM_BAD_ZONE = 6,        /* join: id outside 1 to 255, or rank outside 1 to 4 */
+    CEKARUM_BAD_ZONE = 6,        /* join: id outside 1 to 255, or rank outside 1 to 3 */
     CEKARUM_ALREADY = 7,         /* id already joined; link already as told; no override to clear */
     CEKARUM_FULL = 8,            /* eight zones joined */
     CEKARUM_NOT_JOINED = 9,      /* zone not joined */
@@ -129,7 +129,7 @@ static inline uint64_t cekarum_start(uint64_t *device, struct cekarum_settings s
  * An accepted call moves the clock to its time, and so does an accepted frame; no other call moves it. Each gives its refusal
  * number, 0 if accepted. */
 
-/* Joins a zone, link up, with no values. Refuses: 5, 6, 7, 8. */
+/* Joins a zone, link up, with no values; rank 1 is the highest, 3 the lowest. Refuses: 5, 6, 7, 8. */
 static inline uint64_t cekarum_join(uint64_t *device, uint64_t zone, uint64_t rank, uint64_t time)
 {
     return cekarum_raw_join(device, zone, rank, time);

@@ -424,7 +424,7 @@ static void mix_call(void)
     ask.room = some_room(72);
     switch (ask.call) {
     case JOIN:
-        ask.a = mix_chance(950) ? 1 + mix_below(4) : mix_chance(800) ? mix_below(6) : mix_any();
+        ask.a = mix_chance(950) ? 1 + mix_below(PLAIN_RANKS) : mix_chance(800) ? mix_below(6) : mix_any();
         break;
     case OVERRIDE:
         ask.a = mix_chance(950) ? mix_below(5) : mix_chance(800) ? 5 : mix_any();
@@ -709,7 +709,7 @@ static void crowd(void)
         ask.call = JOIN;
         ask.zone = 1 + i;
         ask.time = began;
-        ask.a = even ? 1 + i / 2 : 1 + mix_below(4);
+        ask.a = even ? 1 + i / 3 : 1 + mix_below(PLAIN_RANKS);
         both();
     }
     for (unsigned i = 0; i < 8; i++)

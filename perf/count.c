@@ -96,7 +96,7 @@ static void zones(unsigned n, uint64_t step)
 {
     begin();
     for (uint64_t i = 0; i < n; i++) {
-        CALL(join)(DEVICE, i + 1, 1 + i / 2, NOW);
+        CALL(join)(DEVICE, i + 1, 1 + i / 3, NOW);
         for (unsigned j = 0; j < PLAIN_HELDS; j++) {
             int64_t v = (int64_t)(2000000 + i);
             uint64_t lasts = step == 0 ? 0 : 1 + (PLAIN_HELDS * i + j) * step;
@@ -261,7 +261,7 @@ static void rows_8(void)
 {
     begin();
     for (uint64_t i = 0; i < 8; i++) {
-        CALL(join)(DEVICE, i + 1, 1 + i / 2, NOW);
+        CALL(join)(DEVICE, i + 1, 1 + i / 3, NOW);
         request(1, (int64_t)(2000000 + i), INT64_MIN, 10 + i);
         apply(i + 1);
     }

@@ -638,7 +638,7 @@ uint64_t plain_join(struct plain *d, uint64_t zone, uint64_t rank, uint64_t time
 {
     if (late(d, time))
         return 5;
-    if (zone < 1 || zone > 255 || rank < 1 || rank > 4)
+    if (zone < 1 || zone > 255 || rank < 1 || rank > PLAIN_RANKS)
         return 6;
     struct plain_zone *open = NULL;
     for (unsigned i = 0; i < PLAIN_ZONES; i++) {

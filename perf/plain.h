@@ -5,7 +5,7 @@
 #include <stddef.h>
 #include <stdint.h>
 
-enum { PLAIN_ZONES = 8, PLAIN_PHASES = 3, PLAIN_ROWS = 80, PLAIN_PAIRS = 64 };
+enum { PLAIN_ZONES = 8, PLAIN_RANKS = 3, PLAIN_PHASES = 3, PLAIN_ROWS = 80, PLAIN_PAIRS = 64 };
 
 /* Values that a zone may hold, values of an answer (the control state first), numbers of a plan's row (the second first). */
 enum { PLAIN_HELDS = 10, PLAIN_VALUES = 11, PLAIN_ROW = 12 };

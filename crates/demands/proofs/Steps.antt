@@ -15,7 +15,7 @@ use Rattle.store.specs.Zones.{slotOf, joined, zoneOf, newZone, freeZone, linked
 use Rattle.store.specs.Words.{clockOf, overrideOf, settingsOf, zonesOf, applied}
 use Rattle.device.specs.Refusals.{firstOf, late}
 use Rattle.device.specs.Calls.{zoneChange, joinTests, joinNumber, joinAfter, leaveTests, leaveNumber, leaveAfter, same, linkNumber, linkAfter, overrideNumber, overrideAfter, overrideWord, clearNumber, clearAfter, moveNumber, moveAfter}
-use Rattle.rules.specs.Rules.{badJoin}
+use Rattle.rules.specs.Rules.{ranks, badJoin}
 use Rattle.store.specs.Words.{headChange}
 use Rattle.command.specs.Content.{isUnserved, contentTests}
 use Rattle.command.specs.Obeys.{obeyed}
@@ -80,10 +80,10 @@ module _ (s : Settings) (ws : List ℕ) (h : Log) (a : Agree s ws h) where
   unfolding joinNumber firstOf badJoin
   agree-join-call z k t e =
       let p = past (late (clockOf ws) t) 5 _ (omega arith) e in
-      let q = past (not (leb 1 z && leb z 255) || not (leb 1 k && leb k 4)) 6 _ (omega arith) (p .1) in
+      let q = past (not (leb 1 z && leb z 255) || not (leb 1 k && leb k ranks)) 6 _ (omega arith) (p .1) in
       let r = past (joined (zonesOf ws) z) 7 _ (omega arith) (q .1) in
       let f = past (leb slots (slotOf (zonesOf ws) 0)) 8 0 (omega arith) (r .1) in
-      let i = good (leb 1 z) refl (leb z 255) refl (not (leb 1 k && leb k 4)) (q .0) in
+      let i = good (leb 1 z) refl (leb z 255) refl (not (leb 1 k && leb k ranks)) (q .0) in
       agree-join s ws h z k t a (i .0) (i .1) (sym (there z) ∙ r .0) (leb-false slots (slotOf (zonesOf ws) 0) (f .0))
     where
       good : (x : Bool) → leb 1 z ≡ x → (y : Bool) → leb z 255 ≡ y → (r : Bool) → (not (x && y) || r) ≡ false → (1 ≤ z) × (z ≤ 255)

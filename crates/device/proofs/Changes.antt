@@ -1,5 +1,5 @@
 -- The change of a call, as the code makes it: the second since which no link is up is moved only where the last one goes.
-use Prim.Native.Nat.{ℕ, _<_}
+use Prim.Native.Nat.{ℕ, _<_, _≤_}
 use mathlib.Core.Bool.{Bool, true, false, cond, not, _&&_, _||_}
 use mathlib.Core.Path.{_≡_, refl}
 use mathlib.Core.List.{List}
@@ -12,7 +12,7 @@ use Rattle.store.specs.Zones.{idOf, freeZone, newZone, linked, isJoined, isUp, 
 use Rattle.store.specs.Words.{sinceOf, overrideOf, zonesOf}
 use Rattle.links.specs.Links.{sinceAfter}
 use Rattle.device.specs.Calls.{zoneChange}
-use Rattle.rules.specs.Rules.{badJoin}
+use Rattle.rules.specs.Rules.{ranks, badJoin}
 use Rattle.store.specs.declared.Zone.{Zone}
 use Rattle.store.proofs.Tests.{never}
 use Rattle.links.proofs.Since.{since-up, since-down}
@@ -31,12 +31,12 @@ module _ (ws : List ℕ) (t i : ℕ) (x : Zone) where
   down-change e = rw (since-down (zonesOf ws) i t (sinceOf ws) x e)
 
 -- a zone that may join has an id and a rank in range, and is up once it has joined
-pub join-range : (z k : ℕ) → badJoin z k ≡ false → (0 < z) × (z < 256) × (k < 5)
+pub join-range : (z k : ℕ) → badJoin z k ≡ false → (0 < z) × (z < 256) × (k ≤ ranks)
 unfolding badJoin
-join-range z k = go (leb 1 z) (leb z 255) (leb 1 k) (leb k 4) refl refl refl
+join-range z k = go (leb 1 z) (leb z 255) (leb 1 k) (leb k ranks) refl refl refl
   where
-    go : (a b c d : Bool) → leb 1 z ≡ a → leb z 255 ≡ b → leb k 4 ≡ d → (not (a && b) || not (c && d)) ≡ false → (0 < z) × (z < 256) × (k < 5)
-    go true true true true e f g n = (omega (arith, leb-true 1 z e), omega (arith, leb-true z 255 f), omega (arith, leb-true k 4 g))
+    go : (a b c d : Bool) → leb 1 z ≡ a → leb z 255 ≡ b → leb k ranks ≡ d → (not (a && b) || not (c && d)) ≡ false → (0 < z) × (z < 256) × (k ≤ ranks)
+    go true true true true e f g n = (omega (arith, leb-true 1 z e), omega (arith, leb-true z 255 f), omega (arith, leb-true k ranks g))
     go true true true false e f g n = absurd (never n)
     go true true false d e f g n = absurd (never n)
     go true false c d e f g n = absurd (never n)
@@ -45,7 +45,7 @@ join-range z k = go (leb 1 z) (leb z 255) (leb 1 k) (leb k 4) refl refl refl
 pub join-up : (z k : ℕ) → badJoin z k ≡ false → isUp (newZone z k) ≡ true
 unfolding isUp isJoined
 join-up z k e =
-    let r : (0 < z) × (z < 256) × (k < 5) = join-range z k e in
+    let r : (0 < z) × (z < 256) × (k ≤ ranks) = join-range z k e in
     rw (new-id z k (r .1), ne-eqb z 0 (λ q. omega (arith, r .0)))
 
 -- a joined zone's link, told: x is the record of its slot i

@@ -1,8 +1,9 @@
 // The calls without a frame: start, join, leave, lost, back, override, clear, ask, and the clock moved.
 ghost use mathlib.Core.Path.{_≡_};
 ghost use mathlib.Core.Bool.{true, false};
-ghost use Prim.Native.Nat.{_<_};
+ghost use Prim.Native.Nat.{_<_, _≤_};
 ghost use lib.ListN.{getD};
+ghost use Rattle.rules.specs.Rules.{ranks};
 ghost use Rattle.store.specs.Sizes.{ids};
 ghost use Rattle.store.specs.Zones.{freeZone, newZone, linked};
 ghost use Rattle.store.specs.Words.{zonesOf};
@@ -51,7 +52,7 @@ pub fn start(d: &mut State, s: Settings) -> u64
 }
 
 fn new_zone(zone: u64, rank: u64) -> Zone
-    requires { ⌜ (zone < ids) × (rank < 5) ⌝ }
+    requires { ⌜ (zone < ids) × (rank ≤ ranks) ⌝ }
     ensures { λ r. ⌜ r ≡ newZone zone rank ⌝ }
 {
     Zone {

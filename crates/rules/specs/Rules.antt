@@ -32,9 +32,13 @@ badSettings s =
     || (outside 1 (s .phases) phases
     || ltb (getD (s .maxima) 0 0) (s .minimum))))))))
 
--- 6: "id outside 1 to 255, or rank outside 1 to 4"
+-- L11: "New devices know 1 to 3"
+abbrev pub ranks : ℕ
+ranks = 3
+
+-- 6: "id outside 1 to 255"; L11: "6 now covers every rank outside 1 to 3"
 unfoldable pub badJoin : ℕ → ℕ → Bool
-badJoin z k = not (leb 1 z && leb z 255) || not (leb 1 k && leb k 4)
+badJoin z k = not (leb 1 z && leb z 255) || not (leb 1 k && leb k ranks)
 
 -- 18: "reasons 0 and 1 go with consumption only; 3 with consumption, 4 with production, both only on an energy manager; 2 with either"
 unfoldable pub goTogether : Bool → ℕ → ℕ → Bool

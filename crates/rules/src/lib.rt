@@ -7,6 +7,9 @@ use store::MOST;
 use store::Settings;
 use store::VALUE_END;
 
+// The lowest rank; the highest is 1.
+const RANKS: u64 = 3;
+
 // As many phases as a current limit can name.
 const MOST_PHASES: u64 = 3;
 
@@ -17,7 +20,7 @@ pub fn is_late(clock: u64, t: u64) -> bool
     t < clock || END <= t
 }
 
-// 6: an id outside 1 to 255, or a rank outside 1 to 4.
+// 6: an id outside 1 to 255, or a rank outside 1 to 3.
 pub fn is_bad_join(zone: u64, rank: u64) -> bool
     ensures { λ r. ⌜ r ≡ badJoin zone rank ⌝ }
 {
@@ -27,7 +30,7 @@ pub fn is_bad_join(zone: u64, rank: u64) -> bool
     if 255 < zone {
         return true;
     }
-    rank < 1 || 4 < rank
+    rank < 1 || RANKS < rank
 }
 
 // Whether an override's reason goes with its direction; else 18. Reasons 3 and 4 are for an energy manager alone.

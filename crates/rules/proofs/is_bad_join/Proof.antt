@@ -1,6 +1,6 @@
 -- Each test is one bound of the definition, in its order; the last two are of the rank.
 use borrow.Author.Tests.{lt-ltb, le-leb, lt-leb}
-use Rattle.rules.specs.Rules.{badJoin}
+use Rattle.rules.specs.Rules.{ranks, badJoin}
 use Rattle.store.proofs.Tests.{ltb-not}
 use Rattle.rules.proofs.is_bad_join.Statement.{statement}
 use Rattle.rules.proofs.is_bad_join.Tie as tie
@@ -13,4 +13,4 @@ is-bad-join-spec =
     (λ c. rw (lt-leb _ _ (c .if1 .taken)))
     (λ c. rw (le-leb _ _ (c .before .if1 .left), lt-leb _ _ (c .if2 .taken)))
     (λ c. rw (le-leb _ _ (c .before .before .if1 .left), le-leb _ _ (c .before .if2 .left), lt-leb _ _ (c .if3 .taken), lt-ltb _ _ (c .if3 .taken)))
-    (λ c. rw (le-leb _ _ (c .before .before .if1 .left), le-leb _ _ (c .before .if2 .left), le-leb _ _ (c .if3 .left)) (ltb-not 4 (c .before .before .before .args .rank))))
+    (λ c. rw (le-leb _ _ (c .before .before .if1 .left), le-leb _ _ (c .before .if2 .left), le-leb _ _ (c .if3 .left)) (ltb-not ranks (c .before .before .before .args .rank))))

@@ -1,8 +1,9 @@
 -- The tests 5, 6, 7, 8 in the list's order; what 6 lets pass fits the seat, and a zone that joins up leaves `since` alone.
-use Prim.Native.Nat.{_<_}
+use Prim.Native.Nat.{_<_, _≤_}
 use mathlib.Core.Path.{sym}
 use native.Mathlib.Omega.{arith}
 use borrow.Author.Tests.{le-leb, lt-leb}
+use Rattle.rules.specs.Rules.{ranks}
 use Rattle.device.specs.Refusals.{firstOf}
 use Rattle.device.specs.Calls.{joinNumber, joinAfter}
 use Rattle.store.proofs.Tests.{via}
@@ -64,7 +65,7 @@ join-spec =
     (λ c κs.
     let at-if2 = c .before .before .before .before .before .before .if2 in
     let at-is-bad-join = c .before .before .before .before .before .before .before .is-bad-join in
-    let r : (0 < _) × (_ < 256) × (_ < 5) = join-range _ _ (via (at-is-bad-join .ensures) (at-if2 .left)) in (r .1, r .2))
+    let r : (0 < _) × (_ < 256) × (_ ≤ ranks) = join-range _ _ (via (at-is-bad-join .ensures) (at-if2 .left)) in (r .1, r .2))
     (λ c κs. tt) (λ c κs. tt) (λ c κs. tt)
     (λ c.
     let at-overridden = c .before .before .overridden in

@@ -13,5 +13,9 @@ read-words-spec =
     (tie.spec
     (λ c κs. search needs) (λ c. search needs) (λ c κs. search needs) (λ c κs. search needs)
     (λ c.
-    let fits : SFits w64 (c .before .before .before .read-tick .result .seconds) = search needs in
-    rw (toZ-ofZ fits) (worded (c .before .before .before .before .before .before .args .words .now) _ (c .before .before .before .before .before .before .args .tick) _ _ (c .before .before .before .before .front-in .ensures) (c .before .before .before .read-tick .ensures) (c .before .keep-front .ensures))))
+    let at-read-tick = c .before .before .before .read-tick in
+    let at-front-in = c .before .before .before .before .front-in in
+    let at-args = c .before .before .before .before .before .before .args in
+    let fits : SFits w64 (at-read-tick .result .seconds) = search needs in
+    rw (toZ-ofZ fits) (worded (at-args .words .now) _ (at-args .tick) _ _ (at-front-in .ensures) (at-read-tick .ensures)
+    (c .before .keep-front .ensures))))
