@@ -1,0 +1,39 @@
+// What the program `rescue` says on the error output: a line for each run, or the refusal.
+ghost use mathlib.Core.Path.{_≡_};
+ghost use Rattle.text.specs.Pieces.{putAll, pastAll};
+ghost use Rattle.rescue_text.specs.Lines.{linePieces, linesIn, refusalPieces};
+
+fn put_line(out: &mut [u8], at: usize, offset: u64, length: u64) -> usize
+    ensures { λ r. ⌜ r ≡ pastAll (now (out .entry)) at (linePieces offset length) ⌝ }
+    ensures { λ _. ⌜ now (out .exit) ≡ putAll (now (out .entry)) at (linePieces offset length) ⌝ }
+{
+    let p = text::put_decimal(out, at, offset);
+    let q = bytes::put_byte(out, p, b' ');
+    let r = text::put_decimal(out, q, length);
+    bytes::put_byte(out, r, b'\n')
+}
+
+// Writes a line for each run of a report, and says the position past them.
+pub fn put_lines(out: &mut [u8], at: usize, report: &[u64]) -> usize
+    ensures { λ r. ⌜ r ≡ pastAll (now (out .entry)) at (linesIn (now (report .entry))) ⌝ }
+    ensures { λ _. ⌜ now (out .exit) ≡ putAll (now (out .entry)) at (linesIn (now (report .entry))) ⌝ }
+{
+    let half = report.len() / 2;
+    let mut p = at;
+    let mut i = 0;
+    while i < half {
+        p = put_line(out, p, report[2 * i], report[2 * i + 1]);
+        i += 1;
+    }
+    p
+}
+
+// Writes a refusal, and says the position past it.
+pub fn put_refusal(out: &mut [u8], at: usize, number: u64) -> usize
+    ensures { λ r. ⌜ r ≡ pastAll (now (out .entry)) at (refusalPieces number) ⌝ }
+    ensures { λ _. ⌜ now (out .exit) ≡ putAll (now (out .entry)) at (refusalPieces number) ⌝ }
+{
+    let p = bytes::put_bytes(out, at, b"refused ", 8);
+    let q = text::put_decimal(out, p, number);
+    bytes::put_byte(out, q, b'\n')
+}
