@@ -11,6 +11,8 @@ use line_words::line_of;
 use line_words::read_numbers;
 use line_words::smaller;
 use receiver::RECORD;
+use rescue_lines::is_rescue;
+use rescue_lines::rescue;
 use row_lines::rows;
 use scrap_lines::is_scrap;
 use scrap_lines::scrap;
@@ -190,6 +192,9 @@ pub fn answer(
     let count = split(s, &mut ends);
     if is_scrap(s, &ends) {
         return scrap(words, room, s, &ends, count, bytes, out, at);
+    }
+    if is_rescue(s, &ends) {
+        return rescue(s, &ends, count, bytes, out, at);
     }
     line(d, s, &ends, count, bytes, out, at)
 }

@@ -6,6 +6,7 @@
 // ask, plan ROOM, rows RECORDS
 // frame ZONE TIME ROOM BYTES, request BYTES, response COMMAND BYTES
 // scrap new ROOM BYTES, scrap same ROOM BYTES
+// rescue BYTES
 // conf TYPE MAP PHASES DIRECTIONS LIMITS CURRENT SETPOINTS PROCESS ROOM ATTRIBUTES
 //
 // Words are parted by one space, numbers are decimal, bytes are lowercase hex, `-` is none. Any other line is answered
@@ -22,5 +23,6 @@ pub const LONGEST: usize = 16384;
 // A number's digits, and the byte behind them.
 const CELL: usize = text::DIGITS + 1;
 
-// No answer is longer: a number and those of the longest plan, or two digits for each byte of the longest frame.
+// No answer is longer: a number and those of the longest plan, or two digits for each byte of the longest frame; a rescued
+// script and its runs, of a line's bytes, are shorter.
 pub const ANSWER: usize = (1 + kernel::PLAN) * CELL + 2 * kernel::FRAME;

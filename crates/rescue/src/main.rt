@@ -5,7 +5,6 @@ use libc::STDIN_FILENO;
 use libc::STDOUT_FILENO;
 use rescuer::MOST;
 use rescuer::REPORT;
-use rescuer::Rescued;
 
 fn show(to: i32, bytes: &[u8], n: usize) {
     if n <= bytes.len() {
@@ -13,21 +12,10 @@ fn show(to: i32, bytes: &[u8], n: usize) {
     }
 }
 
-// The text of the report, or of the refusal.
-fn put_text(page: &mut [u8], x: Rescued, report: &[u64]) -> usize {
-    if x.number != 0 {
-        return rescue_text::put_refusal(page, 0, x.number);
-    }
-    if x.runs <= report.len() / 2 {
-        return rescue_text::put_lines(page, 0, &report[..2 * x.runs]);
-    }
-    0
-}
-
 fn run(input: &[u8], out: &mut [u8], report: &mut [u64], page: &mut [u8]) {
     let x = rescuer::rescue(input, out, report);
     show(STDOUT_FILENO, out, x.length);
-    let n = put_text(page, x, report);
+    let n = rescue_text::put_text(page, 0, x.number, x.runs, report);
     show(STDERR_FILENO, page, n);
 }
 

@@ -1,6 +1,9 @@
 -- The text of a report, and of a refusal. Assumes nothing: these are definitions.
-use Prim.Native.Nat.{ℕ}
+use Prim.Native.Nat.{ℕ, _*_}
+use mathlib.Core.Bool.{cond}
 use mathlib.Core.List.{List, [], _∷_, _++_}
+use lib.Dec.{eqb}
+use lib.ListN.{take}
 use Rattle.text.specs.Text.{decimal}
 
 -- a run's offset and length in decimal, parted by one space
@@ -16,3 +19,7 @@ linesIn (x ∷ y ∷ l) = linePieces x y ++ linesIn l
 -- `refused `, the number, a newline
 unfoldable pub refusalPieces : ℕ → List (List ℕ)
 refusalPieces n = (114 ∷ 101 ∷ 102 ∷ 117 ∷ 115 ∷ 101 ∷ 100 ∷ 32 ∷ []) ∷ decimal n ∷ (10 ∷ []) ∷ []
+
+-- WHAT IS SAID: the first runs of the report, or the refusal
+unfoldable pub textPieces : ℕ → ℕ → List ℕ → List (List ℕ)
+textPieces number runs l = cond (eqb number 0) (linesIn (take (2 * runs) l)) (refusalPieces number)
