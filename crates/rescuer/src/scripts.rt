@@ -34,9 +34,11 @@ fn refused(n: u64) -> Rescued
 pub fn rescue(input: &[u8], out: &mut [u8], report: &mut [u64]) -> Rescued
     ensures { λ r. ⌜ r ≡ answer (number (now (input .entry)) (length (now (out .entry))) (length (now (report .entry)))) (now (input .entry)) ⌝ }
     ensures { λ _. ⌜ now (out .exit)
-        ≡ written (number (now (input .entry)) (length (now (out .entry))) (length (now (report .entry)))) (now (out .entry)) (rescued (now (input .entry))) ⌝ }
+        ≡ written (number (now (input .entry)) (length (now (out .entry))) (length (now (report .entry))))
+        (now (out .entry)) (rescued (now (input .entry))) ⌝ }
     ensures { λ _. ⌜ now (report .exit)
-        ≡ written (number (now (input .entry)) (length (now (out .entry))) (length (now (report .entry)))) (now (report .entry)) (runs (now (input .entry))) ⌝ }
+        ≡ written (number (now (input .entry)) (length (now (out .entry))) (length (now (report .entry))))
+        (now (report .entry)) (runs (now (input .entry))) ⌝ }
 {
     if MOST < input.len() {
         return refused(1);

@@ -1,8 +1,5 @@
 -- The next piece is a record where no run more is counted, else a run.
-use Prim.Native.Nat.{_*_}
-use mathlib.Core.Path.{refl}
 use native.Mathlib.Omega.{arith}
-use lib.ListN.{length-set}
 use Rattle.rescuer.proofs.Writings.{goes-on, copied-is, note-fits, noted-is}
 use borrow.Author.Needs.{needs}
 use Rattle.rescuer.proofs.writes.put_piece.Statement.{statement}
@@ -44,7 +41,7 @@ put-piece-spec =
     let at-args = back-8 .before .args in
     let at-pre = back-8 .before .pre in
     let k = note-fits (at-args .s .now) (at-args .out .now) (at-args .report .now) (at-args .c) _ at-pre (at-next .ensures) (at-if1 .left) in
-    rw (length-set (at-args .report .now) (2 * at-args .c .runs) (at-args .c .at)) k)
+    search (needs, k))
     (λ c. search needs)
     (λ c.
     let at-if1 = c .before .if1 in
