@@ -1,5 +1,6 @@
 /* The console over plain.c: lines of text in, one line of answer for each. */
 #include "plain.h"
+#include "rescue.h"
 #include <stdio.h>
 #include <string.h>
 
@@ -307,6 +308,32 @@ static bool do_meas(char **w)
     return true;
 }
 
+static bool do_rescue(char **w)
+{
+    static uint8_t out[MOST];
+    size_t kept = 0, from = 0;
+    if (!read_bytes(w[1]))
+        return false;
+    for (size_t at = 0, length; at < byte_count; at += length == 0 ? 1 : length) {
+        length = record_length(bytes + at, byte_count - at);
+        memcpy(out + kept, bytes + at, length);
+        kept += length;
+    }
+    print_some(0, out, kept);
+    unsigned runs = 0;
+    for (size_t at = 0; at <= byte_count;) {
+        size_t length = at < byte_count ? record_length(bytes + at, byte_count - at) : 0;
+        if (at == byte_count || length > 0) {
+            if (from < at)
+                runs++, printf(" %lu:%lu", (unsigned long)from, (unsigned long)(at - from));
+            from = at + length;
+        }
+        at += length == 0 ? 1 : length;
+    }
+    printf(runs == 0 ? " -\n" : "\n");
+    return true;
+}
+
 static bool do_tick(char **w)
 {
     static struct plain_front front;
@@ -351,7 +378,7 @@ static const struct {
     {"plan", 2, do_plan},      {"request", 2, do_request},   {"response", 3, do_response},
     {"rows", 2, do_rows},      {"frame", 5, do_frame},       {"scrap", 4, do_scrap},
     {"conf", 11, do_conf},     {"meas", 2, do_meas},
-    {"tick", 3, do_tick},
+    {"tick", 3, do_tick},      {"rescue", 2, do_rescue},
 };
 
 /* Words parted by one space: their count, or -1 where there are too many. */

@@ -12,6 +12,8 @@ use line_words::read_numbers;
 use line_words::smaller;
 use meas_lines::meas;
 use receiver::RECORD;
+use rescue_lines::is_rescue;
+use rescue_lines::rescue;
 use row_lines::rows;
 use scrap_lines::is_scrap;
 use scrap_lines::scrap;
@@ -199,6 +201,9 @@ pub fn answer(
     }
     if is_tick(s, &ends) {
         return tick(front, s, &ends, count, out, at);
+    }
+    if is_rescue(s, &ends) {
+        return rescue(s, &ends, count, bytes, out, at);
     }
     line(d, s, &ends, count, bytes, out, at)
 }

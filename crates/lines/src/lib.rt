@@ -7,6 +7,7 @@
 // frame ZONE TIME ROOM BYTES, request BYTES, response COMMAND BYTES
 // scrap new ROOM BYTES, scrap same ROOM BYTES
 // tick new TICK, tick same TICK
+// rescue BYTES
 // conf TYPE MAP PHASES DIRECTIONS LIMITS CURRENT SETPOINTS PROCESS ROOM ATTRIBUTES
 // meas BYTES
 //
@@ -24,5 +25,6 @@ pub const LONGEST: usize = 16384;
 // A number's digits, and the byte behind them.
 const CELL: usize = text::DIGITS + 1;
 
-// No answer is longer: a number and those of the longest plan, or two digits for each byte of the longest frame.
+// No answer is longer: a number and those of the longest plan, or two digits for each byte of the longest frame; a rescued
+// script and its runs, of a line's bytes, are shorter.
 pub const ANSWER: usize = (1 + kernel::PLAN) * CELL + 2 * kernel::FRAME;

@@ -1,0 +1,2 @@
+-- What the proofs use.
+mod Pairs
