@@ -15,6 +15,7 @@ use Rattle.store.specs.Sizes.{helds, slots, end, words}
 use Rattle.store.specs.Zones.{any, idOf, freeZone, first, slotOf, joined, zoneOf}
 use Rattle.store.specs.Words.{clockOf, sinceOf, overrideOf, settingsOf, zonesOf, putZone, applied, after}
 use Rattle.store.specs.declared.Zone.{Zone}
+use Rattle.store.specs.declared.Settings.{Settings}
 use Rattle.store.specs.declared.Change.{Change}
 use Rattle.store.proofs.Tests.{never}
 use Rattle.store.proofs.Runs.{length-upTo}
@@ -25,9 +26,10 @@ use Rattle.store.proofs.Answered.{refusal-keeps}
 use Rattle.rules.specs.Rules.{late}
 use Rattle.command.specs.Obeys.{obeyed}
 use Rattle.device.specs.declared.Decision.{Decision}
+use Rattle.device.specs.Refusals.{firstOf}
 use Rattle.device.specs.Commands.{commandTests, commandNumber, commandAfter, decisionOf, enacted}
 use Rattle.device.proofs.Decisions.{may-command, decision-enacted, decision-number}
-use Rattle.call_laws.specs.Others.{OthersTests, OthersDecision, EitherOrder}
+use Rattle.call_laws.specs.Others.{found, wouldHold, OthersTests, OthersNumber, OthersHold, EitherOrder}
 use Rattle.call_laws.proofs.FirstOf.{accepted-exactly}
 
 -- THE CLOCK is the same second: a second that was accepted is accepted again
@@ -87,6 +89,16 @@ stored-either ws t i j x y f g a =
     ∙ ap (λ (l : List ℕ). set (putZone l i x) 0 t) (sym (stamped ws t j y))
     ∙ sym (stamped (applied ws (stored ws t j y)) t i x)
 
+-- two contents of the words are the same to a command
+record AsBefore (us ws : List ℕ) (z t : ℕ) (c : Command) : Type 0 where
+  tests : found us z t c ≡ found ws z t c
+  slot : slotOf (zonesOf us) z ≡ slotOf (zonesOf ws) z
+  holds : wouldHold us z t c ≡ wouldHold ws z t c
+
+same-tests : (k j : ℕ) (a b u v : Bool) (s r : Settings) (o p t : ℕ) (c : Command) → late k t ≡ late j t → a ≡ b → u ≡ v → s ≡ r → o ≡ p
+    → commandTests k a u s o t c ≡ commandTests j b v r p t c
+same-tests k j a b u v s r o p t c l e f g h = rw (l, e, f, g, h)
+
 -- WHAT ANOTHER ZONE'S COMMAND FINDS once a record with its old id is stored in slot i at an accepted second
 module _ (ws : List ℕ) (size : length ws ≡ words) (t i z : ℕ) (x : Zone) (full : length (x .held) ≡ helds) (id : idOf x ≡ idOf (getD (zonesOf ws) i freeZone))
     (other : slotOf (zonesOf ws) z ≢ i) (accepted : late (clockOf ws) t ≡ false) where
@@ -101,40 +113,45 @@ module _ (ws : List ℕ) (size : length ws ≡ words) (t i z : ℕ) (x : Zone) (
   unfolding zoneOf
   zone-found = rw slot-found (getD-set-other (zonesOf ws) i (slotOf (zonesOf ws) z) x freeZone other)
 
-  tests-found : (c : Command) → commandNumber (applied ws (stored ws t i x)) z t c ≡ commandNumber ws z t c
-  unfolding commandNumber
-  tests-found c =
-      rw (
-        applied-clock ws (stored ws t i x) size,
-        applied-settings ws (stored ws t i x),
-        applied-override ws (stored ws t i x) size,
-        applied-zones ws (stored ws t i x) size full,
-        joined-found,
-        zone-found,
-        late-again (clockOf ws) t accepted,
-        accepted,
-      )
+  zones-now : zonesOf (applied ws (stored ws t i x)) ≡ set (zonesOf ws) i x
+  zones-now = applied-zones ws (stored ws t i x) size full
 
-  decision-found : (c : Command) → decisionOf (applied ws (stored ws t i x)) z t c ≡ decisionOf ws z t c
-  unfolding decisionOf
-  decision-found c =
-      rw (
-        tests-found c,
-        applied-settings ws (stored ws t i x),
-        applied-zones ws (stored ws t i x) size full,
-        slot-found,
-        zone-found,
-      )
+  record-found : zoneOf (zonesOf (applied ws (stored ws t i x))) z ≡ zoneOf (zonesOf ws) z
+  record-found = ap (λ (zs : List Zone). zoneOf zs z) zones-now ∙ zone-found
+
+  as-before : (c : Command) → AsBefore (applied ws (stored ws t i x)) ws z t c
+  as-before c =
+      record {
+        tests =
+            same-tests _ _ _ _ _ _ _ _ _ _ t c
+            (ap (λ (k : ℕ). late k t) (applied-clock ws (stored ws t i x) size) ∙ late-again (clockOf ws) t accepted ∙ sym accepted)
+            (ap (λ (zs : List Zone). joined zs z) zones-now ∙ joined-found)
+            (ap (λ (y : Zone). y .up) record-found)
+            (applied-settings ws (stored ws t i x))
+            (applied-override ws (stored ws t i x) size);
+        slot = ap (λ (zs : List Zone). slotOf zs z) zones-now ∙ slot-found;
+        holds =
+            ap (λ (s : Settings). obeyed s c t (zoneOf (zonesOf (applied ws (stored ws t i x))) z)) (applied-settings ws (stored ws t i x))
+            ∙ ap (obeyed (settingsOf ws) c t) record-found;
+      }
+
+-- so it gets the same number, and is decided alike
+number-before : (us ws : List ℕ) (z t : ℕ) (c : Command) → AsBefore us ws z t c → commandNumber us z t c ≡ commandNumber ws z t c
+unfolding commandNumber
+number-before us ws z t c a = ap firstOf (a .tests)
+
+decision-before : (us ws : List ℕ) (z t : ℕ) (c : Command) → AsBefore us ws z t c → decisionOf us z t c ≡ decisionOf ws z t c
+unfolding decisionOf
+decision-before us ws z t c a = rw (number-before us ws z t c a, a .slot, a .holds)
 
 -- WHAT IS DECIDED on an accepted command
 module _ (ws : List ℕ) (z t : ℕ) (c : Command) where
   pub not-late : commandNumber ws z t c ≡ 0 → late (clockOf ws) t ≡ false
   unfolding commandNumber any
-  not-late e =
-      accepted-exactly (commandTests (clockOf ws) (joined (zonesOf ws) z) (zoneOf (zonesOf ws) z .up) (settingsOf ws) (overrideOf ws) t c) refl .0 e 1
+  not-late e = accepted-exactly (found ws z t c) refl .0 e 1
 
   pub command-stored : commandNumber ws z t c ≡ 0
-      → commandAfter ws z t c ≡ applied ws (stored ws t (slotOf (zonesOf ws) z) (obeyed (settingsOf ws) c t (zoneOf (zonesOf ws) z)))
+      → commandAfter ws z t c ≡ applied ws (stored ws t (slotOf (zonesOf ws) z) (wouldHold ws z t c))
   unfolding enacted decisionOf after
   command-stored e = sym (decision-enacted ws z t c) ∙ rw e
 
@@ -142,11 +159,11 @@ module _ (ws : List ℕ) (z t : ℕ) (c : Command) where
   unfolding commandAfter
   command-refused h = refusal-keeps ws (commandNumber ws z t c) _ h
 
-  obeyed-full : length (obeyed (settingsOf ws) c t (zoneOf (zonesOf ws) z) .held) ≡ helds
+  obeyed-full : length (wouldHold ws z t c .held) ≡ helds
   unfolding obeyed
   obeyed-full = length-upTo _ helds
 
-  obeyed-id : idOf (obeyed (settingsOf ws) c t (zoneOf (zonesOf ws) z)) ≡ idOf (getD (zonesOf ws) (slotOf (zonesOf ws) z) freeZone)
+  obeyed-id : idOf (wouldHold ws z t c) ≡ idOf (getD (zonesOf ws) (slotOf (zonesOf ws) z) freeZone)
   unfolding obeyed idOf zoneOf
   obeyed-id = refl
 
@@ -169,27 +186,29 @@ module _ (ws : List ℕ) (z y t : ℕ) (c d : Command) (size : length ws ≡ wor
   their-slots : commandNumber ws y t d ≡ 0 → slotOf (zonesOf ws) z ≢ slotOf (zonesOf ws) y
   their-slots e = slots-apart (zonesOf ws) z y (zones-length ws) (may-command ws y t d e .0) apart
 
-  decision-left : decisionOf (commandAfter ws y t d) z t c ≡ decisionOf ws z t c
-  decision-left =
+  left : AsBefore (commandAfter ws y t d) ws z t c
+  left =
       elim (ℕ-discrete (commandNumber ws y t d) 0) [
         | yes e ↦
             rw (command-stored ws y t d e)
-            (decision-found ws size t (slotOf (zonesOf ws) y) z _ (obeyed-full ws y t d) (obeyed-id ws y t d) (their-slots e) (not-late ws y t d e) c)
-        | no h ↦ rw (command-refused ws y t d h)
+            (as-before ws size t (slotOf (zonesOf ws) y) z _ (obeyed-full ws y t d) (obeyed-id ws y t d) (their-slots e) (not-late ws y t d e) c)
+        | no h ↦ rw (command-refused ws y t d h) (record { tests = refl; slot = refl; holds = refl })
       ]
 
   -- the second of two commands, as it would be decided without the first
   second : commandAfter (commandAfter ws y t d) z t c ≡ enacted (commandAfter ws y t d) t (decisionOf ws z t c)
-  second = sym (decision-enacted (commandAfter ws y t d) z t c) ∙ ap (enacted (commandAfter ws y t d) t) decision-left
+  second =
+      sym (decision-enacted (commandAfter ws y t d) z t c)
+      ∙ ap (enacted (commandAfter ws y t d) t) (decision-before (commandAfter ws y t d) ws z t c left)
 
 pub others-tests : OthersTests
-others-tests ws z y t c d size apart =
-    sym (decision-number (commandAfter ws y t d) z t c)
-    ∙ ap (λ (x : Decision). x .number) (decision-left ws z y t c d size apart)
-    ∙ decision-number ws z t c
+others-tests ws z y t c d size apart = left ws z y t c d size apart .tests
 
-pub others-decision : OthersDecision
-others-decision ws z y t c d size apart = decision-left ws z y t c d size apart
+pub others-number : OthersNumber
+others-number ws z y t c d size apart = number-before (commandAfter ws y t d) ws z t c (left ws z y t c d size apart)
+
+pub others-hold : OthersHold
+others-hold ws z y t c d size apart = left ws z y t c d size apart .holds
 
 -- decisions on two slots are enacted in either order
 refused-stays : (ws : List ℕ) (t : ℕ) (x : Decision) → x .number ≢ 0 → enacted ws t x ≡ ws
@@ -222,7 +241,7 @@ module _ (ws : List ℕ) (z t : ℕ) (c : Command) where
   unfolding decisionOf
   decided-full = go (eqb (commandNumber ws z t c) 0)
     where
-      go : (b : Bool) → length (cond {A = Decision} b (record { number = 0; slot = slotOf (zonesOf ws) z; zone = obeyed (settingsOf ws) c t (zoneOf (zonesOf ws) z) })
+      go : (b : Bool) → length (cond {A = Decision} b (record { number = 0; slot = slotOf (zonesOf ws) z; zone = wouldHold ws z t c })
           (record { number = commandNumber ws z t c; slot = slots; zone = freeZone }) .zone .held) ≡ helds
       go true = obeyed-full ws z t c
       go false = refl

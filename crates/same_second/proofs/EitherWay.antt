@@ -12,7 +12,7 @@ use Rattle.store.specs.Words.{settingsOf}
 use Rattle.holds.specs.Holds.{situationOf, valuesAt}
 use Rattle.device.specs.Commands.{commandNumber, commandAnswer}
 use Rattle.kernel.specs.Frame.{responseTo, obeyedBy}
-use Rattle.call_laws.proofs.Others.{others-tests, either-order, command-length, command-settings}
+use Rattle.call_laws.proofs.Others.{others-number, either-order, command-length, command-settings}
 use Rattle.same_second.specs.Sent.{Sent, numberOf, behind, Roomy}
 use Rattle.same_second.specs.SameSecond.{TwoControllers, AnyTwo, StatusByContent, responseWith, valuesBehind, OnlyValuesDiffer, LastShown}
 use Rattle.same_second.proofs.Roomy.{statusOf, number-is, behind-is}
@@ -25,7 +25,7 @@ module _ (ws : List ℕ) (z y t : ℕ) (size : length ws ≡ words) (apart : z �
   status-left (Reading.Unserved i) p = refl
   status-left (Reading.Is r) (Reading.Refused n) = refl
   status-left (Reading.Is r) (Reading.Unserved i) = refl
-  status-left (Reading.Is r) (Reading.Is q) = others-tests ws z y t (r .command) (q .command) size apart
+  status-left (Reading.Is r) (Reading.Is q) = others-number ws z y t (r .command) (q .command) size apart
 
   obeyed-either : (o p : Reading) → obeyedBy (obeyedBy ws y t p) z t o ≡ obeyedBy (obeyedBy ws z t o) y t p
   unfolding obeyedBy
