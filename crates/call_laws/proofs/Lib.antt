@@ -1,3 +1,4 @@
 pub mod FirstOf
 pub mod Rooms
 pub mod Expiry
+pub mod Others

@@ -1,4 +1,4 @@
--- Document 01's marked examples P1 to P10, the bench's, and those of L3, L5 and L8: one table of cases, over the definitions that the calls' contracts cite. d is the direction.
+-- Document 01's marked examples P1 to P10, the bench's, and those of L3, L5, L8 and L13: one table of cases, over the definitions that the calls' contracts cite. d is the direction.
 use Prim.Native.Nat.{ℕ, _+_, _-_, _<_}
 use mathlib.Core.Path.{_≡_}
 use mathlib.Core.Bool.{true, false, cond}
@@ -6,7 +6,7 @@ use mathlib.Core.List.{List, [], _∷_, _++_, foldl, map}
 use lib.Dec.{eqb}
 use lib.IntN.{ℤ, pos, negsuc}
 use lib.ListN.{replicate}
-use Rattle.messages.specs.Numbers.{AUTONOMOUS, CONTROLLED, FAILSAFE}
+use Rattle.messages.specs.Numbers.{AUTONOMOUS, CONTROLLED, LIMITED, FAILSAFE}
 use Rattle.messages.specs.declared.Amount.{Amount}
 use Rattle.messages.specs.declared.Field.{Field}
 use Rattle.messages.specs.declared.Target.{Target}
@@ -161,6 +161,17 @@ reasonIn Outcome.Success = absent
 abbrev pub reason : ℕ → ℕ → Command → List ℕ → List ℤ
 reason z t c = λ ws. reasonIn (commandAnswer ws z t c .outcome) ∷ []
 
+-- the limit of direction d that its response would show
+abbrev pub limitIn : ℕ → Outcome → ℤ
+limitIn d Outcome.Nothing = absent
+limitIn d (Outcome.Limit l) = cond (eqb d 0) (amount (l .consumption)) (amount (l .production))
+limitIn d (Outcome.Setpoint l) = absent
+limitIn d (Outcome.Current l) = absent
+limitIn d Outcome.Success = absent
+
+abbrev pub limitShown : ℕ → ℕ → ℕ → Command → List ℕ → List ℤ
+limitShown d z t c = λ ws. limitIn d (commandAnswer ws z t c .outcome) ∷ []
+
 -- n values that are absent
 abbrev pub none : ℕ → List ℤ
 none n = replicate n absent
@@ -183,6 +194,18 @@ free = box 0 most
 -- 16,000 mA of zone 3 and 10,000 of zone 4 on phase B, in direction d
 abbrev pub amps : ℕ → List Step → List Step
 amps d calls = two (tell 3 10 (current 1 d (mw 16000) 0) ∷ tell 4 20 (current 1 d (mw 10000) 0) ∷ calls)
+
+-- L13: at second 20 a limit of 9,000 for 60 s, which zone 3 gives below, and one of 7,000 for 40 s, which zone 4 gives; and their plan
+abbrev pub threes : ℕ → Command
+threes d = limit d (mw 9000) 60
+
+abbrev pub fours : ℕ → Command
+fours d = limit d (mw 7000) 40
+
+abbrev pub bothPlanned : ℕ → List ℤ
+bothPlanned d =
+    pos 60 ∷ pos LIMITED ∷ cond (eqb d 0) (pos 9000) absent ∷ cond (eqb d 0) absent (pos 9000) ∷ none 8
+    ++ pos 80 ∷ pos CONTROLLED ∷ none 10
 
 -- values and refusals of commands
 unfoldable pub commandCases : ℕ → List Case
@@ -247,6 +270,16 @@ planCases d =
     ∷ case bench (join 3 1 100 ∷ join 9 2 100 ∷ tell 3 100 (limit 0 (mw 11040000) 60) ∷ tell 9 100 (limit 0 (mw 4600000) 20) ∷ [])
     (rows 110)
     (pos 120 ∷ pos 2 ∷ pos 11040000 ∷ none 9 ++ pos 160 ∷ pos 1 ∷ none 10)
+    -- L13 two zones in one second: the plan is the same in either order, and so is each number, a refusal among them
+    ∷ case free (two (tell 3 20 (threes d) ∷ tell 4 20 (fours d) ∷ [])) (rows 20) (bothPlanned d)
+    ∷ case free (two (tell 4 20 (fours d) ∷ tell 3 20 (threes d) ∷ [])) (rows 20) (bothPlanned d)
+    ∷ case free (two []) (told 3 20 (threes d)) (pos 0 ∷ [])
+    ∷ case free (two (tell 4 20 (fours d) ∷ [])) (told 3 20 (threes d)) (pos 0 ∷ [])
+    ∷ case free (two []) (told 3 20 (limit d (Field.Value (negsuc 0)) 0)) (pos 13 ∷ [])
+    ∷ case free (two (tell 4 20 (fours d) ∷ [])) (told 3 20 (limit d (Field.Value (negsuc 0)) 0)) (pos 13 ∷ [])
+    -- L13 what zone 3 is shown hangs on it: its own 9,000 where it comes first, zone 4's 7,000 where it comes last
+    ∷ case free (two []) (limitShown d 3 20 (threes d)) (pos 9000 ∷ [])
+    ∷ case free (two (tell 4 20 (fours d) ∷ [])) (limitShown d 3 20 (threes d)) (pos 7000 ∷ [])
     ∷ []
 
 -- current limits

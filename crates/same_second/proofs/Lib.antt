@@ -1,0 +1,4 @@
+-- The proofs of the statements.
+pub mod Roomy
+pub mod EitherWay
+pub mod EveryOrder

@@ -1,0 +1,1 @@
+// No code: frames of different zones in one second, as statements in specs/, proved in proofs/.
