@@ -38,24 +38,24 @@ carried a d = (omega arith, omega arith)
 
 -- what a reading at u makes of the front at t
 module _ (offset t₀ t u : ℕ) (f : Front) (h : Holds offset t₀ t f) (l : t ≤ u) (g : u - t < 2 ^ 31) (e : since t₀ u ≤ END) where
-  abbrev now : ℕ
-  now = (offset + u) % 2 ^ 32
+  abbrev tick : ℕ
+  tick = (offset + u) % 2 ^ 32
 
-  exactly : accepted now (since t₀ u) ((u - t₀) % 1000) ≡ readingOf f now
+  exactly : accepted tick (since t₀ u) ((u - t₀) % 1000) ≡ readingOf f tick
   exactly =
       let c = carried (t - t₀) (u - t) in
-      let s : u - t ≡ stepOf (f .last) now = rw (h .tick) (shown-step offset t u l g) in
+      let s : u - t ≡ stepOf (f .last) tick = rw (h .tick) (shown-step offset t u l g) in
       let sum : (t - t₀) + (u - t) ≡ u - t₀ = omega (arith, h .later) in
       let a : f .seconds + (f .remainder + (u - t)) / 1000 ≡ since t₀ u = rw (h .secs, h .rest, ← sum) (c .0) in
       let b : (f .remainder + (u - t)) % 1000 ≡ (u - t₀) % 1000 = rw (h .rest, ← sum) (c .1) in
-      let k = at-good f now (h .on) (u - t) s g (omega arith) in
+      let k = at-good f tick (h .on) (u - t) s g (omega arith) in
       rw (a, b) at k
 
-  says : answer (readingOf f now) ≡ at (since t₀ u)
+  says : answer (readingOf f tick) ≡ at (since t₀ u)
   unfolding accepted
   says = ap answer (sym exactly)
 
-  stays : Holds offset t₀ u (readingOf f now .front)
+  stays : Holds offset t₀ u (readingOf f tick .front)
   unfolding accepted
   stays = rw (← exactly) (record { on = refl; tick = refl; secs = refl; rest = refl; later = omega (arith, h .later) })
 
