@@ -7,8 +7,7 @@ use Rattle.sender.specs.declared.Written.{Written}
 use Rattle.measurement_table.specs.Table.{rows}
 use Rattle.measurement_table.specs.Words.{held, rangeNumber}
 use Rattle.measurement_table.specs.Payload.{itemOf}
-use Rattle.measurement.specs.Flow.{flowOf, cellFor}
-use Rattle.measurement.specs.declared.flow.Flow.{Flow}
+use Rattle.measurement.specs.Flow.{flowOf, cellFor, flowNumber}
 
 -- what writing words answers, given the room, and leaves
 unfoldable pub measurementWritten : List ℕ → ℕ → Written
@@ -16,13 +15,6 @@ measurementWritten ws room = writtenOf (rangeNumber ws) (encode (itemOf (held ws
 
 unfoldable pub measurementLeft : List ℕ → List ℕ → List ℕ
 measurementLeft ws out = leftBy (rangeNumber ws) (encode (itemOf (held ws))) out
-
--- absent, none, in, out
-unfoldable pub flowNumber : Flow → ℕ
-flowNumber Flow.Absent = 0
-flowNumber Flow.Neither = 1
-flowNumber Flow.In = 2
-flowNumber Flow.Out = 3
 
 -- the flow of attribute n, and of its phase p
 abbrev pub flowIn : List ℕ → ℕ → ℕ → ℕ

@@ -1,12 +1,12 @@
 // What the box measures: payloads read and written, and the flows.
-use measurement::Flow;
 use measurement::Words;
+use measurement::flow_number;
 ghost use mathlib.Core.Path.{_≡_};
 ghost use lib.ListN.{length};
 ghost use Rattle.measurement_table.specs.Words.{flat};
 ghost use Rattle.measurement_table.specs.Payload.{readNumber, cellsRead};
 ghost use Rattle.measurement.specs.Flow.{acActivePower, acActivePowerPerPhase, dcPower};
-ghost use Rattle.capi.specs.Meter.{measurementWritten, measurementLeft, flowNumber, flowIn};
+ghost use Rattle.capi.specs.Meter.{measurementWritten, measurementLeft, flowIn};
 
 #[no_mangle]
 pub extern "C" fn cekarum_raw_read_measurement(payload: &[u8], words: &mut Words) -> u64
@@ -29,17 +29,6 @@ pub extern "C" fn cekarum_raw_write_measurement(
     let w = measurement::write_measurement(words, out);
     *written = w.length as u64;
     w.number
-}
-
-fn flow_number(f: Flow) -> u64
-    ensures { λ r. ⌜ r ≡ flowNumber f ⌝ }
-{
-    match f {
-        Flow::Absent => 0,
-        Flow::Neither => 1,
-        Flow::In => 2,
-        Flow::Out => 3,
-    }
 }
 
 #[no_mangle]

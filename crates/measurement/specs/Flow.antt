@@ -16,6 +16,13 @@ flowOf none = Flow.Absent
 flowOf (some (pos n)) = cond (eqb n 0) Flow.Neither Flow.In
 flowOf (some (negsuc n)) = Flow.Out
 
+-- its number in C: absent, none, in, out
+unfoldable pub flowNumber : Flow → ℕ
+flowNumber Flow.Absent = 0
+flowNumber Flow.Neither = 1
+flowNumber Flow.In = 2
+flowNumber Flow.Out = 3
+
 -- the cell of attribute n, and of its phase p; nothing where there is none
 unfoldable pub cellFor : List Row → List Cell → ℕ → ℕ → Cell
 cellFor [] cs n p = none

@@ -4,7 +4,7 @@ use measurement_table::place_at;
 ghost use mathlib.Core.Path.{_≡_};
 ghost use Rattle.measurement_table.specs.Table.{rows};
 ghost use Rattle.measurement_table.specs.Words.{heldAt, held};
-ghost use Rattle.measurement.specs.Flow.{flowOf, cellFor, acActivePower, acActivePowerPerPhase, dcPower};
+ghost use Rattle.measurement.specs.Flow.{flowOf, flowNumber, cellFor, acActivePower, acActivePowerPerPhase, dcPower};
 
 // Into the component or out of it, in neither direction, or nothing is there to flow.
 pub enum Flow {
@@ -61,4 +61,16 @@ pub fn phase_flow(words: &Words, phase: usize) -> Flow
         return flow_at(words, BY_PHASE + phase);
     }
     Flow::Absent
+}
+
+// Its number in C.
+pub fn flow_number(f: Flow) -> u64
+    ensures { λ r. ⌜ r ≡ flowNumber f ⌝ }
+{
+    match f {
+        Flow::Absent => 0,
+        Flow::Neither => 1,
+        Flow::In => 2,
+        Flow::Out => 3,
+    }
 }

@@ -3,6 +3,7 @@ mod flow; // flow.rt: the direction of flow
 
 pub use flow::Flow;
 pub use flow::dc_flow;
+pub use flow::flow_number;
 pub use flow::phase_flow;
 pub use flow::power_flow;
 pub use measurement_reader::read_measurement;

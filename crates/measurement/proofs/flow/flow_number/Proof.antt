@@ -1,8 +1,8 @@
 -- Each way has its number.
-use Rattle.capi.specs.Meter.{flowNumber}
+use Rattle.measurement.specs.Flow.{flowNumber}
 use borrow.Author.Needs.{needs}
-use Rattle.capi.proofs.meter.flow_number.Statement.{statement}
-use Rattle.capi.proofs.meter.flow_number.Tie as tie
+use Rattle.measurement.proofs.flow.flow_number.Statement.{statement}
+use Rattle.measurement.proofs.flow.flow_number.Tie as tie
 
 pub flow-number-spec : {M : Type 1} → statement M
 unfolding flowNumber
