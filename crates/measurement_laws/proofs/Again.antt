@@ -22,7 +22,7 @@ use Rattle.frame_laws.proofs.FieldsAgain.{no-value, same-inside, bind-parts, ma
 use Rattle.frame_laws.proofs.PhaseTrips.{held-ok}
 use Rattle.measurement_table.specs.Table.{rangeOf}
 use Rattle.measurement_table.specs.Cells.{Cell, cellIn, cellsFrom, phasesIn, blanks, rowIn, rowsIn, cellItem, phaseFields, someMap, firstItem, rowItem, fieldsOf}
-use Rattle.measurement_table.specs.declared.table.Row.{Row}
+use Rattle.measurement_rows.specs.declared.table.Row.{Row}
 use Rattle.measurement_table.proofs.Order.{Rising}
 use Rattle.measurement_laws.specs.RoundTrips.{Unknown, RowsWriteAgain}
 use Rattle.measurement_laws.proofs.Fields.{Narrow, ok-held, none-from}

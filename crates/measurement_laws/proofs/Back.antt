@@ -18,7 +18,7 @@ use Rattle.map_fields.proofs.Joined.{and-left, and-right, and-same}
 use Rattle.frame_laws.proofs.Maps.{Ascending, Holds}
 use Rattle.measurement_table.specs.Table.{rangeOf, places}
 use Rattle.measurement_table.specs.Cells.{Cell, cellIn, cellsFrom, phasesIn, blanks, rowIn, rowsIn, cellItem, phaseFields, someMap, firstItem, rowItem, fieldsOf, cellFits, cellsFit, rowsFit}
-use Rattle.measurement_table.specs.declared.table.Row.{Row}
+use Rattle.measurement_rows.specs.declared.table.Row.{Row}
 use Rattle.measurement_table.proofs.Order.{Rising}
 use Rattle.measurement_laws.specs.RoundTrips.{OthersPassed, RowsReadBack}
 use Rattle.measurement_laws.proofs.Fields.{holds-present}

@@ -10,13 +10,14 @@ use Rattle.messages.specs.Refusals.{firstOf}
 use Rattle.map_fields.specs.Fields.{mapIn, present}
 use Rattle.map_fields.specs.Ranges.{within, numberIn}
 use Rattle.map_fields.specs.ByPhase.{keysBelow}
-use Rattle.measurement_table.specs.Table.{rows, ranges, rangeOf}
+use Rattle.measurement_rows.specs.Table.{bounds, boundsOf}
+use Rattle.measurement_table.specs.Table.{rows, rangeOf}
 use Rattle.measurement_table.specs.Cells.{cellIn, cellsFrom, phasesIn, blanks, rowIn, rowsIn, cellItem, phaseFields, someMap, firstItem, rowItem, fieldsOf}
 use Rattle.measurement_table.specs.Payload.{cellsOf, readNumber, orBlank, cellsRead, itemOf}
 use Rattle.measurement_laws.specs.Examples.{plain, others, found, written, Worked}
 
 pub worked : Worked
 unfolding plain others found written readNumber firstOf cellsOf orBlank cellsRead payloadOf itemAt fromHead pairsAt itemsAt keyAt headAt argAt numberAt widthOf
-    infoOf mapIn bind valueOf rows ranges rangeOf within numberIn cellIn cellsFrom keysBelow phasesIn blanks rowIn rowsIn itemOf encode encodePairs headBytes
+    infoOf mapIn bind valueOf rows bounds boundsOf rangeOf within numberIn cellIn cellsFrom keysBelow phasesIn blanks rowIn rowsIn itemOf encode encodePairs headBytes
     bytesOf countPairs present cellItem phaseFields someMap firstItem rowItem fieldsOf
 worked = (refl, refl)

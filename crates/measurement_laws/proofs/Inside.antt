@@ -24,9 +24,9 @@ use Rattle.measurement_table.specs.Table.{rows, rangeOf, places}
 use Rattle.measurement_table.specs.Cells.{Cell, cellIn, cellsFrom, phasesIn, blanks, rowIn, rowsIn, cellFits, cellsFit, rowsFit}
 use Rattle.measurement_table.specs.Words.{held, marksFit, rangeNumber}
 use Rattle.measurement_table.specs.Payload.{cellsOf}
-use Rattle.measurement_table.specs.declared.table.Row.{Row}
+use Rattle.measurement_rows.specs.declared.table.Row.{Row}
 use Rattle.measurement_table.proofs.Order.{table-long}
-use Rattle.measurement_laws.specs.Outside.{RowsInside, NeverRead, NeverWritten, NumberExact, RangeExact, SignedExact}
+use Rattle.measurement_laws.specs.Outside.{RowsInside, NeverRead, NeverWritten, NumberExact, RangeExact, SignedExact, SignedKinds}
 
 -- ONE NUMBER
 tested : {X : Type 0} (b : Bool) (x y : X) → cond b (some x) none ≡ some y → (b ≡ true) × (x ≡ y)
@@ -167,3 +167,6 @@ pub signed-exact : SignedExact
 signed-exact w z =
     range-by (2 ^ (w - 1)) (2 ^ (w - 1) - 1) z
     ∙ ap (λ (b : Bool). leZ (negℤ (pos (2 ^ (w - 1)))) z && b) (most-signed (2 ^ (w - 1)) z (half (w - 1)))
+
+pub signed-kinds : SignedKinds
+signed-kinds w = refl

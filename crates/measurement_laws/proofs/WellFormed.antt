@@ -15,9 +15,11 @@ use Rattle.map_fields.specs.Ranges.{within}
 use Rattle.map_fields.specs.declared.ranges.Range.{Range}
 use Rattle.map_fields.proofs.Joined.{and-left, and-right}
 use Rattle.frame_laws.proofs.Maps.{OkField, OkFields, ok-map}
-use Rattle.measurement_table.specs.Table.{ranges, rangeOf}
+use Rattle.measurement_rows.specs.Table.{bounds, boundsOf}
+use Rattle.measurement_table.specs.Table.{rangeBy, rangeOf}
 use Rattle.measurement_table.specs.Cells.{Cell, cellItem, phaseFields, someMap, firstItem, rowItem, fieldsOf, cellFits, cellsFit, rowsFit}
-use Rattle.measurement_table.specs.declared.table.Row.{Row}
+use Rattle.measurement_rows.specs.declared.table.Row.{Row}
+use Rattle.measurement_rows.specs.declared.table.Bounds.{Bounds}
 use Rattle.measurement_table.proofs.Order.{Rising}
 use Rattle.measurement_laws.proofs.Back.{phases-ascend, fields-ascend}
 
@@ -25,19 +27,19 @@ use Rattle.measurement_laws.proofs.Back.{phases-ascend, fields-ascend}
 abbrev Wide : Range → Type 0
 Wide g = (g .below ≤ 2 ^ 64) × (g .high < 2 ^ 64)
 
-abbrev AllWide : List Range → Type 0
+abbrev AllWide : List Bounds → Type 0
 AllWide [] = Unit {0}
-AllWide (g ∷ gs) = Wide g × AllWide gs
+AllWide (b ∷ bs) = Wide (rangeBy b) × AllWide bs
 
-wide-at : (gs : List Range) (k : ℕ) (g : Range) → AllWide gs → Wide g → Wide (getD gs k g)
-wide-at [] k g a w = w
-wide-at (x ∷ gs) zero g a w = a .0
-wide-at (x ∷ gs) (suc k) g a w = wide-at gs k g (a .1) w
+wide-at : (bs : List Bounds) (k : ℕ) (b : Bounds) → AllWide bs → Wide (rangeBy b) → Wide (rangeBy (getD bs k b))
+wide-at [] k b a w = w
+wide-at (x ∷ bs) zero b a w = a .0
+wide-at (x ∷ bs) (suc k) b a w = wide-at bs k b (a .1) w
 
 kind-wide : (k : ℕ) → Wide (rangeOf k)
-unfolding rangeOf ranges
+unfolding rangeOf boundsOf bounds
 kind-wide k =
-    wide-at ranges k _
+    wide-at bounds k _
     ((omega arith, omega arith), ((omega arith, omega arith), ((omega arith, omega arith), ((omega arith, omega arith), ((omega arith, omega arith), ((omega arith, omega arith), tt))))))
     (omega arith, omega arith)
 

@@ -13,11 +13,12 @@ use Rattle.cbor.specs.Item.{Item, Pairs}
 use Rattle.map_fields.specs.Fields.{intItem}
 use Rattle.map_fields.specs.Ranges.{within, signedBits, numberIn}
 use Rattle.map_fields.specs.declared.ranges.Range.{Range}
-use Rattle.measurement_table.specs.Table.{rows, places}
+use Rattle.measurement_rows.specs.Table.{signed}
+use Rattle.measurement_table.specs.Table.{rows, places, rangeBy}
 use Rattle.measurement_table.specs.Cells.{Cell, rowsIn, rowsFit}
 use Rattle.measurement_table.specs.Words.{held, rangeNumber}
 use Rattle.measurement_table.specs.Payload.{cellsOf}
-use Rattle.measurement_table.specs.declared.table.Row.{Row}
+use Rattle.measurement_rows.specs.declared.table.Row.{Row}
 
 -- over any table: what is read has a cell for each place, and each number in the range of its row
 abbrev pub RowsInside : Type 0
@@ -40,3 +41,7 @@ RangeExact = (g : Range) (z : ℤ) → within g z ≡ (leZ (negℤ (pos (g .belo
 -- those of w signed bits, for every width: -2^(w - 1) ≤ z < 2^(w - 1)
 abbrev pub SignedExact : Type 0
 SignedExact = (w : ℕ) (z : ℤ) → within (signedBits w) z ≡ (leZ (negℤ (pos (2 ^ (w - 1)))) z && ltZ z (pos (2 ^ (w - 1))))
+
+-- and the kinds of w signed bits have those
+abbrev pub SignedKinds : Type 0
+SignedKinds = (w : ℕ) → rangeBy (signed w) ≡ signedBits w

@@ -14,7 +14,7 @@ use Rattle.measurement_table.specs.Table.{rows, places}
 use Rattle.measurement_table.specs.Cells.{Cell, rowsIn, fieldsOf, rowsFit}
 use Rattle.measurement_table.specs.Words.{flat, held, rangeNumber}
 use Rattle.measurement_table.specs.Payload.{cellsOf, readNumber, cellsRead, itemOf}
-use Rattle.measurement_table.specs.declared.table.Row.{Row}
+use Rattle.measurement_rows.specs.declared.table.Row.{Row}
 use Rattle.measurement_table.proofs.Order.{Rising}
 
 -- OVER ANY TABLE

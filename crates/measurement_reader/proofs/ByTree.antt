@@ -27,7 +27,7 @@ use Rattle.measurement_table.specs.Cells.{Cell, blanks, rowsIn}
 use Rattle.measurement_table.specs.Payload.{lengthFits, cellsOf, readNumber, orBlank, cellsRead}
 use Rattle.measurement_table.specs.Words.{flat}
 use Rattle.measurement_reader.specs.Walk.{Filled, rowAt, nextAt, rowsAt, payloadAt}
-use Rattle.measurement_table.specs.declared.table.Row.{Row}
+use Rattle.measurement_rows.specs.declared.table.Row.{Row}
 use Rattle.measurement_reader.proofs.Walked.{rows-walk}
 use Rattle.measurement_reader.proofs.Rows.{row-long, flat-long, filled-some, filled-none}
 use Rattle.measurement_table.proofs.Order.{table, table-long}

@@ -21,7 +21,7 @@ use Rattle.measurement_table.specs.Table.{rows, noRow, rangeOf, places}
 use Rattle.measurement_table.specs.Cells.{Cell, blanks}
 use Rattle.measurement_table.specs.Words.{placeOf, flat}
 use Rattle.measurement_reader.specs.Walk.{placeOr, Filled, cellAt, nextAt, cellsAt, phasesFrom, rowAt, rowsAt}
-use Rattle.measurement_table.specs.declared.table.Row.{Row}
+use Rattle.measurement_rows.specs.declared.table.Row.{Row}
 use Rattle.measurement_table.specs.declared.words.Place.{Place}
 use Rattle.measurement_reader.proofs.Fills.{refused, taken}
 

@@ -28,7 +28,7 @@ use Rattle.measurement_table.specs.Table.{rangeOf}
 use Rattle.measurement_table.specs.Cells.{Cell, cellIn, cellsFrom, phasesIn, blanks, rowIn, rowsIn}
 use Rattle.measurement_reader.specs.Walk.{numberBy, numberFrom, cellAt, nextAt, cellsAt, phasesFrom, rowAt, rowsAt}
 use Rattle.measurement_table.proofs.Order.{Rising}
-use Rattle.measurement_table.specs.declared.table.Row.{Row}
+use Rattle.measurement_rows.specs.declared.table.Row.{Row}
 
 -- no key from w on
 none-from : (ps : Pairs) (w k : ℕ) → keysBelow w ps ≡ true → w ≤ k → valueOf ps k ≡ none

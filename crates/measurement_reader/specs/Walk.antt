@@ -17,7 +17,7 @@ use Rattle.map_fields.specs.declared.ranges.Range.{Range}
 use Rattle.measurement_table.specs.Table.{rangeOf, rows}
 use Rattle.measurement_table.specs.Cells.{Cell, blanks}
 use Rattle.measurement_table.specs.Words.{place, placeOf, flat}
-use Rattle.measurement_table.specs.declared.table.Row.{Row}
+use Rattle.measurement_rows.specs.declared.table.Row.{Row}
 use Rattle.measurement_table.specs.declared.words.Place.{Place}
 
 -- ANSWERS

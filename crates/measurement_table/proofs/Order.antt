@@ -9,7 +9,7 @@ use lib.Dec.{leb, ltb}
 use borrow.Author.Tests.{leb-true, ltb-true}
 use Rattle.map_fields.proofs.Joined.{and-left, and-right}
 use Rattle.measurement_table.specs.Table.{rows, places}
-use Rattle.measurement_table.specs.declared.table.Row.{Row}
+use Rattle.measurement_rows.specs.declared.table.Row.{Row}
 
 -- numbers ascend from lo on
 abbrev pub Rising : List Row → ℕ → Type 0

@@ -14,7 +14,7 @@ use Rattle.map_fields.specs.Ranges.{within, numberIn}
 use Rattle.map_fields.specs.ByPhase.{keysBelow}
 use Rattle.map_fields.specs.declared.ranges.Range.{Range}
 use Rattle.measurement_table.specs.Table.{rangeOf}
-use Rattle.measurement_table.specs.declared.table.Row.{Row}
+use Rattle.measurement_rows.specs.declared.table.Row.{Row}
 
 abbrev pub Cell : Type 0
 Cell = Option ℤ

@@ -1,17 +1,11 @@
 -- How many bytes a payload can have, and the room that its writer asks for. Assumes nothing: these are definitions.
 use Prim.Native.Nat.{ℕ, _+_, _*_, _≤_}
-use mathlib.Core.Bool.{Bool, _&&_, _||_}
 use mathlib.Core.List.{List}
 use lib.ListN.{length}
-use lib.Dec.{ltb, eqb}
 use Rattle.map_fields.specs.Puts.{Adds, fieldBytes}
 use Rattle.measurement_table.specs.Cells.{rowItem}
 use Rattle.measurement_table.specs.Words.{heldFrom}
-use Rattle.measurement_table.specs.declared.table.Row.{Row}
-
--- a row of the table: a number that a head of two bytes holds, and one place or three
-unfoldable pub shaped : Row → Bool
-shaped r = ltb (r .0) 256 && (eqb (r .1) 1 || eqb (r .1) 3)
+use Rattle.measurement_rows.specs.declared.table.Row.{Row}
 
 -- the bytes of a row whose cells stand from place i on: none where the attribute is absent
 abbrev pub rowBytes : List ℕ → ℕ → Row → List ℕ

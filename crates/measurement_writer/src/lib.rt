@@ -1,5 +1,4 @@
 // Payloads of Measurement, written: tested, then put into a local and delivered.
-mod fits; // fits.rt: marks and ranges, tested
 mod puts; // puts.rt: attributes, counted and put
 mod writing; // writing.rt: a payload, written
 

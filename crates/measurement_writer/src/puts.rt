@@ -1,46 +1,25 @@
 // The attributes that are there, counted and put one behind the other; absent ones are left out.
-use cbor::Sight;
 use map_fields::count_phases;
 use map_fields::put_map;
 use map_fields::put_phases;
 use map_fields::put_sight;
+use measurement_fits::cell_sight;
 use measurement_table::ROWS;
 use measurement_table::Row;
 use measurement_table::Words;
-use measurement_table::place_at;
 use measurement_table::row_at;
 ghost use mathlib.Core.Path.{_≡_};
 ghost use mathlib.Core.Bool.{true};
 ghost use Prim.Native.Nat.{_+_, _*_, _≤_};
 ghost use Rattle.cbor.specs.Item.{encode, encodePairs, countPairs};
-ghost use Rattle.cbor.specs.Scan.{sightOf};
 ghost use Rattle.map_fields.specs.Fields.{present};
 ghost use Rattle.map_fields.specs.Puts.{Puts, pairsOf};
 ghost use Rattle.measurement_table.specs.Table.{rows};
-ghost use Rattle.measurement_table.specs.Cells.{cellItem, rowItem, fieldsOf};
-ghost use Rattle.measurement_table.specs.Words.{heldAt, heldFrom, held};
+ghost use Rattle.measurement_table.specs.Cells.{rowItem, fieldsOf};
+ghost use Rattle.measurement_table.specs.Words.{heldFrom, held};
 ghost use Rattle.measurement_table.specs.Payload.{itemOf};
-ghost use Rattle.measurement_writer.specs.Room.{shaped, rowBytes, placeRoom, rowsRoom, payloadRoom, PutsShort};
-
-// A cell as it is to be seen: n is major type 0 with n, -1 - n is major type 1 with n; or nothing.
-pub(crate) fn cell_sight(words: &Words, at: usize) -> Sight
-    ensures { λ r. ⌜ r ≡ sightOf (cellItem (heldAt (now (words .entry)) at)) ⌝ }
-{
-    let p = place_at(words, at);
-    if p.mark == 1 {
-        return Sight {
-            major: 0,
-            arg: p.size,
-        };
-    }
-    if p.mark == 2 {
-        return Sight {
-            major: 1,
-            arg: p.size,
-        };
-    }
-    Sight { major: 8, arg: 8 }
-}
+ghost use Rattle.measurement_fits.specs.Shape.{shaped};
+ghost use Rattle.measurement_writer.specs.Room.{rowBytes, placeRoom, rowsRoom, payloadRoom, PutsShort};
 
 // 1 where an attribute is there, else 0.
 fn count_row(words: &Words, place: usize, row: Row) -> u64

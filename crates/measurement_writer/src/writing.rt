@@ -1,6 +1,6 @@
 // A payload of Measurement, written.
-use crate::fits::range_number;
 use crate::puts::put_payload;
+use measurement_fits::range_number;
 use measurement_table::Words;
 use sender::Written;
 use sender::deliver;

@@ -9,7 +9,8 @@ use Rattle.map_fields.specs.Fields.{present}
 use Rattle.measurement_table.specs.Table.{rows, places}
 use Rattle.measurement_table.specs.Cells.{Cell, fieldsOf}
 use Rattle.measurement_table.specs.Words.{held}
-use Rattle.measurement_writer.proofs.Walk.{row-shaped, row-next, places-next, places-start, heldBy, held-all, count-small, count-rows-more, count-rows-end}
+use Rattle.measurement_fits.proofs.Walk.{row-shaped, row-next, places-next, places-start, heldBy, held-all}
+use Rattle.measurement_writer.proofs.Walk.{count-small, count-rows-more, count-rows-end}
 use borrow.Author.Needs.{needs}
 use Rattle.measurement_writer.proofs.puts.count_rows.Statement.{statement}
 use Rattle.measurement_writer.proofs.puts.count_rows.Tie as tie

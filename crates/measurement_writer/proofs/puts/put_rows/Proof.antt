@@ -10,7 +10,8 @@ use Rattle.measurement_table.specs.Table.{rows, places}
 use Rattle.measurement_table.specs.Cells.{Cell, fieldsOf}
 use Rattle.measurement_table.specs.Words.{held}
 use Rattle.measurement_writer.specs.Room.{placeRoom, rowsRoom, PutsShort}
-use Rattle.measurement_writer.proofs.Walk.{row-shaped, row-next, places-next, places-start, heldBy, held-all, rows-bytes, rows-bytes-end}
+use Rattle.measurement_fits.proofs.Walk.{row-shaped, row-next, places-next, places-start, heldBy, held-all}
+use Rattle.measurement_writer.proofs.Walk.{rows-bytes, rows-bytes-end}
 use Rattle.measurement_writer.proofs.Short.{shorts-none, shorts-same, shorts-more, shorts-room}
 use borrow.Author.Needs.{needs}
 use Rattle.measurement_writer.proofs.puts.put_rows.Statement.{statement}

@@ -1,8 +1,8 @@
 -- Judged as it is seen.
-use Rattle.measurement_writer.proofs.Cases.{cell-judged}
+use Rattle.measurement_fits.proofs.Cases.{cell-judged}
 use borrow.Author.Needs.{needs}
-use Rattle.measurement_writer.proofs.fits.cell_fits.Statement.{statement}
-use Rattle.measurement_writer.proofs.fits.cell_fits.Tie as tie
+use Rattle.measurement_fits.proofs.fits.cell_fits.Statement.{statement}
+use Rattle.measurement_fits.proofs.fits.cell_fits.Tie as tie
 
 pub cell-fits-spec : {M : Type 1} → statement M
 cell-fits-spec =

@@ -1,5 +1,5 @@
 // Whether words can be written: each mark means something, and each number is in the range of its row.
-use crate::puts::cell_sight;
+use crate::sights::cell_sight;
 use map_fields::Range;
 use map_fields::all3;
 use map_fields::is_number;
@@ -15,7 +15,7 @@ ghost use Prim.Native.Nat.{_+_, _≤_};
 ghost use Rattle.measurement_table.specs.Table.{rows, rangeOf};
 ghost use Rattle.measurement_table.specs.Cells.{cellFits, cellsFit, rowsFit};
 ghost use Rattle.measurement_table.specs.Words.{heldAt, heldFrom, held, marksFit, rangeNumber};
-ghost use Rattle.measurement_writer.specs.Room.{shaped};
+ghost use Rattle.measurement_fits.specs.Shape.{shaped};
 
 // No mark is above 2.
 fn marks_fit(words: &Words) -> bool
@@ -70,7 +70,7 @@ fn rows_fit(words: &Words) -> bool
 }
 
 // The refusal of words, whatever the room: 3.
-pub(crate) fn range_number(words: &Words) -> u64
+pub fn range_number(words: &Words) -> u64
     ensures { λ r. ⌜ r ≡ rangeNumber (now (words .entry)) ⌝ }
 {
     if !marks_fit(words) {

@@ -1,9 +1,9 @@
 -- One place, or three.
-use Rattle.measurement_writer.proofs.Walk.{three-places}
-use Rattle.measurement_writer.proofs.Cases.{one-fits, three-fit}
+use Rattle.measurement_fits.proofs.Walk.{three-places}
+use Rattle.measurement_fits.proofs.Cases.{one-fits, three-fit}
 use borrow.Author.Needs.{needs}
-use Rattle.measurement_writer.proofs.fits.row_fits.Statement.{statement}
-use Rattle.measurement_writer.proofs.fits.row_fits.Tie as tie
+use Rattle.measurement_fits.proofs.fits.row_fits.Statement.{statement}
+use Rattle.measurement_fits.proofs.fits.row_fits.Tie as tie
 
 pub row-fits-spec : {M : Type 1} → statement M
 row-fits-spec =

@@ -1,9 +1,9 @@
 -- A mark that means nothing, a number out of its range, or neither.
 use borrow.Author.Tests.{not-true, not-false}
-use Rattle.measurement_writer.proofs.Cases.{mark-refused, range-refused, not-refused}
+use Rattle.measurement_fits.proofs.Cases.{mark-refused, range-refused, not-refused}
 use borrow.Author.Needs.{needs}
-use Rattle.measurement_writer.proofs.fits.range_number.Statement.{statement}
-use Rattle.measurement_writer.proofs.fits.range_number.Tie as tie
+use Rattle.measurement_fits.proofs.fits.range_number.Statement.{statement}
+use Rattle.measurement_fits.proofs.fits.range_number.Tie as tie
 
 pub range-number-spec : {M : Type 1} → statement M
 range-number-spec =

@@ -1,8 +1,8 @@
 -- By the mark.
-use Rattle.measurement_writer.proofs.Cases.{see-above, see-below, see-none}
+use Rattle.measurement_fits.proofs.Cases.{see-above, see-below, see-none}
 use borrow.Author.Needs.{needs}
-use Rattle.measurement_writer.proofs.puts.cell_sight.Statement.{statement}
-use Rattle.measurement_writer.proofs.puts.cell_sight.Tie as tie
+use Rattle.measurement_fits.proofs.sights.cell_sight.Statement.{statement}
+use Rattle.measurement_fits.proofs.sights.cell_sight.Tie as tie
 
 pub cell-sight-spec : {M : Type 1} → statement M
 cell-sight-spec =

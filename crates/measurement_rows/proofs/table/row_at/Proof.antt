@@ -2,9 +2,9 @@
 use borrow.Author.Needs.{needs}
 use mathlib.Core.Path.{refl, sym}
 use lib.ListN.{List·getD-eq-default}
-use Rattle.measurement_table.specs.Table.{rows}
-use Rattle.measurement_table.proofs.table.row_at.Statement.{statement}
-use Rattle.measurement_table.proofs.table.row_at.Tie as tie
+use Rattle.measurement_rows.specs.Table.{rows}
+use Rattle.measurement_rows.proofs.table.row_at.Statement.{statement}
+use Rattle.measurement_rows.proofs.table.row_at.Tie as tie
 
 pub row-at-spec : {M : Type 1} → statement M
 unfolding rows

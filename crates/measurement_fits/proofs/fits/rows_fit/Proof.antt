@@ -7,10 +7,10 @@ use borrow.Author.Tests.{not-true, not-false}
 use Rattle.measurement_table.specs.Table.{rows, places}
 use Rattle.measurement_table.specs.Cells.{rowsFit}
 use Rattle.measurement_table.specs.Words.{held}
-use Rattle.measurement_writer.proofs.Walk.{row-shaped, row-next, places-next, places-start, heldBy, held-all, rows-fit-more, rows-fit-not, rows-fit-end}
+use Rattle.measurement_fits.proofs.Walk.{row-shaped, row-next, places-next, places-start, heldBy, held-all, rows-fit-more, rows-fit-not, rows-fit-end}
 use borrow.Author.Needs.{needs}
-use Rattle.measurement_writer.proofs.fits.rows_fit.Statement.{statement}
-use Rattle.measurement_writer.proofs.fits.rows_fit.Tie as tie
+use Rattle.measurement_fits.proofs.fits.rows_fit.Statement.{statement}
+use Rattle.measurement_fits.proofs.fits.rows_fit.Tie as tie
 
 abbrev Inv-loop : tie.InvT-loop
 Inv-loop words i₀ place₀ i place =

@@ -3,10 +3,10 @@ use Prim.Native.Nat.{_-_, _≤_}
 use mathlib.Core.Path.{_≡_, refl, _∙_}
 use native.Mathlib.Omega.{arith}
 use Rattle.measurement_table.specs.Words.{marksFit}
-use Rattle.measurement_writer.proofs.Walk.{mark-not, mark-more, marks-end}
+use Rattle.measurement_fits.proofs.Walk.{mark-not, mark-more, marks-end}
 use borrow.Author.Needs.{needs}
-use Rattle.measurement_writer.proofs.fits.marks_fit.Statement.{statement}
-use Rattle.measurement_writer.proofs.fits.marks_fit.Tie as tie
+use Rattle.measurement_fits.proofs.fits.marks_fit.Statement.{statement}
+use Rattle.measurement_fits.proofs.fits.marks_fit.Tie as tie
 
 abbrev Inv-loop : tie.InvT-loop
 Inv-loop words i₀ i = (i ≤ 36) × (marksFit words (36 - i) i ≡ marksFit words 36 0)
