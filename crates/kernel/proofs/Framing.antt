@@ -16,6 +16,7 @@ use Rattle.messages.specs.declared.Outcome.{Outcome}
 use Rattle.messages.specs.declared.Request.{Request}
 use Rattle.messages.specs.declared.Response.{Response}
 use Rattle.cbor.specs.Item.{Item, payloadOf}
+use Rattle.replies.specs.Replies.{replyTo}
 use Rattle.frames.specs.Prefix.{framed, payloadIn}
 use Rattle.frames.specs.Requests.{fromPayload, readRequest}
 use Rattle.frames.specs.Responses.{responseItem, statusAlone}
@@ -58,7 +59,7 @@ module _ (frame : List ℕ) where
       go false = refl
 
 module _ (ws : List ℕ) (z t : ℕ) (r : Request) (full : length ws ≡ words) where
-  pub responds : (x : Decision) (o : Outcome) → x ≡ decisionOf ws z t (r .command) → o ≡ outcomeFor ws t (r .command) x → record { id = r .id; status = x .number; outcome = o } ≡ responseTo ws z t r
+  pub responds : (x : Decision) (o : Outcome) → x ≡ decisionOf ws z t (r .command) → o ≡ outcomeFor ws t (r .command) x → replyTo r (x .number) o ≡ responseTo ws z t r
   unfolding responseTo commandAnswer
   responds x o e f =
       let a = answered ws z t (r .command) full x o e f in
@@ -98,16 +99,16 @@ pub record Ready (ws : List ℕ) (z t : ℕ) (r : Request) (x : Decision) (w : W
   pub written : w ≡ writtenOf 0 (responseFrame ws z t (Reading.Is r)) (length out)
   pub output : left ≡ outFrom ws z t (Reading.Is r) out
 
-pub ready : (ws : List ℕ) (z t : ℕ) (r : Request) (x : Decision) (o : Outcome) (w : Written) (out left : List ℕ) → length ws ≡ words
-    → x ≡ decisionOf ws z t (r .command) → o ≡ outcomeFor ws t (r .command) x
-    → w ≡ writtenOf 0 (itemFrame (responseItem (record { id = r .id; status = x .number; outcome = o }))) (length out)
-    → left ≡ leftBy 0 (itemFrame (responseItem (record { id = r .id; status = x .number; outcome = o }))) out
+pub ready : (ws : List ℕ) (z t : ℕ) (r : Request) (x : Decision) (o : Outcome) (s : Response) (w : Written) (out left : List ℕ) → length ws ≡ words
+    → x ≡ decisionOf ws z t (r .command) → o ≡ outcomeFor ws t (r .command) x → s ≡ replyTo r (x .number) o
+    → w ≡ writtenOf 0 (itemFrame (responseItem s)) (length out) → left ≡ leftBy 0 (itemFrame (responseItem s)) out
     → Ready ws z t r x w out left
 unfolding responseTo responseFrame
-ready ws z t r x o w out left full e f k l =
-    let q = responds ws z t r full x o e f in
+ready ws z t r x o s w out left full e f g k l =
+    let p = responds ws z t r full x o e f in
+    let q = g ∙ p in
     record {
-      number = ap (λ (y : Response). y .status) q;
+      number = ap (λ (y : Response). y .status) p;
       written = k ∙ rw q;
       output = l ∙ rw q (left-whole (responseFrame ws z t (Reading.Is r)) out);
     }
@@ -138,12 +139,12 @@ module _ (ws : List ℕ) (z t : ℕ) (out : List ℕ) where
   unfolding frameAnswer frameAfter frameOut readRequest
   not-framed bytes f device left e h = rw e h
 
-  pub unserved-answer : (i : ℕ) (w : Written) (left : List ℕ)
-      → w ≡ writtenOf 0 (itemFrame (responseItem (statusAlone i 4))) (length out) → left ≡ leftBy 0 (itemFrame (responseItem (statusAlone i 4))) out
+  pub unserved-answer : (i : ℕ) (s : Response) (w : Written) (left : List ℕ) → s ≡ statusAlone i 4
+      → w ≡ writtenOf 0 (itemFrame (responseItem s)) (length out) → left ≡ leftBy 0 (itemFrame (responseItem s)) out
       → Answers ws z t (Reading.Unserved i) out (record { number = 4; length = w .length }) ws left
   unfolding numberFrom responseFrame
-  unserved-answer i w left e f =
-      rw (e, f, written-length (itemFrame (responseItem (statusAlone i 4))) (length out))
+  unserved-answer i s w left g e f =
+      rw (e, f, g, written-length (itemFrame (responseItem (statusAlone i 4))) (length out))
       (refl, (refl, left-whole (itemFrame (responseItem (statusAlone i 4))) out))
 
   pub refused-reading : (n : ℕ) → Answers ws z t (Reading.Refused n) out (record { number = n; length = 0 }) ws out

@@ -7,6 +7,7 @@ use lib.ListN.{length}
 use Rattle.bytes.specs.Bytes.{putWhole}
 use Rattle.messages.specs.declared.Request.{Request}
 use Rattle.messages.specs.declared.Response.{Response}
+use Rattle.replies.specs.Replies.{replyTo}
 use Rattle.frames.specs.Requests.{readRequest, readingNumber}
 use Rattle.frames.specs.Responses.{responseItem, statusAlone}
 use Rattle.frames.specs.Writing.{itemFrame, writingNumber}
@@ -16,8 +17,7 @@ use Rattle.kernel.specs.declared.frame_call.Framed.{Framed}
 
 -- the response to a request: its message id, the number as status, and the result where one stands
 unfoldable pub responseTo : List ℕ → ℕ → ℕ → Request → Response
-responseTo ws z t r =
-    record { id = r .id; status = commandNumber ws z t (r .command); outcome = commandAnswer ws z t (r .command) .outcome }
+responseTo ws z t r = replyTo r (commandNumber ws z t (r .command)) (commandAnswer ws z t (r .command) .outcome)
 
 -- the table's column "Response frame": none at 1, 2 and 3; status 4; a status and its result else
 unfoldable pub responseFrame : List ℕ → ℕ → ℕ → Reading → List ℕ

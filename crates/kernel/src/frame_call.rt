@@ -4,9 +4,9 @@ use device::commands::decide;
 use device::commands::enact;
 use device::commands::outcome_of;
 use frames::Reading;
-use messages::Outcome;
 use messages::Request;
-use messages::Response;
+use replies::reply_to;
+use replies::unserved_reply;
 use store::all;
 ghost use mathlib.Core.Path.{_≡_};
 ghost use lib.ListN.{length};
@@ -33,14 +33,7 @@ fn answer(d: &mut State, zone: u64, t: u64, r: Request, out: &mut [u8]) -> Frame
     let x = decide(d, zone, t, c);
     let n = x.number;
     let outcome = outcome_of(d, t, c, x);
-    let w = frames::frame_response(
-        out,
-        Response {
-            id: r.id,
-            status: n,
-            outcome: outcome,
-        },
-    );
+    let w = frames::frame_response(out, reply_to(r, n, outcome));
     if n != 0 {
         return Framed {
             number: n,
@@ -65,14 +58,7 @@ fn payload_call(d: &mut State, zone: u64, t: u64, payload: &[u8], out: &mut [u8]
     match frames::read_payload(payload) {
         Reading::Is(r) => answer(d, zone, t, r, out),
         Reading::Unserved(id) => {
-            let w = frames::frame_response(
-                out,
-                Response {
-                    id,
-                    status: 4,
-                    outcome: Outcome::Nothing,
-                },
-            );
+            let w = frames::frame_response(out, unserved_reply(id));
             Framed {
                 number: 4,
                 length: w.length,

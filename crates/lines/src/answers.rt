@@ -3,7 +3,6 @@ use crate::LONGEST;
 use conf_lines::conf;
 use frame_lines::with_bytes;
 use kernel::PLAN;
-use kernel::Settings;
 use kernel::State;
 use line_words::Command;
 use line_words::FIELDS;
@@ -17,6 +16,7 @@ use rescue_lines::rescue;
 use row_lines::rows;
 use scrap_lines::is_scrap;
 use scrap_lines::scrap;
+use start_lines::settings_of;
 use tick_lines::is_tick;
 use tick_lines::tick;
 use ticks::FRONT;
@@ -31,7 +31,6 @@ ghost use Prim.Native.Nat.{_≤_};
 ghost use lib.ListN.{length};
 ghost use Rattle.store.specs.Words.{fresh};
 ghost use Rattle.device.specs.Start.{refusedSettings};
-ghost use Rattle.lines.specs.Starts.{settingsIn};
 
 // The most words of a line.
 const WORDS: usize = 1 + FIELDS;
@@ -45,23 +44,6 @@ fn numbers_of(rows: u64) -> u64 {
         return rows * ROW;
     }
     0
-}
-
-fn settings_of(f: [u64; FIELDS]) -> Settings
-    ensures { λ r. ⌜ r ≡ settingsIn f ⌝ }
-{
-    Settings {
-        directions: f[0],
-        limits: f[1] == 1,
-        setpoints: f[2] == 1,
-        minimum: f[3],
-        maxima: [f[4], f[5]],
-        failsafe: [f[6], f[7]],
-        duration: f[8],
-        manager: f[9] == 1,
-        phases: f[10],
-        currents: f[11] == 1,
-    }
 }
 
 // The calls that answer a number only.

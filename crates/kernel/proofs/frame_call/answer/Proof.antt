@@ -13,18 +13,19 @@ answer-spec =
     tie.close
     (tie.spec
     (λ c κs. search needs) (λ c κs. search needs) (λ c κs. search needs) (λ c κs. search needs)
-    (λ c. search needs)
+    (λ c κs. search needs) (λ c. search needs)
     (λ c.
     let at-frame-response = c .before .before .before .frame-response in
-    let at-outcome-of = c .before .before .before .before .before .outcome-of in
-    let at-decide = c .before .before .before .before .before .before .before .decide in
+    let at-reply-to = c .before .before .before .before .reply-to in
+    let at-outcome-of = c .before .before .before .before .before .before .outcome-of in
     let back-8 = c .before .before .before .before .before .before .before .before in
-    let at-all = back-8 .before .all in
-    let at-args = back-8 .before .before .before .before .args in
+    let at-decide = back-8 .decide in
+    let at-all = back-8 .before .before .all in
+    let at-args = back-8 .before .before .before .before .before .args in
     let l : length (at-all .result) ≡ words = search needs in
-    let y = ready (at-args .d .now) (at-args .zone) (at-args .t) (at-args .r) (at-decide .result) (at-outcome-of .result) (at-frame-response .result)
-    (at-args .out .now) _ (sym (ap length (at-all .ensures)) ∙ l) (at-decide .ensures) (at-outcome-of .ensures) (at-frame-response .ensures .0)
-    (at-frame-response .ensures .1) in
+    let y = ready (at-args .d .now) (at-args .zone) (at-args .t) (at-args .r) (at-decide .result) (at-outcome-of .result) (at-reply-to .result)
+    (at-frame-response .result) (at-args .out .now) _ (sym (ap length (at-all .ensures)) ∙ l) (at-decide .ensures) (at-outcome-of .ensures)
+    (at-reply-to .ensures) (at-frame-response .ensures .0) (at-frame-response .ensures .1) in
     let a = refused-answer (at-args .d .now) (at-args .zone) (at-args .t) (at-args .r) (at-args .out .now) (at-decide .result .number)
     (at-frame-response .result) (y .number) (c .if1 .taken) (y .written) in
     (a .0, (a .1, y .output)))
@@ -34,14 +35,15 @@ answer-spec =
     let at-if1 = c .before .before .before .before .if1 in
     let at-frame-response = c .before .before .before .before .before .before .before .frame-response in
     let back-8 = c .before .before .before .before .before .before .before .before in
-    let at-outcome-of = back-8 .before .outcome-of in
-    let at-decide = back-8 .before .before .before .decide in
-    let at-all = back-8 .before .before .before .before .before .all in
-    let at-args = back-8 .before .before .before .before .before .before .before .before .args in
+    let at-reply-to = back-8 .reply-to in
+    let at-outcome-of = back-8 .before .before .outcome-of in
+    let at-decide = back-8 .before .before .before .before .decide in
+    let at-all = back-8 .before .before .before .before .before .before .all in
+    let at-args = back-8 .before .before .before .before .before .before .before .before .before .args in
     let l : length (at-all .result) ≡ words = search needs in
-    let y = ready (at-args .d .now) (at-args .zone) (at-args .t) (at-args .r) (at-decide .result) (at-outcome-of .result) (at-frame-response .result)
-    (at-args .out .now) _ (sym (ap length (at-all .ensures)) ∙ l) (at-decide .ensures) (at-outcome-of .ensures) (at-frame-response .ensures .0)
-    (at-frame-response .ensures .1) in
+    let y = ready (at-args .d .now) (at-args .zone) (at-args .t) (at-args .r) (at-decide .result) (at-outcome-of .result) (at-reply-to .result)
+    (at-frame-response .result) (at-args .out .now) _ (sym (ap length (at-all .ensures)) ∙ l) (at-decide .ensures) (at-outcome-of .ensures)
+    (at-reply-to .ensures) (at-frame-response .ensures .0) (at-frame-response .ensures .1) in
     let n = sym (y .number) ∙ at-if1 .left in (
       accepted-answer (at-args .d .now) (at-args .zone) (at-args .t) (at-args .r) (at-args .out .now) (at-frame-response .result) n (y .written),
       (
@@ -54,15 +56,16 @@ answer-spec =
     (λ c.
     let at-if1 = c .before .before .if1 in
     let at-frame-response = c .before .before .before .before .before .frame-response in
-    let at-outcome-of = c .before .before .before .before .before .before .before .outcome-of in
+    let at-reply-to = c .before .before .before .before .before .before .reply-to in
     let back-8 = c .before .before .before .before .before .before .before .before in
-    let at-decide = back-8 .before .decide in
-    let at-all = back-8 .before .before .before .all in
-    let at-args = back-8 .before .before .before .before .before .before .args in
+    let at-outcome-of = back-8 .outcome-of in
+    let at-decide = back-8 .before .before .decide in
+    let at-all = back-8 .before .before .before .before .all in
+    let at-args = back-8 .before .before .before .before .before .before .before .args in
     let l : length (at-all .result) ≡ words = search needs in
-    let y = ready (at-args .d .now) (at-args .zone) (at-args .t) (at-args .r) (at-decide .result) (at-outcome-of .result) (at-frame-response .result)
-    (at-args .out .now) _ (sym (ap length (at-all .ensures)) ∙ l) (at-decide .ensures) (at-outcome-of .ensures) (at-frame-response .ensures .0)
-    (at-frame-response .ensures .1) in
+    let y = ready (at-args .d .now) (at-args .zone) (at-args .t) (at-args .r) (at-decide .result) (at-outcome-of .result) (at-reply-to .result)
+    (at-frame-response .result) (at-args .out .now) _ (sym (ap length (at-all .ensures)) ∙ l) (at-decide .ensures) (at-outcome-of .ensures)
+    (at-reply-to .ensures) (at-frame-response .ensures .0) (at-frame-response .ensures .1) in
     let n = sym (y .number) ∙ at-if1 .left in (
       accepted-answer (at-args .d .now) (at-args .zone) (at-args .t) (at-args .r) (at-args .out .now) (at-frame-response .result) n (y .written),
       (

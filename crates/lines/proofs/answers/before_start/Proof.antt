@@ -3,7 +3,7 @@ use mathlib.Core.Path.{ap, _∙_}
 use borrow.Author.Needs.{needs}
 use Rattle.rules.specs.Rules.{badSettings}
 use Rattle.device.specs.Start.{startAfter}
-use Rattle.lines.specs.Starts.{settingsIn}
+use Rattle.start_lines.specs.Starts.{settingsIn}
 use Rattle.lines.proofs.answers.before_start.Statement.{statement}
 use Rattle.lines.proofs.answers.before_start.Tie as tie
 

@@ -1,8 +1,8 @@
 -- Each field is the number that stands in its place, and a flag is set where that number is 1.
 use borrow.Author.Needs.{needs}
-use Rattle.lines.specs.Starts.{settingsIn}
-use Rattle.lines.proofs.answers.settings_of.Statement.{statement}
-use Rattle.lines.proofs.answers.settings_of.Tie as tie
+use Rattle.start_lines.specs.Starts.{settingsIn}
+use Rattle.start_lines.proofs.settings_of.Statement.{statement}
+use Rattle.start_lines.proofs.settings_of.Tie as tie
 
 pub settings-of-spec : {M : Type 1} → statement M
 unfolding settingsIn
