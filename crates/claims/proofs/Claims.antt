@@ -15,8 +15,8 @@ use Rattle.store.specs.Sizes.{most}
 use Rattle.store.specs.Zones.{upTo, seatOf, idOf, rankOf, freeZone, isJoined, heldOf}
 use Rattle.claims.specs.Claim.{Claim, noClaim, claimOf, goesBefore, better, winner}
 use Rattle.claims.specs.Ends.{zoneDues, heldDues}
-use Rattle.table_rules.specs.Edges.{nearer}
-use Rattle.table_rules.specs.Leaves.{lesser}
+use Rattle.quantities.specs.Smaller.{nearer}
+use Rattle.quantities.specs.Smaller.{lesser}
 use Rattle.claims.specs.Pass.{takes, numberOf, placeOf, turns, lowStep, leadStep, lowsWith, leadsWith, Bounded, Stands, LowsMet, LeadsMet, Adds}
 use Rattle.store.specs.declared.Held.{Held}
 use Rattle.store.specs.declared.Zone.{Zone}

@@ -10,8 +10,8 @@ use Rattle.store.specs.Sizes.{ids, most}
 use Rattle.store.specs.Zones.{seatOf, heldOf}
 use Rattle.store.specs.declared.Held.{Held}
 use Rattle.store.specs.declared.Zone.{Zone}
-use Rattle.table_rules.specs.Edges.{nearer}
-use Rattle.table_rules.specs.Leaves.{lesser}
+use Rattle.quantities.specs.Smaller.{nearer}
+use Rattle.quantities.specs.Smaller.{lesser}
 use Rattle.claims.specs.Claim.{Claim, claimOf, better}
 use Rattle.claims.specs.declared.passes.Lows.{Lows}
 use Rattle.claims.specs.declared.passes.Leads.{Leads}

@@ -4,6 +4,7 @@ use quantities::LEADS;
 use quantities::LIMITS;
 use quantities::LOWS;
 use quantities::SETPOINTS;
+use quantities::least;
 use store::END;
 use store::Held;
 use store::IDS;
@@ -14,7 +15,6 @@ use store::Zone;
 use store::held_at;
 use store::id_at;
 use store::seat_at;
-use table_rules::least;
 ghost use mathlib.Core.Path.{_≡_};
 ghost use Prim.Native.Nat.{_<_, _≤_};
 ghost use mathlib.Core.List.{foldl};
@@ -25,7 +25,7 @@ ghost use Rattle.store.specs.Zones.{freeZone};
 ghost use Rattle.store.specs.Words.{zonesOf};
 ghost use Rattle.claims.specs.Claim.{noClaim, winner};
 ghost use Rattle.claims.specs.Ends.{zoneDues, lowDues, leadDues};
-ghost use Rattle.table_rules.specs.Edges.{nearer};
+ghost use Rattle.quantities.specs.Smaller.{nearer};
 ghost use Rattle.claims.specs.Pass.{lowStep, leadStep, LowsMet, LeadsMet, Adds};
 
 // The smallest value of each quantity that goes by it, met so far. MOST is none.

@@ -8,7 +8,7 @@ use Rattle.holds.specs.Holds.{Situation, valuesAt}
 use Rattle.holds.specs.declared.View.{View}
 pub use Rattle.claims.specs.Ends.{lowDues, leadDues}
 unfoldable pub use Rattle.claims.specs.Ends.{zoneDues, heldDues}
-unfoldable pub use Rattle.table_rules.specs.Edges.{nearer}
+unfoldable pub use Rattle.quantities.specs.Smaller.{nearer}
 
 -- the seconds at which what holds can change, links and override unmoved; with no link up no setpoint counts
 unfoldable pub dues : Situation → List ℕ

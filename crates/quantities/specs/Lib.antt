@@ -1,1 +1,2 @@
 pub mod Quantities
+pub mod Smaller

@@ -2,6 +2,7 @@
 // current limits phase by phase, consumption first.
 ghost use mathlib.Core.Path.{_≡_};
 ghost use Rattle.quantities.specs.Quantities.{isLimit, isCurrent, directionOf, phaseOf, supports};
+ghost use Rattle.quantities.specs.Smaller.{lesser};
 
 // Power limits, setpoints, phases; and how many quantities that makes.
 pub const LIMITS: usize = 2;
@@ -62,4 +63,11 @@ pub fn supports(has: u64, d: u64) -> bool
         return has == d;
     }
     false
+}
+
+// The smaller of two numbers.
+pub fn least(a: u64, b: u64) -> u64
+    ensures { λ r. ⌜ r ≡ lesser a b ⌝ }
+{
+    if a < b { a } else { b }
 }

@@ -18,8 +18,9 @@ use Rattle.store.specs.Zones.{upTo}
 use Rattle.store.specs.declared.Settings.{Settings}
 use Rattle.store.proofs.Runs.{upTo-list}
 use Rattle.control_state.specs.States.{stateUp}
-use Rattle.table_rules.specs.Leaves.{lesser, topOf, shownBelow, numberIn, shownIn, Filled}
-use Rattle.table_rules.proofs.Ends.{lesser-swap}
+use Rattle.table_rules.specs.Leaves.{topOf, shownBelow, numberIn, shownIn, Filled}
+use Rattle.quantities.specs.Smaller.{lesser}
+use Rattle.quantities.proofs.Smaller.{lesser-swap}
 use Rattle.claims.specs.Claim.{Claim}
 use Rattle.claims.specs.Pass.{numberOf, LowsMet}
 use Rattle.claims.specs.declared.passes.Lows.{Lows}

@@ -6,8 +6,8 @@ use native.Mathlib.Decide.{decLt}
 use native.Mathlib.Omega.{arith}
 use borrow.Author.Tests.{lt-ltb, le-ltb}
 use lib.Dec.{ltb}
-use Rattle.table_rules.specs.Edges.{nearer}
-use Rattle.table_rules.specs.Leaves.{lesser}
+use Rattle.quantities.specs.Smaller.{nearer}
+use Rattle.quantities.specs.Smaller.{lesser}
 
 -- two tests agree where each follows from the other
 pub same-test : (a b c d : ℕ) → (a < b → c < d) → (c < d → a < b) → ltb a b ≡ ltb c d
@@ -28,15 +28,3 @@ nearer-far cur r e h = go (ltb cur e)
     go : (b : Bool) → r ≡ cond (b && ltb e r) e r
     go true = rw (le-ltb e r h)
     go false = refl
-
--- of two numbers the smaller, in either order
-pub lesser-swap : (a b : ℕ) → lesser a b ≡ lesser b a
-unfolding lesser
-lesser-swap a b =
-    elim (decLt a b) [
-      | yes h ↦ rw (lt-ltb a b h, le-ltb b a (omega arith))
-      | no h ↦ elim (decLt b a) [
-        | yes k ↦ rw (lt-ltb b a k, le-ltb a b (omega arith))
-        | no k ↦ let e : a ≡ b = omega arith in rw e
-      ]
-    ]

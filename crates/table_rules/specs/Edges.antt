@@ -1,6 +1,6 @@
--- What is shown of a value, and the nearer of two seconds.
+-- What is shown of a value.
 use Prim.Native.Nat.{ℕ}
-use mathlib.Core.Bool.{cond, _&&_}
+use mathlib.Core.Bool.{cond}
 use lib.Dec.{ltb}
 use lib.IntN.{ℤ, pos, negsuc}
 use Rattle.messages.specs.declared.Amount.{Amount}
@@ -11,7 +11,3 @@ use Rattle.store.specs.Sizes.{valueEnd}
 unfoldable pub shown : Amount → ℤ
 shown Absent = negsuc 0
 shown (Is v) = cond (ltb v valueEnd) (pos v) (negsuc 0)
-
--- the nearer of r and, where it lies past cur, e
-unfoldable pub nearer : ℕ → ℕ → ℕ → ℕ
-nearer cur r e = cond (ltb cur e && ltb e r) e r

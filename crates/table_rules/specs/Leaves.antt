@@ -9,10 +9,6 @@ use lib.ListN.{getD}
 use Rattle.quantities.specs.Quantities.{limits, setpoints, isLimit, isSetpoint, directionOf, supports}
 use Rattle.store.specs.Sizes.{valueEnd}
 
--- the smaller of two numbers
-unfoldable pub lesser : ℕ → ℕ → ℕ
-lesser a b = cond (ltb a b) a b
-
 -- the first number that is not shown in a direction: 0 where it is not supported
 unfoldable pub topOf : ℕ → ℕ → ℕ
 topOf has d = cond (supports has d) valueEnd 0

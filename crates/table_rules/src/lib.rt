@@ -17,15 +17,10 @@ ghost use lib.Dec.{ltb};
 ghost use lib.ListN.{length};
 ghost use Rattle.quantities.specs.Quantities.{helds};
 ghost use Rattle.store.specs.Sizes.{end, valueEnd};
-ghost use Rattle.table_rules.specs.Edges.{shown, nearer};
-ghost use Rattle.table_rules.specs.Leaves.{lesser, topOf, shownBelow, numberIn, shownIn, Filled};
-
-// The smaller of two numbers.
-pub fn least(a: u64, b: u64) -> u64
-    ensures { λ r. ⌜ r ≡ lesser a b ⌝ }
-{
-    if a < b { a } else { b }
-}
+ghost use Rattle.table_rules.specs.Edges.{shown};
+ghost use Rattle.quantities.specs.Smaller.{nearer};
+ghost use Rattle.table_rules.specs.Leaves.{topOf, shownBelow, numberIn, shownIn, Filled};
+ghost use Rattle.quantities.specs.Smaller.{lesser};
 
 // A value at the edges: -1 where it is absent, or too large to be one.
 pub fn shown(a: Amount) -> i64

@@ -2,7 +2,7 @@
 use Prim.Native.Nat.{ℕ}
 use mathlib.Core.Path.{_∙_, ap}
 use native.Mathlib.Omega.{arith}
-use Rattle.table_rules.specs.Leaves.{lesser}
+use Rattle.quantities.specs.Smaller.{lesser}
 use Rattle.table_rows.proofs.Filled.{low-safe}
 use Rattle.table_rows.proofs.safe_low.Statement.{statement}
 use Rattle.table_rows.proofs.safe_low.Tie as tie

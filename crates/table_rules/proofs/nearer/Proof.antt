@@ -1,6 +1,6 @@
 -- An end past now and before the nearest so far is the nearest.
 use borrow.Author.Tests.{lt-ltb, le-ltb}
-use Rattle.table_rules.specs.Edges.{nearer}
+use Rattle.quantities.specs.Smaller.{nearer}
 use Rattle.table_rules.proofs.nearer.Statement.{statement}
 use Rattle.table_rules.proofs.nearer.Tie as tie
 

@@ -3,10 +3,10 @@ use mathlib.Core.Path.{_∙_}
 use native.Mathlib.Omega.{arith}
 use borrow.Author.Needs.{needs}
 use borrow.Author.Tests.{lt-ltb, le-ltb, le-leb, lt-leb}
-use Rattle.table_rules.specs.Edges.{nearer}
-use Rattle.table_rules.specs.Leaves.{lesser}
+use Rattle.quantities.specs.Smaller.{nearer}
+use Rattle.quantities.specs.Smaller.{lesser}
 use Rattle.claims.specs.Pass.{takes, leadStep}
-use Rattle.table_rules.proofs.Ends.{lesser-swap}
+use Rattle.quantities.proofs.Smaller.{lesser-swap}
 use Rattle.claims.proofs.passes.lead_with.Statement.{statement}
 use Rattle.claims.proofs.passes.lead_with.Tie as tie
 

@@ -1,8 +1,8 @@
 -- The smaller of two, by one test.
 use borrow.Author.Tests.{lt-ltb, le-ltb}
-use Rattle.table_rules.specs.Leaves.{lesser}
-use Rattle.table_rules.proofs.least.Statement.{statement}
-use Rattle.table_rules.proofs.least.Tie as tie
+use Rattle.quantities.specs.Smaller.{lesser}
+use Rattle.quantities.proofs.least.Statement.{statement}
+use Rattle.quantities.proofs.least.Tie as tie
 
 pub least-spec : {M : Type 1} → statement M
 unfolding lesser
