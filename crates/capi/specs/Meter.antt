@@ -1,9 +1,9 @@
 -- What is measured, as C reads and writes it: words, and a number for each way of flow. Assumes nothing: these are definitions.
 use Prim.Native.Nat.{ℕ}
 use mathlib.Core.List.{List}
-use Rattle.cbor.specs.Item.{encode}
-use Rattle.sender.specs.Writing.{writtenOf, leftBy}
-use Rattle.sender.specs.declared.Written.{Written}
+use Rattle.wire_cbor.specs.Item.{encode}
+use Rattle.wire_output.specs.Writing.{writtenOf, leftBy}
+use Rattle.wire_output.specs.declared.Written.{Written}
 use Rattle.measurement_table.specs.Table.{rows}
 use Rattle.measurement_table.specs.Words.{held, rangeNumber}
 use Rattle.measurement_table.specs.Payload.{itemOf}

@@ -3,8 +3,8 @@ use Prim.Native.Nat.{ℕ}
 use mathlib.Core.List.{List}
 use lib.IntN.{ℤ}
 use Rattle.kernel.specs.Door.{Reading, Written, requestNumber, requestItem, itemFrame, writtenOf, leftBy}
-use Rattle.frames.specs.Requests.{readingNumber}
-use Rattle.flat_requests.specs.Requests.{requestOf, flatRequest, noRequest, requestIn}
+use Rattle.wire_requests.specs.Requests.{readingNumber}
+use Rattle.capi_messages.specs.Requests.{requestOf, flatRequest, noRequest, requestIn}
 use Rattle.capi.specs.declared.requests.FlatReading.{FlatReading}
 
 unfoldable pub flatReading : Reading → FlatReading

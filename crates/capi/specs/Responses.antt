@@ -3,8 +3,8 @@ use Prim.Native.Nat.{ℕ}
 use mathlib.Core.List.{List}
 use lib.IntN.{ℤ}
 use Rattle.kernel.specs.Door.{Answer, Written, responseNumber, responseItem, itemFrame, writtenOf, leftBy}
-use Rattle.frames.specs.Responses.{answerNumber}
-use Rattle.flat_responses.specs.Responses.{responseOf, flatResponse, noResponse, responseIn}
+use Rattle.wire_responses.specs.Responses.{answerNumber}
+use Rattle.capi_messages.specs.Responses.{responseOf, flatResponse, noResponse, responseIn}
 use Rattle.capi.specs.declared.responses.FlatAnswer.{FlatAnswer}
 
 unfoldable pub flatAnswer : Answer → FlatAnswer

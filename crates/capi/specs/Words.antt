@@ -2,7 +2,7 @@
 use Prim.Native.Nat.{ℕ}
 use mathlib.Core.List.{List, [], _∷_}
 use Rattle.kernel.specs.Door.{Settings, Inputs}
-use Rattle.flat_fields.specs.Words.{at, yes}
+use Rattle.capi_fields.specs.Words.{at, yes}
 
 -- pairs go by direction: consumption, then production
 unfoldable pub settingsOf : List ℕ → Settings

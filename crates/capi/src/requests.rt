@@ -1,18 +1,18 @@
 // Requests for C: words and values, read and written as the kernel reads and writes.
-use flat_requests::FIELDS;
-use flat_requests::FlatRequest;
-use flat_requests::REQUEST;
-use flat_requests::flat_request;
-use flat_requests::no_request;
-use flat_requests::request_in;
-use flat_requests::request_of;
-use flat_requests::request_values;
-use flat_requests::request_words;
+use capi_messages::FIELDS;
+use capi_messages::FlatRequest;
+use capi_messages::REQUEST;
+use capi_messages::flat_request;
+use capi_messages::no_request;
+use capi_messages::request_in;
+use capi_messages::request_of;
+use capi_messages::request_values;
+use capi_messages::request_words;
 use kernel::Reading;
 ghost use mathlib.Core.Path.{_≡_};
 ghost use lib.ListN.{length};
 ghost use Rattle.kernel.specs.Door.{readRequest};
-ghost use Rattle.flat_requests.specs.Requests.{requestWords, requestValues};
+ghost use Rattle.capi_messages.specs.Requests.{requestWords, requestValues};
 ghost use Rattle.capi.specs.Requests.{flatReading, requestWritten, requestLeft};
 
 pub struct FlatReading {

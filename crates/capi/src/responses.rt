@@ -1,18 +1,18 @@
 // Responses for C: words and values, read and written as the kernel reads and writes.
-use flat_responses::AMOUNTS;
-use flat_responses::FlatResponse;
-use flat_responses::RESPONSE;
-use flat_responses::flat_response;
-use flat_responses::no_response;
-use flat_responses::response_in;
-use flat_responses::response_of;
-use flat_responses::response_values;
-use flat_responses::response_words;
+use capi_messages::AMOUNTS;
+use capi_messages::FlatResponse;
+use capi_messages::RESPONSE;
+use capi_messages::flat_response;
+use capi_messages::no_response;
+use capi_messages::response_in;
+use capi_messages::response_of;
+use capi_messages::response_values;
+use capi_messages::response_words;
 use kernel::Answer;
 ghost use mathlib.Core.Path.{_≡_};
 ghost use lib.ListN.{length};
 ghost use Rattle.kernel.specs.Door.{readResponse};
-ghost use Rattle.flat_responses.specs.Responses.{responseWords, responseValues};
+ghost use Rattle.capi_messages.specs.Responses.{responseWords, responseValues};
 ghost use Rattle.capi.specs.Responses.{flatAnswer, responseWritten, responseLeft};
 
 pub struct FlatAnswer {

@@ -1,5 +1,5 @@
 // Settings and inputs as lent words, one number each, in the order of the header's structs.
-use flat_fields::is_yes;
+use capi_fields::is_yes;
 use kernel::Inputs;
 use kernel::Settings;
 ghost use mathlib.Core.Path.{_≡_};

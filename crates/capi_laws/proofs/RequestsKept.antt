@@ -5,24 +5,26 @@ use mathlib.Core.Bool.{Bool, true, false, cond, not, _&&_}
 use native.Mathlib.Omega.{arith}
 use lib.Dec.{eqb}
 use borrow.Author.Tests.{eqb-true}
-use Rattle.messages.specs.declared.Field.{Field}
-use Rattle.messages.specs.declared.Target.{Target}
-use Rattle.messages.specs.declared.Aim.{Aim}
-use Rattle.messages.specs.declared.Amount.{Amount}
-use Rattle.messages.specs.declared.Limits.{Limits}
-use Rattle.messages.specs.declared.Setpoints.{Setpoints}
-use Rattle.messages.specs.declared.Phases.{Phases}
-use Rattle.messages.specs.declared.CurrentLimits.{CurrentLimits}
-use Rattle.messages.specs.declared.Command.{Command}
-use Rattle.messages.specs.declared.Request.{Request}
-use Rattle.messages.specs.Refusals.{firstOf}
-use Rattle.frames.specs.Requests.{isServed, servedAt, readRequest, requestItem, requestWide, requestUnserved, requestNumber}
-use Rattle.frames.specs.Writing.{itemFrame}
-use Rattle.request_reader.specs.declared.requests.Reading.{Reading}
-use Rattle.frame_laws.proofs.RequestBack.{request-reads-back}
-use Rattle.frame_laws.proofs.RequestAgain.{request-writable}
-use Rattle.flat_fields.specs.Fields.{fieldOf, targetOf, aimOf, setpointTime, limitKind, setpointKind, flatField, flatTarget, hasAim, aimed, timeOf, isLasting}
-use Rattle.flat_requests.specs.Requests.{limitsOf, setpointsOf, phasesOf, currentsOf, currentCommand, commandOf, requestOf, flatSet, flatCurrents, flatClear, flatRequest}
+use Rattle.wire_messages.specs.declared.Field.{Field}
+use Rattle.wire_messages.specs.declared.Target.{Target}
+use Rattle.wire_messages.specs.declared.Aim.{Aim}
+use Rattle.wire_messages.specs.declared.Amount.{Amount}
+use Rattle.wire_messages.specs.declared.Limits.{Limits}
+use Rattle.wire_messages.specs.declared.Setpoints.{Setpoints}
+use Rattle.wire_messages.specs.declared.Phases.{Phases}
+use Rattle.wire_messages.specs.declared.CurrentLimits.{CurrentLimits}
+use Rattle.wire_messages.specs.declared.Command.{Command}
+use Rattle.wire_messages.specs.declared.Request.{Request}
+use Rattle.wire_messages.specs.Refusals.{firstOf}
+use Rattle.wire_requests.specs.WrittenRequests.{isServed, requestItem, requestWide, requestUnserved, requestNumber}
+use Rattle.wire_messages.specs.Numbers.{servedAt}
+use Rattle.wire_requests.specs.Requests.{readRequest}
+use Rattle.wire_output.specs.Writing.{itemFrame}
+use Rattle.wire_requests.specs.declared.reading.Reading.{Reading}
+use Rattle.wire_laws.proofs.RequestBack.{request-reads-back}
+use Rattle.wire_laws.proofs.RequestAgain.{request-writable}
+use Rattle.capi_fields.specs.Fields.{fieldOf, targetOf, aimOf, setpointTime, limitKind, setpointKind, flatField, flatTarget, hasAim, aimed, timeOf, isLasting}
+use Rattle.capi_messages.specs.Requests.{limitsOf, setpointsOf, phasesOf, currentsOf, currentCommand, commandOf, requestOf, flatSet, flatCurrents, flatClear, flatRequest}
 use Rattle.capi.specs.Requests.{flatReading}
 use Rattle.capi_laws.specs.Inverse.{RequestKept, Plain, ReadPlain, FlatReadsBack}
 

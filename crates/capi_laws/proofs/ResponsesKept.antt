@@ -5,23 +5,24 @@ use mathlib.Core.Bool.{Bool, true, false, cond, not, _&&_, _||_}
 use native.Mathlib.Omega.{arith}
 use lib.Dec.{ltb, leb, eqb}
 use borrow.Author.Tests.{leb-true, lt-ltb, eqb-true}
-use Rattle.messages.specs.Refusals.{firstOf}
-use Rattle.messages.specs.declared.Amount.{Amount}
-use Rattle.messages.specs.declared.LimitResult.{LimitResult}
-use Rattle.messages.specs.declared.SetpointResult.{SetpointResult}
-use Rattle.messages.specs.declared.CurrentResult.{CurrentResult}
-use Rattle.messages.specs.declared.Outcome.{Outcome}
-use Rattle.messages.specs.declared.Response.{Response}
-use Rattle.map_fields.specs.Fields.{mostValue}
-use Rattle.frames.specs.Requests.{servedCommand}
-use Rattle.frames.specs.Responses.{isStatus, stands, readResponse, responseItem, amountUpTo, limitInRange, setpointInRange, currentInRange, goesWith, isNothing, fits, responseFits, responseNumber}
-use Rattle.frames.specs.Writing.{itemFrame}
-use Rattle.response_reader.specs.declared.responses.Answer.{Answer}
-use Rattle.frame_laws.proofs.ResponseBack.{response-reads-back}
-use Rattle.frame_laws.proofs.ResponseAgain.{response-writable}
-use Rattle.holds.specs.Holds.{shown}
-use Rattle.flat_fields.specs.Amounts.{valueEnd, amountOf, flatAmount}
-use Rattle.flat_responses.specs.Responses.{limitOf, setpointOf, currentOf, outcomeOf, responseOf, flat, flatCurrent, flatResponse}
+use Rattle.wire_messages.specs.Refusals.{firstOf}
+use Rattle.wire_messages.specs.declared.Amount.{Amount}
+use Rattle.wire_messages.specs.declared.LimitResult.{LimitResult}
+use Rattle.wire_messages.specs.declared.SetpointResult.{SetpointResult}
+use Rattle.wire_messages.specs.declared.CurrentResult.{CurrentResult}
+use Rattle.wire_messages.specs.declared.Outcome.{Outcome}
+use Rattle.wire_messages.specs.declared.Response.{Response}
+use Rattle.wire_fields.specs.Fields.{mostValue}
+use Rattle.wire_messages.specs.Numbers.{servedCommand}
+use Rattle.wire_responses.specs.Responses.{isStatus, stands, readResponse}
+use Rattle.wire_responses.specs.WrittenResponses.{responseItem, amountUpTo, limitInRange, setpointInRange, currentInRange, goesWith, isNothing, fits, responseFits, responseNumber}
+use Rattle.wire_output.specs.Writing.{itemFrame}
+use Rattle.wire_responses.specs.declared.reading.Answer.{Answer}
+use Rattle.wire_laws.proofs.ResponseBack.{response-reads-back}
+use Rattle.wire_laws.proofs.ResponseAgain.{response-writable}
+use Rattle.device_holds.specs.Holds.{shown}
+use Rattle.capi_fields.specs.Amounts.{valueEnd, amountOf, flatAmount}
+use Rattle.capi_messages.specs.Responses.{limitOf, setpointOf, currentOf, outcomeOf, responseOf, flat, flatCurrent, flatResponse}
 use Rattle.capi.specs.Responses.{flatAnswer}
 use Rattle.capi_laws.specs.Inverse.{AmountShown, ResponseKept, AnswerPlain, FlatAnswerReadsBack}
 

@@ -4,21 +4,23 @@ use Prim.Native.Nat.{ℕ}
 use mathlib.Core.Path.{_≡_}
 use mathlib.Core.Bool.{true}
 use mathlib.Core.List.{List}
-use Rattle.messages.specs.declared.Amount.{Amount}
-use Rattle.messages.specs.declared.Request.{Request}
-use Rattle.messages.specs.declared.Response.{Response}
-use Rattle.frames.specs.Requests.{isServed, readRequest, requestItem, requestNumber}
-use Rattle.frames.specs.Responses.{readResponse, responseItem, responseNumber}
-use Rattle.frame_laws.specs.RoundTrips.{Command64}
-use Rattle.frames.specs.Writing.{itemFrame}
-use Rattle.request_reader.specs.declared.requests.Reading.{Reading}
-use Rattle.response_reader.specs.declared.responses.Answer.{Answer}
-use Rattle.holds.specs.Holds.{shown}
-use Rattle.flat_fields.specs.Amounts.{flatAmount}
-use Rattle.flat_requests.specs.Requests.{requestOf, flatRequest}
-use Rattle.flat_responses.specs.Responses.{responseOf, flatResponse}
-use Rattle.flat_requests.specs.declared.FlatRequest.{FlatRequest}
-use Rattle.flat_responses.specs.declared.FlatResponse.{FlatResponse}
+use Rattle.wire_messages.specs.declared.Amount.{Amount}
+use Rattle.wire_messages.specs.declared.Request.{Request}
+use Rattle.wire_messages.specs.declared.Response.{Response}
+use Rattle.wire_requests.specs.WrittenRequests.{isServed, requestItem, requestNumber}
+use Rattle.wire_requests.specs.Requests.{readRequest}
+use Rattle.wire_responses.specs.Responses.{readResponse}
+use Rattle.wire_responses.specs.WrittenResponses.{responseItem, responseNumber}
+use Rattle.wire_laws.specs.RoundTrips.{Command64}
+use Rattle.wire_output.specs.Writing.{itemFrame}
+use Rattle.wire_requests.specs.declared.reading.Reading.{Reading}
+use Rattle.wire_responses.specs.declared.reading.Answer.{Answer}
+use Rattle.device_holds.specs.Holds.{shown}
+use Rattle.capi_fields.specs.Amounts.{flatAmount}
+use Rattle.capi_messages.specs.Requests.{requestOf, flatRequest}
+use Rattle.capi_messages.specs.Responses.{responseOf, flatResponse}
+use Rattle.capi_messages.specs.declared.flat_requests.FlatRequest.{FlatRequest}
+use Rattle.capi_messages.specs.declared.flat_responses.FlatResponse.{FlatResponse}
 use Rattle.capi.specs.Requests.{flatReading}
 use Rattle.capi.specs.Responses.{flatAnswer}
 

@@ -1,1 +1,3 @@
 pub mod Params
+pub mod Fields
+pub mod Durations

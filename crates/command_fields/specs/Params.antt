@@ -2,12 +2,12 @@
 use Prim.Native.Nat.{ℕ}
 use mathlib.Core.Bool.{cond}
 use lib.Dec.{eqb}
-use Rattle.messages.specs.declared.Field.{Field}
-use Rattle.messages.specs.declared.Target.{Target}
-use Rattle.messages.specs.declared.Aim.{Aim}
-use Rattle.messages.specs.declared.Limits.{Limits}
-use Rattle.messages.specs.declared.Setpoints.{Setpoints}
-use Rattle.messages.specs.declared.Phases.{Phases}
+use Rattle.wire_messages.specs.declared.Field.{Field}
+use Rattle.wire_messages.specs.declared.Target.{Target}
+use Rattle.wire_messages.specs.declared.Aim.{Aim}
+use Rattle.wire_messages.specs.declared.Limits.{Limits}
+use Rattle.wire_messages.specs.declared.Setpoints.{Setpoints}
+use Rattle.wire_messages.specs.declared.Phases.{Phases}
 
 abbrev pub limitField : Limits → ℕ → Field
 limitField m d = cond (eqb d 0) (m .consumption) (m .production)

@@ -1,10 +1,26 @@
 // The fields of a command, by direction or phase.
-use messages::Aim;
-use messages::Field;
-use messages::Limits;
-use messages::Phases;
-use messages::Setpoints;
-use messages::Target;
+mod durations; // durations.rt: how long a value holds
+
+// What one field of a command says, and what one number of its answer is: the leaves of a command.
+mod fields; // fields.rt: what a field says
+mod numbers; // numbers.rt: a reason, a stated value
+
+pub use durations::setpoint_duration;
+pub use durations::until_of;
+pub use fields::field_above;
+pub use fields::field_names;
+pub use fields::field_negative;
+pub use fields::field_too_low;
+pub use fields::is_negative;
+pub use fields::natural_of;
+pub use numbers::reason_of;
+pub use numbers::stated;
+use wire_messages::Aim;
+use wire_messages::Field;
+use wire_messages::Limits;
+use wire_messages::Phases;
+use wire_messages::Setpoints;
+use wire_messages::Target;
 ghost use mathlib.Core.Path.{_≡_};
 ghost use Rattle.command_fields.specs.Params.{limitField, targetField, setpointField, aimField, phaseField};
 

@@ -3,16 +3,16 @@ use Prim.Native.Nat.{ℕ}
 use mathlib.Core.Bool.{Bool, true, false, cond, _&&_}
 use mathlib.Core.Path.{_≡_, refl, sym}
 use lib.Dec.{eqb}
-use Rattle.messages.specs.declared.Field.{Field}
-use Rattle.messages.specs.declared.Aim.{Aim}
-use Rattle.messages.specs.declared.Command.{Command}
-use Rattle.store.specs.declared.Settings.{Settings}
-use Rattle.quantities.specs.Quantities.{helds, isLimit, isSetpoint, isCurrent, directionOf}
-use Rattle.field_rules.specs.Fields.{fieldAbove}
-use Rattle.command_says.specs.Says.{says, isSet, aimField}
-use Rattle.command_asks.specs.Asked.{someIs}
-use Rattle.command_asks.specs.declared.Question.{Question}
-use Rattle.command_asks.proofs.Quantities.{some-none}
+use Rattle.wire_messages.specs.declared.Field.{Field}
+use Rattle.wire_messages.specs.declared.Aim.{Aim}
+use Rattle.wire_messages.specs.declared.Command.{Command}
+use Rattle.device_store.specs.declared.Settings.{Settings}
+use Rattle.device_store.specs.Quantities.{helds, isLimit, isSetpoint, isCurrent, directionOf}
+use Rattle.command_fields.specs.Fields.{fieldAbove}
+use Rattle.command_by_quantity.specs.Says.{says, isSet, aimField}
+use Rattle.command_tests.specs.Asked.{someIs}
+use Rattle.command_tests.specs.declared.asks.Question.{Question}
+use Rattle.command_tests.proofs.Quantities.{some-none}
 use Rattle.command_tests.specs.Content.{isCapped}
 
 -- a clear says no number, and so none above a top

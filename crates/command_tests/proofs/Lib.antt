@@ -1,1 +1,3 @@
 mod Capped
+-- What the proofs of several functions use.
+pub mod Quantities

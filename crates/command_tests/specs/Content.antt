@@ -3,16 +3,16 @@ use Prim.Native.Nat.{ℕ}
 use mathlib.Core.Bool.{Bool, true, false, not, _&&_, _||_}
 use mathlib.Core.List.{List, [], _∷_}
 use lib.Dec.{eqb}
-use Rattle.messages.specs.declared.Aim.{Aim}
-use Rattle.messages.specs.declared.Command.{Command}
-use Rattle.store.specs.Sizes.{helds}
-use Rattle.store.specs.declared.Settings.{Settings}
-use Rattle.quantities.specs.Quantities.{supports}
-unfoldable pub use Rattle.field_rules.specs.Fields.{tooLow}
-use Rattle.field_rules.specs.Fields.{fieldTooLow, fieldAbove}
-use Rattle.command_asks.specs.Asked.{beyond, outside}
-use Rattle.command_says.specs.declared.said.Kind.{Kind}
-use Rattle.command_says.specs.Says.{says, kindOf, isSet, aimOf, topOf, someOf, fieldNames, fieldNegative}
+use Rattle.wire_messages.specs.declared.Aim.{Aim}
+use Rattle.wire_messages.specs.declared.Command.{Command}
+use Rattle.device_store.specs.Sizes.{helds}
+use Rattle.device_store.specs.declared.Settings.{Settings}
+use Rattle.device_store.specs.Quantities.{supports}
+unfoldable pub use Rattle.command_fields.specs.Fields.{tooLow}
+use Rattle.command_fields.specs.Fields.{fieldTooLow, fieldAbove}
+use Rattle.command_tests.specs.Asked.{beyond, outside}
+use Rattle.command_by_quantity.specs.declared.said.Kind.{Kind}
+use Rattle.command_by_quantity.specs.Says.{says, kindOf, isSet, aimOf, topOf, someOf, fieldNames, fieldNegative}
 
 -- 4: the command is not served
 abbrev pub ofNone : Kind → Bool

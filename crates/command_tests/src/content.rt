@@ -1,20 +1,20 @@
 // What is asked of a command itself, whatever zone it comes from: one test for each number.
-use command_asks::Question;
-use command_asks::some_is;
-use command_says::Kind;
-use command_says::aim_of;
-use command_says::is_set;
-use command_says::kind_of;
-use command_says::says;
-use field_rules::field_too_low;
-use messages::Aim;
-use messages::Command;
-use quantities::supports;
-use store::Settings;
+use crate::asks::Question;
+use crate::asks::some_is;
+use command_by_quantity::Kind;
+use command_by_quantity::aim_of;
+use command_by_quantity::is_set;
+use command_by_quantity::kind_of;
+use command_by_quantity::says;
+use command_fields::field_too_low;
+use device_store::Settings;
+use device_store::supports;
+use wire_messages::Aim;
+use wire_messages::Command;
 ghost use mathlib.Core.Path.{_≡_};
 ghost use mathlib.Core.Bool.{not, _&&_};
 ghost use lib.Dec.{eqb};
-ghost use Rattle.messages.specs.Refusals.{firstOf};
+ghost use Rattle.wire_messages.specs.Refusals.{firstOf};
 ghost use Rattle.command_tests.specs.Content.{accepts, aimUnsupported, unsupported, isUnserved, setsLimits};
 ghost use Rattle.command_tests.specs.Content.{invalid, belowTheMinimum, contentTests, isCapped};
 

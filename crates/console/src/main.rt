@@ -1,11 +1,11 @@
 // The kernel by hand: reads lines from standard input, and answers each with a line.
+use console_lines::ANSWER;
+use console_lines::LONGEST;
+use console_lines::ROOM;
 use kernel::State;
 use kernel::WORDS;
 use libc::STDIN_FILENO;
 use libc::STDOUT_FILENO;
-use lines::ANSWER;
-use lines::LONGEST;
-use lines::ROOM;
 use receiver::RECORD;
 use ticks::FRONT;
 ghost use Prim.Native.Nat.{_≤_};
@@ -78,7 +78,7 @@ fn answer_kept(
 ) -> usize {
     if n <= kept.len() {
         let p = settle(out, at);
-        return lines::answer(d, words, room, front, &kept[..n], bytes, out, p);
+        return console_lines::answer(d, words, room, front, &kept[..n], bytes, out, p);
     }
     at
 }
@@ -98,7 +98,7 @@ fn line(
     let have = place.kept;
     if have == 0 {
         let p = settle(out, place.at);
-        return lines::answer(d, words, room, front, s, bytes, out, p);
+        return console_lines::answer(d, words, room, front, s, bytes, out, p);
     }
     let n = keep(kept, have, s);
     answer_kept(d, words, room, front, kept, n, bytes, out, place.at)
@@ -250,7 +250,7 @@ fn main() {
     let mut kept = [0u8; LONGEST + 1];
     let mut bytes = [0u8; LONGEST / 2];
     let mut out = io::large_buffer();
-    lines::before_start(&mut d);
+    console_lines::before_start(&mut d);
     run(
         &mut d,
         &mut words,

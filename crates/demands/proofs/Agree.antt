@@ -10,20 +10,20 @@ use lib.Dec.{eqb}
 use lib.ListN.{length, set}
 use lib.Seq.{set-out}
 use borrow.Author.Tests.{ne-eqb, eqb-true}
-use Rattle.messages.specs.declared.Command.{Command}
-use Rattle.store.specs.declared.Zone.{Zone}
-use Rattle.store.specs.declared.Settings.{Settings}
-use Rattle.store.specs.declared.Change.{Change}
-use Rattle.store.specs.Sizes.{slots, helds, words}
-use Rattle.store.specs.Zones.{idOf, freeZone, newZone, linked, slotOf, zoneOf, anyUp}
-use Rattle.store.specs.Words.{clockOf, sinceOf, overrideOf, settingsOf, zonesOf, applied, after}
-use Rattle.holds.specs.Holds.{situationOf, valuesAt}
-use Rattle.links.specs.Links.{sinceAfter}
-use Rattle.device.specs.Calls.{zoneChange}
-use Rattle.store.specs.Words.{headChange}
-use Rattle.command.specs.Obeys.{obeyed}
-use Rattle.store.proofs.Lens.{zones-length}
-use Rattle.store.proofs.Effects.{applied-length, applied-settings, applied-clock, applied-since, applied-override, applied-zones}
+use Rattle.wire_messages.specs.declared.Command.{Command}
+use Rattle.device_store.specs.declared.Zone.{Zone}
+use Rattle.device_store.specs.declared.Settings.{Settings}
+use Rattle.device_store.specs.declared.Change.{Change}
+use Rattle.device_store.specs.Sizes.{slots, helds, words}
+use Rattle.device_store.specs.Zones.{idOf, freeZone, newZone, linked, slotOf, zoneOf, anyUp}
+use Rattle.device_store.specs.Words.{clockOf, sinceOf, overrideOf, settingsOf, zonesOf, applied, after}
+use Rattle.device_holds.specs.Holds.{situationOf, valuesAt}
+use Rattle.device_holds.specs.Links.{sinceAfter}
+use Rattle.device_calls.specs.Calls.{zoneChange}
+use Rattle.device_store.specs.Words.{headChange}
+use Rattle.command_effects.specs.Effects.{obeyed}
+use Rattle.device_store.proofs.Lens.{zones-length}
+use Rattle.device_store.proofs.Effects.{applied-length, applied-settings, applied-clock, applied-since, applied-override, applied-zones}
 use Rattle.demands.specs.History.{Told, joins, leaves, links, commands, overrides, passes, Entry, Log, about, newest, saysOverride, saysClock, clockBy, overrideBy, joinedBy, recordBy, zonesBy, sinceBy, situationBy}
 use Rattle.demands.specs.Accepted.{kept}
 use Rattle.demands.proofs.Lists.{never}

@@ -8,20 +8,20 @@ use native.Mathlib.Omega.{arith}
 use lib.Dec.{leb, eqb}
 use lib.ListN.{length}
 use borrow.Author.Tests.{ne-eqb}
-use Rattle.messages.specs.Refusals
-use Rattle.messages.specs.declared.Request.{Request}
-use Rattle.frames.specs.Requests.{readRequest, readingNumber}
-use Rattle.frames.specs.Writing.{writingNumber}
-use Rattle.request_reader.specs.declared.requests.Reading.{Reading}
-use Rattle.store.specs.declared.Change.{Change}
-use Rattle.store.specs.Zones.{any, joined, zoneOf}
-use Rattle.store.specs.Sizes.{words}
-use Rattle.store.specs.Words.{clockOf, overrideOf, settingsOf, zonesOf, after}
-use Rattle.device.specs.Refusals.{firstOf, Numbered}
-use Rattle.device.specs.Calls.{zoneChange, joinNumber, joinAfter, leaveNumber, leaveAfter, linkNumber, linkAfter, overrideNumber, overrideAfter, clearNumber, clearAfter, moveNumber, moveAfter}
-use Rattle.store.specs.Words.{headChange}
-use Rattle.device.specs.Commands.{commandTests, commandNumber, commandAfter}
-use Rattle.store.proofs.Effects.{applied-clock}
+use Rattle.wire_messages.specs.Refusals
+use Rattle.wire_messages.specs.declared.Request.{Request}
+use Rattle.wire_requests.specs.Requests.{readRequest, readingNumber}
+use Rattle.wire_output.specs.Writing.{writingNumber}
+use Rattle.wire_requests.specs.declared.reading.Reading.{Reading}
+use Rattle.device_store.specs.declared.Change.{Change}
+use Rattle.device_store.specs.Zones.{any, joined, zoneOf}
+use Rattle.device_store.specs.Sizes.{words}
+use Rattle.device_store.specs.Words.{clockOf, overrideOf, settingsOf, zonesOf, after}
+use Rattle.device_calls.specs.Refusals.{firstOf, Numbered}
+use Rattle.device_calls.specs.Calls.{zoneChange, joinNumber, joinAfter, leaveNumber, leaveAfter, linkNumber, linkAfter, overrideNumber, overrideAfter, clearNumber, clearAfter, moveNumber, moveAfter}
+use Rattle.device_store.specs.Words.{headChange}
+use Rattle.device_calls.specs.Commands.{commandTests, commandNumber, commandAfter}
+use Rattle.device_store.proofs.Effects.{applied-clock}
 use Rattle.kernel.specs.Frame.{responseFrame, numberFrom, frameNumber, obeyedBy, frameAfter}
 use Rattle.demands.specs.Run.{Call, join, leave, lost, back, override, clear, move, frame, number, next}
 use Rattle.demands.specs.Tests.{readTests, obeyTests, frameTests, tests}

@@ -8,17 +8,17 @@ use lib.IntN.{pos}
 use lib.ListN.{length, getD}
 use borrow.Author.Tests.{ltb-false}
 use lib.Dec.{ltb}
-use Rattle.messages.specs.declared.Amount.{Amount}
-use Rattle.messages.specs.declared.Amount.the-variants.{Absent, Is}
-use Rattle.quantities.specs.Quantities.{isSetpoint}
-use Rattle.store.specs.declared.Zone.{Zone}
-use Rattle.store.specs.Sizes.{helds}
-use Rattle.store.specs.Zones.{idOf, any, freeZone, isJoined, isUp, anyJoined, anyUp}
-use Rattle.holds.specs.Holds.{Claim, claimOf, goesBefore, winner, amountOf, Situation, inFailsafe, smallestWith, failsafeValue, valueAt, stateAt, shown, valuesAt}
-use Rattle.table_laws.specs.Table.{Unexpired}
-use Rattle.table_laws.proofs.Before.{not-earlier}
-use Rattle.table_laws.proofs.Winner.{claim-there, wins}
-use Rattle.store.proofs.Runs.{upTo-cong}
+use Rattle.wire_messages.specs.declared.Amount.{Amount}
+use Rattle.wire_messages.specs.declared.Amount.the-variants.{Absent, Is}
+use Rattle.device_store.specs.Quantities.{isSetpoint}
+use Rattle.device_store.specs.declared.Zone.{Zone}
+use Rattle.device_store.specs.Sizes.{helds}
+use Rattle.device_store.specs.Zones.{idOf, any, freeZone, isJoined, isUp, anyJoined, anyUp}
+use Rattle.device_holds.specs.Holds.{Claim, claimOf, goesBefore, winner, amountOf, Situation, inFailsafe, smallestWith, failsafeValue, valueAt, stateAt, shown, valuesAt}
+use Rattle.device_holds.specs.Table.{Unexpired}
+use Rattle.device_holds.proofs.Before.{not-earlier}
+use Rattle.device_holds.proofs.Winner.{claim-there, wins}
+use Rattle.device_store.proofs.Runs.{upTo-cong}
 use Rattle.demands.proofs.Lists.{never, getD-mem, mem-getD, any-mem, mem-any}
 
 -- every joined zone of one list is in the other; no two joined zones of a list have one id

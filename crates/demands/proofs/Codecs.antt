@@ -7,21 +7,24 @@ use Prim.Native.Nat.{ℕ}
 use lib.Dec.{leb}
 use lib.ListN.{length}
 use native.Mathlib.Omega.{arith}
-use Rattle.cbor.specs.Item.{Item, payloadOf}
-use Rattle.messages.specs.Refusals.{firstOf}
-use Rattle.messages.specs.declared.Command.{Command}
-use Rattle.messages.specs.declared.Request.{Request}
-use Rattle.messages.specs.declared.Response.{Response}
-use Rattle.frames.specs.Prefix.{framed, payloadIn}
-use Rattle.map_fields.specs.Fields.{mapIn}
-use Rattle.frames.specs.Requests.{Envelope, envelopeIn, servedAt, servedCommand, withCommand, fromEnvelope, fromPayload, readRequest, readingNumber, requestItem, requestWide, requestUnserved, requestNumber}
-use Rattle.frames.specs.Responses.{responseIn, answerOf, answerIn, answerFrom, readResponse, answerNumber, responseItem, responseFits, responseNumber}
-use Rattle.frames.specs.Writing.{itemFrame, writingNumber}
-use Rattle.request_reader.specs.declared.requests.Reading.{Reading}
-use Rattle.response_reader.specs.declared.responses.Answer.{Answer}
-use Rattle.store.specs.Zones.{any}
-use Rattle.conformance.specs.declared.Inputs.{Inputs}
-use Rattle.conformance.specs.Report.{numberOf}
+use Rattle.wire_cbor.specs.Item.{Item, payloadOf}
+use Rattle.wire_messages.specs.Refusals.{firstOf}
+use Rattle.wire_messages.specs.declared.Command.{Command}
+use Rattle.wire_messages.specs.declared.Request.{Request}
+use Rattle.wire_messages.specs.declared.Response.{Response}
+use Rattle.wire_prefix.specs.Prefix.{framed, payloadIn}
+use Rattle.wire_fields.specs.Fields.{mapIn}
+use Rattle.wire_requests.specs.Requests.{Envelope, envelopeIn, withCommand, fromEnvelope, fromPayload, readRequest, readingNumber}
+use Rattle.wire_messages.specs.Numbers.{servedAt, servedCommand}
+use Rattle.wire_requests.specs.WrittenRequests.{requestItem, requestWide, requestUnserved, requestNumber}
+use Rattle.wire_responses.specs.Responses.{responseIn, answerOf, answerIn, answerFrom, readResponse, answerNumber}
+use Rattle.wire_responses.specs.WrittenResponses.{responseItem, responseFits, responseNumber}
+use Rattle.wire_output.specs.Writing.{itemFrame, writingNumber}
+use Rattle.wire_requests.specs.declared.reading.Reading.{Reading}
+use Rattle.wire_responses.specs.declared.reading.Answer.{Answer}
+use Rattle.device_store.specs.Zones.{any}
+use Rattle.report.specs.declared.Inputs.{Inputs}
+use Rattle.report.specs.Report.{numberOf}
 use Rattle.demands.specs.Tests.{missing, mapOf, envelopeOf, unserved, parametersOf, readTests, answerTests, writeRequestTests, writeResponseTests, reportTests}
 use Rattle.demands.specs.Answers.{ByTests}
 use Rattle.demands.proofs.FirstTests.{each, first-append, by-tests}

@@ -9,10 +9,10 @@ use native.Mathlib.Nat.{le-antisymm}
 use lib.Dec.{leb, eqb, leb·suc-suc}
 use lib.ListN.{length}
 use borrow.Author.Tests.{eqb-true, eqb-false, lt-leb}
-use Rattle.store.specs.declared.Zone.{Zone}
-use Rattle.store.specs.declared.Settings.{Settings}
-use Rattle.store.specs.Sizes.{slots}
-use Rattle.store.specs.Zones.{idOf, freeZone, first, isJoined, slotOf}
+use Rattle.device_store.specs.declared.Zone.{Zone}
+use Rattle.device_store.specs.declared.Settings.{Settings}
+use Rattle.device_store.specs.Sizes.{slots}
+use Rattle.device_store.specs.Zones.{idOf, freeZone, first, isJoined, slotOf}
 use Rattle.demands.specs.History.{Log, joinedBy, recordBy, zonesTo, zonesBy}
 use Rattle.demands.proofs.Lists.{mem-getD}
 use Rattle.demands.proofs.Same.{at, Same, mem-listed, record-id, isJoined-low, listed-joined, slots-within, history-within}

@@ -6,17 +6,17 @@ use Prim.Native.Nat.{ℕ}
 use lib.IntN.{ℤ}
 use lib.ListN.{length}
 use borrow.Author.Tests.{ne-eqb}
-use Rattle.frames.specs.Writing.{writingNumber, writtenOf, leftBy}
-use Rattle.store.specs.declared.Settings.{Settings}
-use Rattle.device.specs.Refusals
-use Rattle.store.specs.Zones.{any, joined, slotOf}
-use Rattle.store.specs.Words.{zonesOf}
-use Rattle.rules.specs.Rules.{badSettings}
-use Rattle.device.specs.Start.{startNumber, startAfter}
-use Rattle.store.proofs.Effects.{fresh-settings, fresh-clock, fresh-override, fresh-zones}
-use Rattle.planner.specs.Plan.{rowsFrom, planTests, planNumber, planAnswer, planSlice}
-use Rattle.conformance.specs.declared.Inputs.{Inputs}
-use Rattle.conformance.specs.Report.{numberOf, reportOf, pairsAfter}
+use Rattle.wire_output.specs.Writing.{writingNumber, writtenOf, leftBy}
+use Rattle.device_store.specs.declared.Settings.{Settings}
+use Rattle.device_calls.specs.Refusals
+use Rattle.device_store.specs.Zones.{any, joined, slotOf}
+use Rattle.device_store.specs.Words.{zonesOf}
+use Rattle.device_rules.specs.Rules.{badSettings}
+use Rattle.device_calls.specs.Start.{startNumber, startAfter}
+use Rattle.device_store.proofs.Effects.{fresh-settings, fresh-clock, fresh-override, fresh-zones}
+use Rattle.plan.specs.Plan.{rowsFrom, planTests, planNumber, planAnswer, planSlice}
+use Rattle.report.specs.declared.Inputs.{Inputs}
+use Rattle.report.specs.Report.{numberOf, reportOf, pairsAfter}
 use Rattle.demands.specs.Accepted.{startedWith, InPairs}
 use Rattle.demands.specs.Answers.{ByTests, Starts}
 use Rattle.demands.specs.Demands.{Demand1}

@@ -3,27 +3,27 @@ use mathlib.Core.Path.{_≡_, refl, subst}
 use mathlib.Core.List.{List, _++_}
 use Prim.Native.Nat.{ℕ}
 use lib.ListN.{length, drop}
-use Rattle.cbor_laws.proofs.Payload.{payload-exact, one-item}
-use Rattle.messages.specs.declared.Request.{Request}
-use Rattle.messages.specs.declared.Response.{Response}
-use Rattle.frames.specs.Requests.{readRequest}
-use Rattle.frames.specs.Responses.{statusAlone}
-use Rattle.frames.specs.Writing.{writingNumber, writtenOf}
-use Rattle.request_reader.specs.declared.requests.Reading.{Reading}
-use Rattle.frame_laws.proofs.Trips.{framed-exact, frame-stands}
-use Rattle.frame_laws.proofs.RequestBack.{request-reads-back}
-use Rattle.frame_laws.proofs.RequestAgain.{request-writable, request-writes-again}
-use Rattle.frame_laws.proofs.ResponseBack.{response-reads-back, status-reads-back}
-use Rattle.frame_laws.proofs.ResponseAgain.{response-writable, response-writes-again}
-use Rattle.table_laws.proofs.Rows.{table}
-use Rattle.call_laws.proofs.Expiry.{expiry}
-use Rattle.device.specs.Commands.{commandAnswer}
+use Rattle.wire_cbor.proofs.Payload.{payload-exact, one-item}
+use Rattle.wire_messages.specs.declared.Request.{Request}
+use Rattle.wire_messages.specs.declared.Response.{Response}
+use Rattle.wire_requests.specs.Requests.{readRequest}
+use Rattle.wire_responses.specs.WrittenResponses.{statusAlone}
+use Rattle.wire_output.specs.Writing.{writingNumber, writtenOf}
+use Rattle.wire_requests.specs.declared.reading.Reading.{Reading}
+use Rattle.wire_laws.proofs.Trips.{framed-exact, frame-stands}
+use Rattle.wire_laws.proofs.RequestBack.{request-reads-back}
+use Rattle.wire_laws.proofs.RequestAgain.{request-writable, request-writes-again}
+use Rattle.wire_laws.proofs.ResponseBack.{response-reads-back, status-reads-back}
+use Rattle.wire_laws.proofs.ResponseAgain.{response-writable, response-writes-again}
+use Rattle.device_holds.proofs.Rows.{table}
+use Rattle.kernel_laws.proofs.Expiry.{expiry}
+use Rattle.device_calls.specs.Commands.{commandAnswer}
 use Rattle.kernel.specs.Frame.{responseTo, responseFrame, frameAnswer, frameOut}
-use Rattle.conformance.specs.declared.Inputs.{Inputs}
-use Rattle.conformance.specs.Lists.{front}
-use Rattle.conformance.specs.Rules.{breaches}
-use Rattle.conformance.specs.Report.{numberOf, reportOf, flat, pairsAfter}
-use Rattle.conformance_laws.proofs.Laws.{exact, ordered}
+use Rattle.report.specs.declared.Inputs.{Inputs}
+use Rattle.report.specs.Lists.{front}
+use Rattle.report.specs.Rules.{breaches}
+use Rattle.report.specs.Report.{numberOf, reportOf, flat, pairsAfter}
+use Rattle.report.proofs.Laws.{exact, ordered}
 use Rattle.demands.specs.Answers.{Written, Determined}
 use Rattle.demands.proofs.Codecs.{id-read, id-unserved}
 use Rattle.demands.specs.Demands.{Demand2}

@@ -7,20 +7,20 @@ use native.Mathlib.Omega.{arith}
 use lib.IntN.{ℤ}
 use lib.ListN.{length}
 use borrow.Author.Tests.{lt-ltb}
-use Rattle.bytes.specs.Bytes.{putWhole}
-use Rattle.frames.specs.Requests.{readRequest}
+use Rattle.wire_bytes.specs.Bytes.{putWhole}
+use Rattle.wire_requests.specs.Requests.{readRequest}
 use Rattle.kernel.specs.Frame.{frameOut}
-use Rattle.store.specs.Sizes.{valueEnd}
-use Rattle.store.specs.Words.{clockOf, zonesOf}
-use Rattle.holds.specs.Holds.{situationOf, shown, valuesAt}
-use Rattle.store.specs.declared.Zone.{Zone}
-use Rattle.store.specs.declared.Settings.{Settings}
-use Rattle.store.specs.Zones.{idOf, rankOf}
-use Rattle.device.specs.Calls.{askAnswer}
-use Rattle.planner.specs.Rows.{IsPlan}
-use Rattle.planner.specs.Plan.{planOf, rowsFrom, planNumber, planAnswer, planSlice}
-use Rattle.planner.proofs.IsPlan.{plan-is, plan-unique}
-use Rattle.planner.proofs.Walk.{planOf-few}
+use Rattle.device_store.specs.Sizes.{valueEnd}
+use Rattle.device_store.specs.Words.{clockOf, zonesOf}
+use Rattle.device_holds.specs.Holds.{situationOf, shown, valuesAt}
+use Rattle.device_store.specs.declared.Zone.{Zone}
+use Rattle.device_store.specs.declared.Settings.{Settings}
+use Rattle.device_store.specs.Zones.{idOf, rankOf}
+use Rattle.device_calls.specs.Calls.{askAnswer}
+use Rattle.plan.specs.Rows.{IsPlan}
+use Rattle.plan.specs.Plan.{planOf, rowsFrom, planNumber, planAnswer, planSlice}
+use Rattle.plan.proofs.IsPlan.{plan-is, plan-unique}
+use Rattle.plan.proofs.Walk.{planOf-few}
 use Rattle.demands.specs.Run.{run}
 use Rattle.demands.specs.History.{Log, newest, saysRank, clockBy, joinedBy, recordBy}
 use Rattle.demands.specs.Accepted.{startedWith, history, told}

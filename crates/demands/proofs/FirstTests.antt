@@ -6,9 +6,9 @@ use Prim.Native.Nat.{ℕ, _≤_}
 use native.Mathlib.Omega.{arith}
 use lib.Dec.{leb, eqb}
 use borrow.Author.Tests.{ne-eqb, leb-true}
-use Rattle.messages.specs.Refusals
-use Rattle.device.specs.Refusals.{firstOf, Numbered}
-use Rattle.call_laws.proofs.FirstOf.{refused-exactly, accepted-exactly}
+use Rattle.wire_messages.specs.Refusals
+use Rattle.device_calls.specs.Refusals.{firstOf, Numbered}
+use Rattle.kernel_laws.proofs.FirstOf.{refused-exactly, accepted-exactly}
 use Rattle.demands.specs.Answers.{ByTests}
 
 -- each of the tests' numbers passes p

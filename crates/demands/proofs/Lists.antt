@@ -6,7 +6,7 @@ use mathlib.Core.List.{List, [], _∷_, List·Memᴰ, List·Memᴰ·head, List·
 use Prim.Native.Nat.{ℕ, zero, suc, _≤_, _<_}
 use native.Mathlib.Omega.{arith}
 use lib.ListN.{length, getD}
-use Rattle.store.specs.Zones.{first, any}
+use Rattle.device_store.specs.Zones.{first, any}
 
 pub never : {X : Type 0} → _≡_ {A = Bool} false true → X
 never e = absurd (let w : _≡_ {A = ℕ} 0 1 = cc in omega arith)

@@ -10,18 +10,18 @@ use lib.IntN.{ℤ, ℤ-discrete}
 use lib.ListN.{length, set}
 use lib.Seq.{set-out}
 use borrow.Author.Tests.{le-leb, lt-leb, le-ltb, leb-true, leb-false, ltb-false}
-use Rattle.messages.specs.Refusals.{firstOf}
-use Rattle.store.specs.Sizes.{end, slots, words}
-use Rattle.rules.specs.Rules.{late}
-use Rattle.store.specs.Zones.{freeZone}
-use Rattle.store.specs.Words.{clockOf, sinceOf, overrideOf, settingsOf, zonesOf, headChange, applied, after}
-use Rattle.store.proofs.Lens.{zones-length}
-use Rattle.store.proofs.Effects.{applied-settings, applied-clock, applied-since, applied-override, applied-zones}
-use Rattle.holds.specs.Holds.{Situation, situationOf, valuesAt}
-use Rattle.device.specs.Calls.{askAnswer, moveNumber, moveAfter}
-use Rattle.planner.specs.Rows.{last, rowsOf, plan, IsPlan}
-use Rattle.planner.specs.Plan.{planOf, rowsFrom}
-use Rattle.planner.proofs.IsPlan.{past, plan-is}
+use Rattle.wire_messages.specs.Refusals.{firstOf}
+use Rattle.device_store.specs.Sizes.{end, slots, words}
+use Rattle.device_rules.specs.Rules.{late}
+use Rattle.device_store.specs.Zones.{freeZone}
+use Rattle.device_store.specs.Words.{clockOf, sinceOf, overrideOf, settingsOf, zonesOf, headChange, applied, after}
+use Rattle.device_store.proofs.Lens.{zones-length}
+use Rattle.device_store.proofs.Effects.{applied-settings, applied-clock, applied-since, applied-override, applied-zones}
+use Rattle.device_holds.specs.Holds.{Situation, situationOf, valuesAt}
+use Rattle.device_calls.specs.Calls.{askAnswer, moveNumber, moveAfter}
+use Rattle.plan.specs.Rows.{last, rowsOf, plan, IsPlan}
+use Rattle.plan.specs.Plan.{planOf, rowsFrom}
+use Rattle.plan.proofs.IsPlan.{past, plan-is}
 use Rattle.demands.specs.Moving.{saidOf, leftAt, Moving, MovesAsPlanned}
 
 module _ (f : ℕ → List ℤ) where

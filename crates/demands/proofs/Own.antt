@@ -7,17 +7,17 @@ use mathlib.Core.Option.{Option, none, some, Option·getD}
 use Prim.Native.Nat.{ℕ}
 use lib.Dec.{eqb}
 use borrow.Author.Tests.{eqb-true}
-use Rattle.messages.specs.declared.Command.{Command}
-use Rattle.store.specs.declared.Held.{Held}
-use Rattle.store.specs.declared.Settings.{Settings}
-use Rattle.command_obeys.specs.declared.Action.{Action}
-use Rattle.store.specs.Sizes.{helds}
-use Rattle.store.specs.Zones.{nothing, seatOf}
-use Rattle.command.specs.Obeys.{action, untilOf}
-use Rattle.command.specs.Says.{durationOf}
+use Rattle.wire_messages.specs.declared.Command.{Command}
+use Rattle.device_store.specs.declared.Held.{Held}
+use Rattle.device_store.specs.declared.Settings.{Settings}
+use Rattle.command_effects.specs.declared.actions.Action.{Action}
+use Rattle.device_store.specs.Sizes.{helds}
+use Rattle.device_store.specs.Zones.{nothing, seatOf}
+use Rattle.command_effects.specs.Effects.{action, untilOf}
+use Rattle.command_effects.specs.Says.{durationOf}
 use Rattle.demands.specs.History.{Told, joins, leaves, links, commands, overrides, passes, Entry, Log, about, newest, of, saysRank, saysUp, said, saysHeld, upBy, heldBy, recordBy}
 use Rattle.demands.specs.ReleasedSlot.{isJoin, ownSince, SetTogether}
-use Rattle.store.proofs.Runs.{upTo-cong}
+use Rattle.device_store.proofs.Runs.{upTo-cong}
 use Rattle.demands.proofs.Lists.{never}
 use Rattle.demands.proofs.Says.{silent}
 

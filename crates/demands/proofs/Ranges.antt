@@ -9,20 +9,20 @@ use native.Mathlib.Omega.{arith}
 use lib.Dec.{ltb, leb, eqb}
 use lib.ListN.{getD}
 use borrow.Author.Tests.{leb-false, ltb-true}
-use Rattle.messages.specs.declared.Amount.the-variants.{Absent, Is}
-use Rattle.messages.specs.declared.Command.{Command}
-use Rattle.frames.specs.Requests.{readRequest}
-use Rattle.request_reader.specs.declared.requests.Reading.{Reading}
-use Rattle.store.specs.declared.Held.{Held}
-use Rattle.store.specs.declared.Zone.{Zone}
-use Rattle.store.specs.declared.Settings.{Settings}
-use Rattle.quantities.specs.Quantities.{isLimit, isSetpoint, directionOf, supports}
-use Rattle.store.specs.Sizes.{helds, valueEnd}
-use Rattle.store.specs.Zones.{idOf, heldOf, anyUp}
-use Rattle.holds.specs.Holds.{Claim, winner, amountOf, inFailsafe, smallestWith, failsafeValue, valueAt}
-use Rattle.rules.specs.Rules.{badMaximum, badSettings}
-use Rattle.device.specs.Start.{refusedSettings}
-use Rattle.table_laws.proofs.Winner.{claim-there}
+use Rattle.wire_messages.specs.declared.Amount.the-variants.{Absent, Is}
+use Rattle.wire_messages.specs.declared.Command.{Command}
+use Rattle.wire_requests.specs.Requests.{readRequest}
+use Rattle.wire_requests.specs.declared.reading.Reading.{Reading}
+use Rattle.device_store.specs.declared.Held.{Held}
+use Rattle.device_store.specs.declared.Zone.{Zone}
+use Rattle.device_store.specs.declared.Settings.{Settings}
+use Rattle.device_store.specs.Quantities.{isLimit, isSetpoint, directionOf, supports}
+use Rattle.device_store.specs.Sizes.{helds, valueEnd}
+use Rattle.device_store.specs.Zones.{idOf, heldOf, anyUp}
+use Rattle.device_holds.specs.Holds.{Claim, winner, amountOf, inFailsafe, smallestWith, failsafeValue, valueAt}
+use Rattle.device_rules.specs.Rules.{badMaximum, badSettings}
+use Rattle.device_calls.specs.Start.{refusedSettings}
+use Rattle.device_holds.proofs.Winner.{claim-there}
 use Rattle.demands.specs.Run.{Call, join, leave, lost, back, override, clear, move, frame}
 use Rattle.demands.specs.History.{commands, Entry, Log, heldBy, zonesBy, situationBy}
 use Rattle.demands.specs.Accepted.{numberBy, kept, tells, entry, log, startedWith}

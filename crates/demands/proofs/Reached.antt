@@ -5,14 +5,14 @@ use mathlib.Core.List.{List, [], _∷_}
 use Prim.Native.Nat.{ℕ, _<_}
 use native.Mathlib.Omega.{arith}
 use lib.ListN.{replicate, getD-replicate}
-use Rattle.store.specs.declared.Zone.{Zone}
-use Rattle.store.specs.declared.Settings.{Settings}
-use Rattle.store.specs.Sizes.{slots}
-use Rattle.store.specs.Zones.{idOf, freeZone, joined}
-use Rattle.store.specs.Words.{zonesOf, fresh}
-use Rattle.rules.specs.Rules.{badSettings}
-use Rattle.device.specs.Start.{refusedSettings, startAfter}
-use Rattle.store.proofs.Effects.{fresh-length, fresh-settings, fresh-clock, fresh-since, fresh-override, fresh-zones}
+use Rattle.device_store.specs.declared.Zone.{Zone}
+use Rattle.device_store.specs.declared.Settings.{Settings}
+use Rattle.device_store.specs.Sizes.{slots}
+use Rattle.device_store.specs.Zones.{idOf, freeZone, joined}
+use Rattle.device_store.specs.Words.{zonesOf, fresh}
+use Rattle.device_rules.specs.Rules.{badSettings}
+use Rattle.device_calls.specs.Start.{refusedSettings, startAfter}
+use Rattle.device_store.proofs.Effects.{fresh-length, fresh-settings, fresh-clock, fresh-since, fresh-override, fresh-zones}
 use Rattle.demands.specs.Run.{Call, run}
 use Rattle.demands.specs.History.{newest, clockBy, overrideBy, joinedBy, sinceBy}
 use Rattle.demands.specs.Accepted.{log, startedWith, InPairs}

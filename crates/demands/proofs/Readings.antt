@@ -7,13 +7,14 @@ use Prim.Native.Nat.{ℕ, _≤_}
 use native.Mathlib.Omega.{arith}
 use lib.Dec.{eqb}
 use borrow.Author.Tests.{eqb-true}
-use Rattle.cbor.specs.Item.{Item, payloadOf}
-use Rattle.messages.specs.declared.Command.{Command}
-use Rattle.frames.specs.Prefix.{framed, payloadIn}
-use Rattle.map_fields.specs.Fields.{mapIn}
-use Rattle.frames.specs.Requests.{Envelope, envelopeIn, servedAt, servedCommand, commandIn, withCommand, fromEnvelope, fromPayload, readRequest}
-use Rattle.frames.specs.Writing.{writingNumber}
-use Rattle.request_reader.specs.declared.requests.Reading.{Reading}
+use Rattle.wire_cbor.specs.Item.{Item, payloadOf}
+use Rattle.wire_messages.specs.declared.Command.{Command}
+use Rattle.wire_prefix.specs.Prefix.{framed, payloadIn}
+use Rattle.wire_fields.specs.Fields.{mapIn}
+use Rattle.wire_requests.specs.Requests.{Envelope, envelopeIn, commandIn, withCommand, fromEnvelope, fromPayload, readRequest}
+use Rattle.wire_messages.specs.Numbers.{servedAt, servedCommand}
+use Rattle.wire_output.specs.Writing.{writingNumber}
+use Rattle.wire_requests.specs.declared.reading.Reading.{Reading}
 
 pub writes : (n : ℕ) (bytes : List ℕ) (room : ℕ) → writingNumber n bytes room ≡ 0 → n ≡ 0
 unfolding writingNumber

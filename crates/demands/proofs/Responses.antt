@@ -8,17 +8,18 @@ use lib.Dec.{leb, eqb}
 use lib.ListN.{length}
 use lib.Dec.{leb·zero}
 use borrow.Author.Tests.{eqb-true}
-use Rattle.bytes.specs.Bytes.{put, putWhole}
-use Rattle.messages.specs.Refusals
-use Rattle.messages.specs.declared.Request.{Request}
-use Rattle.frames.specs.Requests.{readRequest}
-use Rattle.frames.specs.Responses.{isStatus, statusAlone}
-use Rattle.frames.specs.Writing.{writingNumber}
-use Rattle.request_reader.specs.declared.requests.Reading.{Reading}
-use Rattle.store.specs.Zones.{joined, zoneOf}
-use Rattle.store.specs.Words.{clockOf, overrideOf, settingsOf, zonesOf}
-use Rattle.device.specs.Commands.{commandTests, commandNumber}
-use Rattle.messages.specs.Refusals.{firstOf}
+use Rattle.wire_bytes.specs.Bytes.{put, putWhole}
+use Rattle.wire_messages.specs.Refusals
+use Rattle.wire_messages.specs.declared.Request.{Request}
+use Rattle.wire_requests.specs.Requests.{readRequest}
+use Rattle.wire_responses.specs.Responses.{isStatus}
+use Rattle.wire_responses.specs.WrittenResponses.{statusAlone}
+use Rattle.wire_output.specs.Writing.{writingNumber}
+use Rattle.wire_requests.specs.declared.reading.Reading.{Reading}
+use Rattle.device_store.specs.Zones.{joined, zoneOf}
+use Rattle.device_store.specs.Words.{clockOf, overrideOf, settingsOf, zonesOf}
+use Rattle.device_calls.specs.Commands.{commandTests, commandNumber}
+use Rattle.wire_messages.specs.Refusals.{firstOf}
 use Rattle.kernel.specs.Frame.{responseTo, responseFrame, numberFrom, frameNumber, frameAnswer, frameOut}
 use Rattle.demands.specs.Answers.{Responds}
 use Rattle.demands.proofs.Lists.{never}

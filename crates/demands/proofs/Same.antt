@@ -10,12 +10,12 @@ use lib.Dec.{ltb, eqb}
 use lib.ListN.{length, getD, set, length-set}
 use lib.Seq.{getD-set-same, getD-set-other}
 use borrow.Author.Tests.{ltb-true, ltb-false, eq-eqb, ne-eqb}
-use Rattle.store.specs.declared.Zone.{Zone}
-use Rattle.store.specs.declared.Settings.{Settings}
-use Rattle.store.specs.Sizes.{slots}
-use Rattle.store.specs.Zones.{idOf, freeZone, isJoined, slotOf, joined, zoneOf}
+use Rattle.device_store.specs.declared.Zone.{Zone}
+use Rattle.device_store.specs.declared.Settings.{Settings}
+use Rattle.device_store.specs.Sizes.{slots}
+use Rattle.device_store.specs.Zones.{idOf, freeZone, isJoined, slotOf, joined, zoneOf}
 use Rattle.demands.specs.History.{Log, joinedBy, recordBy, zonesTo, zonesBy}
-use Rattle.store.proofs.Slots.{slot-id}
+use Rattle.device_store.proofs.Slots.{slot-id}
 use Rattle.demands.proofs.Lists.{never, first-least, getD-mem, mem-getD}
 use Rattle.demands.proofs.Claims.{Within, OneId}
 

@@ -6,16 +6,16 @@ use mathlib.Core.Option.{Option, none, Option·getD}
 use Prim.Native.Nat.{ℕ, _<_}
 use lib.ListN.{length}
 use borrow.Author.Tests.{eq-eqb}
-use Rattle.messages.specs.declared.Command.{Command}
-use Rattle.store.specs.declared.Held.{Held}
-use Rattle.store.specs.declared.Settings.{Settings}
-use Rattle.command_obeys.specs.declared.Action.{Action}
-use Rattle.store.specs.Sizes.{helds}
-use Rattle.store.specs.Zones.{upTo, nothing, seatOf, newZone, linked, heldOf}
-use Rattle.command.specs.Obeys.{action, untilOf, done, obeyed}
-use Rattle.command.specs.Says.{durationOf}
+use Rattle.wire_messages.specs.declared.Command.{Command}
+use Rattle.device_store.specs.declared.Held.{Held}
+use Rattle.device_store.specs.declared.Settings.{Settings}
+use Rattle.command_effects.specs.declared.actions.Action.{Action}
+use Rattle.device_store.specs.Sizes.{helds}
+use Rattle.device_store.specs.Zones.{upTo, nothing, seatOf, newZone, linked, heldOf}
+use Rattle.command_effects.specs.Effects.{action, untilOf, done, obeyed}
+use Rattle.command_effects.specs.Says.{durationOf}
 use Rattle.demands.specs.History.{Told, joins, leaves, links, commands, overrides, passes, Log, newest, of, saysJoined, saysRank, saysUp, said, saysHeld, joinedBy, upBy, heldBy, recordBy, about}
-use Rattle.store.proofs.Runs.{length-upTo, getD-upTo, upTo-cong}
+use Rattle.device_store.proofs.Runs.{length-upTo, getD-upTo, upTo-cong}
 
 -- a call that is not of zone z says nothing of it
 pub record Silent (z t : ℕ) (e : Told) : Type 0 where

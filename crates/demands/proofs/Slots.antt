@@ -4,12 +4,12 @@ use mathlib.Core.Logic.{_⊎_}
 use mathlib.Core.List.{List}
 use Prim.Native.Nat.{ℕ, _≤_, _<_}
 use native.Mathlib.Omega.{arith}
-use Rattle.store.specs.declared.Zone.{Zone}
-use Rattle.store.specs.declared.Settings.{Settings}
-use Rattle.store.specs.Sizes.{slots, helds}
-use Rattle.store.specs.Zones.{idOf, freeZone, nothing, heldOf}
-use Rattle.store.specs.Words.{zoneAt}
-use Rattle.store.proofs.Lens.{zones-at}
+use Rattle.device_store.specs.declared.Zone.{Zone}
+use Rattle.device_store.specs.declared.Settings.{Settings}
+use Rattle.device_store.specs.Sizes.{slots, helds}
+use Rattle.device_store.specs.Zones.{idOf, freeZone, nothing, heldOf}
+use Rattle.device_store.specs.Words.{zoneAt}
+use Rattle.device_store.proofs.Lens.{zones-at}
 use Rattle.demands.specs.Run.{Call, run}
 use Rattle.demands.specs.History.{Log, recordBy}
 use Rattle.demands.specs.Accepted.{history, startedWith, InPairs}

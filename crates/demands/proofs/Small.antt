@@ -9,28 +9,29 @@ use native.Mathlib.Omega.{arith}
 use lib.Dec.{ltb, eqb}
 use lib.IntN.{ℤ, pos, negsuc}
 use borrow.Author.Tests.{ltb-true}
-use Rattle.cbor.specs.Item.{Item, Pairs, payloadOf}
-use Rattle.cbor.specs.Find.{valueOf}
-use Rattle.messages.specs.declared.Field.{Field}
-use Rattle.messages.specs.declared.Aim.{Aim}
-use Rattle.messages.specs.declared.Limits.{Limits}
-use Rattle.messages.specs.declared.Phases.{Phases}
-use Rattle.messages.specs.declared.CurrentLimits.{CurrentLimits}
-use Rattle.messages.specs.declared.Command.{Command}
-use Rattle.frames.specs.Prefix.{framed, payloadIn}
-use Rattle.map_fields.specs.Fields.{mapIn, upTo, needed, optional, inRange, signed, most32, valueIn, amountIn, aimIn}
-use Rattle.map_fields.specs.ByPhase.{onlyPhases, eachPhase, byPhase, phasesFrom, phasesIn}
-use Rattle.frames.specs.Settings.{settingIn, targetOf, limitsFrom, setpointsFrom, currentLimitsIn}
-use Rattle.set_parameters.specs.declared.Setting.{Setting}
-use Rattle.frames.specs.Requests.{Envelope, envelopeIn, servedAt, servedCommand, commandIn, withCommand, fromEnvelope, fromPayload, readRequest}
-use Rattle.request_reader.specs.declared.requests.Reading.{Reading}
-use Rattle.store.specs.declared.Settings.{Settings}
-use Rattle.command_obeys.specs.declared.Action.{Action}
-use Rattle.store.specs.Sizes.{valueEnd}
-use Rattle.quantities.specs.Quantities.{directionOf, phaseOf}
-use Rattle.command.specs.Says.{limitField, targetField, setpointField, phaseField, currentField, aimField, kindOf, isOf, fieldAt, says, natural}
-use Rattle.command.specs.Obeys.{fieldAction, action}
-use Rattle.command.specs.Says.{topOf}
+use Rattle.wire_cbor.specs.Item.{Item, Pairs, payloadOf}
+use Rattle.wire_cbor.specs.Find.{valueOf}
+use Rattle.wire_messages.specs.declared.Field.{Field}
+use Rattle.wire_messages.specs.declared.Aim.{Aim}
+use Rattle.wire_messages.specs.declared.Limits.{Limits}
+use Rattle.wire_messages.specs.declared.Phases.{Phases}
+use Rattle.wire_messages.specs.declared.CurrentLimits.{CurrentLimits}
+use Rattle.wire_messages.specs.declared.Command.{Command}
+use Rattle.wire_prefix.specs.Prefix.{framed, payloadIn}
+use Rattle.wire_fields.specs.Fields.{mapIn, upTo, needed, optional, inRange, signed, most32, valueIn, amountIn, aimIn}
+use Rattle.wire_fields.specs.ByPhase.{onlyPhases, eachPhase, byPhase, phasesFrom, phasesIn}
+use Rattle.wire_requests.specs.Settings.{settingIn, targetOf, limitsFrom, setpointsFrom, currentLimitsIn}
+use Rattle.wire_messages.specs.declared.set_parameters.Setting.{Setting}
+use Rattle.wire_requests.specs.Requests.{Envelope, envelopeIn, commandIn, withCommand, fromEnvelope, fromPayload, readRequest}
+use Rattle.wire_messages.specs.Numbers.{servedAt, servedCommand}
+use Rattle.wire_requests.specs.declared.reading.Reading.{Reading}
+use Rattle.device_store.specs.declared.Settings.{Settings}
+use Rattle.command_effects.specs.declared.actions.Action.{Action}
+use Rattle.device_store.specs.Sizes.{valueEnd}
+use Rattle.device_store.specs.Quantities.{directionOf, phaseOf}
+use Rattle.command_effects.specs.Says.{limitField, targetField, setpointField, phaseField, currentField, aimField, kindOf, isOf, fieldAt, says, natural}
+use Rattle.command_effects.specs.Effects.{fieldAction, action}
+use Rattle.command_effects.specs.Says.{topOf}
 
 -- SMALL: a number below 2^63, or no number
 abbrev pub SmallField : Field → Type 0

@@ -7,23 +7,23 @@ use native.Mathlib.Omega.{arith}
 use lib.Dec.{leb, eqb}
 use lib.ListN.{length}
 use borrow.Author.Tests.{eqb-true, ne-eqb, leb-true, leb-false, not-false}
-use Rattle.messages.specs.declared.Command.{Command}
-use Rattle.store.specs.declared.Zone.{Zone}
-use Rattle.store.specs.declared.Settings.{Settings}
-use Rattle.store.specs.Sizes.{slots}
-use Rattle.store.specs.Zones.{slotOf, joined, zoneOf, newZone, freeZone, linked}
-use Rattle.store.specs.Words.{clockOf, overrideOf, settingsOf, zonesOf, applied}
-use Rattle.device.specs.Refusals.{firstOf, late}
-use Rattle.device.specs.Calls.{zoneChange, joinTests, joinNumber, joinAfter, leaveTests, leaveNumber, leaveAfter, same, linkNumber, linkAfter, overrideNumber, overrideAfter, overrideWord, clearNumber, clearAfter, moveNumber, moveAfter}
-use Rattle.rules.specs.Rules.{ranks, badJoin}
-use Rattle.store.specs.Words.{headChange}
-use Rattle.command.specs.Content.{isUnserved, contentTests}
-use Rattle.command.specs.Obeys.{obeyed}
-use Rattle.device.specs.Commands.{commandNumber, commandAfter, commandAnswer}
-use Rattle.planner.specs.Plan.{planOf, rowsFrom, planNumber}
-use Rattle.frames.specs.Requests.{readRequest}
-use Rattle.frames.specs.Writing.{writingNumber}
-use Rattle.request_reader.specs.declared.requests.Reading.{Reading}
+use Rattle.wire_messages.specs.declared.Command.{Command}
+use Rattle.device_store.specs.declared.Zone.{Zone}
+use Rattle.device_store.specs.declared.Settings.{Settings}
+use Rattle.device_store.specs.Sizes.{slots}
+use Rattle.device_store.specs.Zones.{slotOf, joined, zoneOf, newZone, freeZone, linked}
+use Rattle.device_store.specs.Words.{clockOf, overrideOf, settingsOf, zonesOf, applied}
+use Rattle.device_calls.specs.Refusals.{firstOf, late}
+use Rattle.device_calls.specs.Calls.{zoneChange, joinTests, joinNumber, joinAfter, leaveTests, leaveNumber, leaveAfter, same, linkNumber, linkAfter, overrideNumber, overrideAfter, overrideWord, clearNumber, clearAfter, moveNumber, moveAfter}
+use Rattle.device_rules.specs.Rules.{ranks, badJoin}
+use Rattle.device_store.specs.Words.{headChange}
+use Rattle.command_effects.specs.Content.{isUnserved, contentTests}
+use Rattle.command_effects.specs.Effects.{obeyed}
+use Rattle.device_calls.specs.Commands.{commandNumber, commandAfter, commandAnswer}
+use Rattle.plan.specs.Plan.{planOf, rowsFrom, planNumber}
+use Rattle.wire_requests.specs.Requests.{readRequest}
+use Rattle.wire_output.specs.Writing.{writingNumber}
+use Rattle.wire_requests.specs.declared.reading.Reading.{Reading}
 use Rattle.kernel.specs.Frame.{responseTo, responseFrame, numberFrom, frameNumber, obeyedBy, frameAfter}
 use Rattle.demands.specs.Run.{Call, join, leave, lost, back, override, clear, move, frame, number, next}
 use Rattle.demands.specs.History.{joins, leaves, links, commands, overrides, passes, Log, clockBy, overrideBy, joinedBy, upBy, recordBy, zonesBy}

@@ -6,23 +6,23 @@ use mathlib.Core.List.{List, [], _∷_}
 use lib.Dec.{leb, eqb}
 use lib.IntN.{ℤ}
 use lib.ListN.{length}
-use Rattle.messages.specs.declared.Command.{Command}
-use Rattle.messages.specs.declared.Outcome.{Outcome}
-use Rattle.messages.specs.declared.Request.{Request}
-use Rattle.messages.specs.declared.Response.{Response}
-use Rattle.store.specs.declared.Settings.{Settings}
-use Rattle.holds.specs.Holds.{Situation, valuesAt}
-use Rattle.messages.specs.Refusals.{firstOf}
-use Rattle.device.specs.Calls.{joinTests, leaveTests, linkTests, overrideTests, overrideWord, clearTests, moveTests}
-use Rattle.device.specs.Commands.{commandTests}
-use Rattle.command.specs.Outcomes.{isCapped, outcomeWith}
-use Rattle.rules.specs.Rules.{badSettings}
-use Rattle.device.specs.Start.{refusedSettings}
-use Rattle.planner.specs.Plan.{planTests, planOf}
-use Rattle.frames.specs.Requests.{readRequest}
-use Rattle.frames.specs.Responses.{responseItem, statusAlone}
-use Rattle.frames.specs.Writing.{itemFrame, writingNumber}
-use Rattle.request_reader.specs.declared.requests.Reading.{Reading}
+use Rattle.wire_messages.specs.declared.Command.{Command}
+use Rattle.wire_messages.specs.declared.Outcome.{Outcome}
+use Rattle.wire_messages.specs.declared.Request.{Request}
+use Rattle.wire_messages.specs.declared.Response.{Response}
+use Rattle.device_store.specs.declared.Settings.{Settings}
+use Rattle.device_holds.specs.Holds.{Situation, valuesAt}
+use Rattle.wire_messages.specs.Refusals.{firstOf}
+use Rattle.device_calls.specs.Calls.{joinTests, leaveTests, linkTests, overrideTests, overrideWord, clearTests, moveTests}
+use Rattle.device_calls.specs.Commands.{commandTests}
+use Rattle.command_effects.specs.Outcomes.{isCapped, outcomeWith}
+use Rattle.device_rules.specs.Rules.{badSettings}
+use Rattle.device_calls.specs.Start.{refusedSettings}
+use Rattle.plan.specs.Plan.{planTests, planOf}
+use Rattle.wire_requests.specs.Requests.{readRequest}
+use Rattle.wire_responses.specs.WrittenResponses.{responseItem, statusAlone}
+use Rattle.wire_output.specs.Writing.{itemFrame, writingNumber}
+use Rattle.wire_requests.specs.declared.reading.Reading.{Reading}
 use Rattle.demands.specs.Run.{Call, join, leave, lost, back, override, clear, move, frame}
 use Rattle.demands.specs.History.{Told, joins, leaves, links, commands, overrides, passes, Entry, Log, clockBy, overrideBy, joinedBy, upBy, zonesBy, situationBy}
 

@@ -6,21 +6,22 @@ use mathlib.Core.Bool.{Bool, true, false, cond}
 use mathlib.Core.List.{List, [], _∷_}
 use lib.Dec.{leb}
 use lib.ListN.{length}
-use Rattle.bytes.specs.Bytes.{putWhole}
-use Rattle.messages.specs.declared.Request.{Request}
-use Rattle.messages.specs.declared.Response.{Response}
-use Rattle.frames.specs.Responses.{isStatus, responseItem}
-use Rattle.frames.specs.Writing.{itemFrame}
-use Rattle.store.specs.declared.Settings.{Settings}
-use Rattle.store.specs.Sizes.{words}
-use Rattle.store.specs.Zones.{joined}
-use Rattle.store.specs.Words.{clockOf, overrideOf, settingsOf, zonesOf}
-use Rattle.holds.specs.Holds.{situationOf, valuesAt}
-use Rattle.device.specs.Refusals.{FirstAt, NoneHolds}
-use Rattle.rules.specs.Rules.{badSettings}
-use Rattle.device.specs.Start.{startNumber, startAfter}
-use Rattle.command.specs.Outcomes.{isCapped, outcomeWith}
-use Rattle.device.specs.Commands.{commandNumber, commandAfter}
+use Rattle.wire_bytes.specs.Bytes.{putWhole}
+use Rattle.wire_messages.specs.declared.Request.{Request}
+use Rattle.wire_messages.specs.declared.Response.{Response}
+use Rattle.wire_responses.specs.Responses.{isStatus}
+use Rattle.wire_responses.specs.WrittenResponses.{responseItem}
+use Rattle.wire_output.specs.Writing.{itemFrame}
+use Rattle.device_store.specs.declared.Settings.{Settings}
+use Rattle.device_store.specs.Sizes.{words}
+use Rattle.device_store.specs.Zones.{joined}
+use Rattle.device_store.specs.Words.{clockOf, overrideOf, settingsOf, zonesOf}
+use Rattle.device_holds.specs.Holds.{situationOf, valuesAt}
+use Rattle.device_calls.specs.Refusals.{FirstAt, NoneHolds}
+use Rattle.device_rules.specs.Rules.{badSettings}
+use Rattle.device_calls.specs.Start.{startNumber, startAfter}
+use Rattle.command_effects.specs.Outcomes.{isCapped, outcomeWith}
+use Rattle.device_calls.specs.Commands.{commandNumber, commandAfter}
 use Rattle.demands.specs.Run.{Call, join, leave, lost, back, override, clear, move, frame, number, next}
 use Rattle.demands.specs.Accepted.{startedWith}
 use Rattle.demands.specs.Tests.{tests}

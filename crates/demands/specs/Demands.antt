@@ -7,32 +7,34 @@ use mathlib.Core.List.{List, _++_}
 use mathlib.Core.Option.{some}
 use lib.IntN.{ℤ, pos}
 use lib.ListN.{length, drop}
-use Rattle.bytes.specs.Bytes.{putWhole}
-use Rattle.cbor_laws.specs.Laws.{PayloadExact, OneItem}
-use Rattle.messages.specs.declared.Amount.the-variants.{Is}
-use Rattle.messages.specs.declared.Command.{Command}
-use Rattle.messages.specs.declared.Request.{Request}
-use Rattle.messages.specs.declared.Response.{Response}
-use Rattle.frames.specs.Requests.{Envelope, readRequest, readingNumber, requestItem, requestNumber}
-use Rattle.frames.specs.Responses.{readResponse, answerNumber, responseItem, responseNumber, statusAlone}
-use Rattle.frame_laws.specs.RoundTrips.{FramedExact, FrameStands, RequestReadsBack, ResponseReadsBack, StatusReadsBack, RequestWritable, ResponseWritable, RequestWritesAgain, ResponseWritesAgain}
-use Rattle.frames.specs.Writing.{itemFrame, writingNumber, writtenOf, leftBy}
-use Rattle.request_reader.specs.declared.requests.Reading.{Reading}
-use Rattle.store.specs.declared.Settings.{Settings}
-use Rattle.store.specs.declared.Zone.{Zone}
-use Rattle.store.specs.Sizes.{helds}
-use Rattle.store.specs.Zones.{idOf, rankOf}
-use Rattle.holds.specs.Holds.{Situation, situationOf, valueAt, shown, valuesAt}
-use Rattle.table_laws.specs.Table.{Table}
-use Rattle.call_laws.specs.Expiry.{Expiry}
-use Rattle.device.specs.Calls.{askAnswer}
-use Rattle.planner.specs.Rows.{IsPlan}
-use Rattle.planner.specs.Plan.{numbersOf, front, rowsFrom, planTests, planNumber, planAnswer, planSlice}
+use Rattle.wire_bytes.specs.Bytes.{putWhole}
+use Rattle.wire_cbor.specs.Encodings.{PayloadExact, OneItem}
+use Rattle.wire_messages.specs.declared.Amount.the-variants.{Is}
+use Rattle.wire_messages.specs.declared.Command.{Command}
+use Rattle.wire_messages.specs.declared.Request.{Request}
+use Rattle.wire_messages.specs.declared.Response.{Response}
+use Rattle.wire_requests.specs.Requests.{Envelope, readRequest, readingNumber}
+use Rattle.wire_requests.specs.WrittenRequests.{requestItem, requestNumber}
+use Rattle.wire_responses.specs.Responses.{readResponse, answerNumber}
+use Rattle.wire_responses.specs.WrittenResponses.{responseItem, responseNumber, statusAlone}
+use Rattle.wire_laws.specs.RoundTrips.{FramedExact, FrameStands, RequestReadsBack, ResponseReadsBack, StatusReadsBack, RequestWritable, ResponseWritable, RequestWritesAgain, ResponseWritesAgain}
+use Rattle.wire_output.specs.Writing.{itemFrame, writingNumber, writtenOf, leftBy}
+use Rattle.wire_requests.specs.declared.reading.Reading.{Reading}
+use Rattle.device_store.specs.declared.Settings.{Settings}
+use Rattle.device_store.specs.declared.Zone.{Zone}
+use Rattle.device_store.specs.Sizes.{helds}
+use Rattle.device_store.specs.Zones.{idOf, rankOf}
+use Rattle.device_holds.specs.Holds.{Situation, situationOf, valueAt, shown, valuesAt}
+use Rattle.device_holds.specs.Table.{Table}
+use Rattle.kernel_laws.specs.Expiry.{Expiry}
+use Rattle.device_calls.specs.Calls.{askAnswer}
+use Rattle.plan.specs.Rows.{IsPlan}
+use Rattle.plan.specs.Plan.{numbersOf, front, rowsFrom, planTests, planNumber, planAnswer, planSlice}
 use Rattle.kernel.specs.Frame.{frameNumber, frameAnswer, frameOut}
-use Rattle.conformance.specs.declared.Inputs.{Inputs}
-use Rattle.conformance.specs.Rules.{breaches}
-use Rattle.conformance.specs.Report.{numberOf, reportOf, flat, pairsAfter}
-use Rattle.conformance_laws.specs.Statements.{Exact, Ordered}
+use Rattle.report.specs.declared.Inputs.{Inputs}
+use Rattle.report.specs.Rules.{breaches}
+use Rattle.report.specs.Report.{numberOf, reportOf, flat, pairsAfter}
+use Rattle.report.specs.Statements.{Exact, Ordered}
 use Rattle.demands.specs.Run.{Call, number, run}
 use Rattle.demands.specs.History.{newest, saysRank, clockBy, joinedBy, recordBy}
 use Rattle.demands.specs.Accepted.{numberBy, planNumberBy, responseFrameBy, startedWith, InPairs, history, told}

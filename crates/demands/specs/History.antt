@@ -4,17 +4,17 @@ use mathlib.Core.Bool.{Bool, true, false, cond}
 use mathlib.Core.List.{List, [], _∷_}
 use mathlib.Core.Option.{Option, none, some, Option·getD}
 use lib.Dec.{eqb}
-use Rattle.messages.specs.declared.Command.{Command}
-use Rattle.store.specs.declared.Held.{Held}
-use Rattle.store.specs.declared.Zone.{Zone}
-use Rattle.store.specs.declared.Settings.{Settings}
-use Rattle.command_obeys.specs.declared.Action.{Action}
-use Rattle.store.specs.Sizes.{helds}
-use Rattle.store.specs.Zones.{upTo, nothing, seatOf}
-use Rattle.holds.specs.Holds.{Situation}
-use Rattle.links.specs.Links.{sinceAfter}
-use Rattle.command.specs.Obeys.{action, untilOf}
-use Rattle.command.specs.Says.{durationOf}
+use Rattle.wire_messages.specs.declared.Command.{Command}
+use Rattle.device_store.specs.declared.Held.{Held}
+use Rattle.device_store.specs.declared.Zone.{Zone}
+use Rattle.device_store.specs.declared.Settings.{Settings}
+use Rattle.command_effects.specs.declared.actions.Action.{Action}
+use Rattle.device_store.specs.Sizes.{helds}
+use Rattle.device_store.specs.Zones.{upTo, nothing, seatOf}
+use Rattle.device_holds.specs.Holds.{Situation}
+use Rattle.device_holds.specs.Links.{sinceAfter}
+use Rattle.command_effects.specs.Effects.{action, untilOf}
+use Rattle.command_effects.specs.Says.{durationOf}
 
 -- THE LOG
 -- what an accepted call tells: a join its zone and rank, a link its zone and whether it is up, an override its number (0: cleared), a frame its command

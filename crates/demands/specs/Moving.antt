@@ -6,9 +6,9 @@ use mathlib.Core.List.{List, [], _∷_, List·Memᴰ}
 use lib.Dec.{leb}
 use lib.IntN.{ℤ}
 use lib.ListN.{length}
-use Rattle.store.specs.Sizes.{words}
-use Rattle.device.specs.Calls.{askAnswer, moveNumber, moveAfter}
-use Rattle.planner.specs.Plan.{rowsFrom}
+use Rattle.device_store.specs.Sizes.{words}
+use Rattle.device_calls.specs.Calls.{askAnswer, moveNumber, moveAfter}
+use Rattle.plan.specs.Plan.{rowsFrom}
 
 -- what rows say of second t: the values of the last row at or before it, and those of now before the first
 unfoldable pub saidOf : List (ℕ × List ℤ) → List ℤ → ℕ → List ℤ

@@ -4,16 +4,16 @@ use mathlib.Core.Path.{_≡_}
 use mathlib.Core.Logic.{_⊎_}
 use mathlib.Core.Bool.{Bool, true, false, cond}
 use mathlib.Core.List.{List, [], _∷_, List·Memᴰ}
-use Rattle.messages.specs.declared.Command.{Command}
-use Rattle.store.specs.declared.Held.{Held}
-use Rattle.store.specs.declared.Zone.{Zone}
-use Rattle.store.specs.declared.Settings.{Settings}
-use Rattle.command_obeys.specs.declared.Action.{Action}
-use Rattle.store.specs.Sizes.{slots, helds}
-use Rattle.store.specs.Zones.{idOf, nothing, isJoined, heldOf}
-use Rattle.store.specs.Words.{zoneAt}
-use Rattle.command.specs.Obeys.{action, untilOf}
-use Rattle.command.specs.Says.{durationOf}
+use Rattle.wire_messages.specs.declared.Command.{Command}
+use Rattle.device_store.specs.declared.Held.{Held}
+use Rattle.device_store.specs.declared.Zone.{Zone}
+use Rattle.device_store.specs.declared.Settings.{Settings}
+use Rattle.command_effects.specs.declared.actions.Action.{Action}
+use Rattle.device_store.specs.Sizes.{slots, helds}
+use Rattle.device_store.specs.Zones.{idOf, nothing, isJoined, heldOf}
+use Rattle.device_store.specs.Words.{zoneAt}
+use Rattle.command_effects.specs.Effects.{action, untilOf}
+use Rattle.command_effects.specs.Says.{durationOf}
 use Rattle.demands.specs.Run.{Call, run}
 use Rattle.demands.specs.History.{Told, joins, leaves, links, commands, overrides, passes, Log, about, recordBy}
 use Rattle.demands.specs.Accepted.{history, startedWith}

@@ -3,9 +3,9 @@
 use Prim.Native.Nat.{ℕ}
 use mathlib.Core.Bool.{true, false}
 use mathlib.Core.List.{List, [], _∷_}
-use Rattle.store.specs.declared.Settings.{Settings}
-use Rattle.device.specs.Start.{startAfter}
-use Rattle.device.specs.Calls.{joinNumber, joinAfter, leaveNumber, leaveAfter, linkNumber, linkAfter, overrideNumber, overrideAfter, clearNumber, clearAfter, moveNumber, moveAfter}
+use Rattle.device_store.specs.declared.Settings.{Settings}
+use Rattle.device_calls.specs.Start.{startAfter}
+use Rattle.device_calls.specs.Calls.{joinNumber, joinAfter, leaveNumber, leaveAfter, linkNumber, linkAfter, overrideNumber, overrideAfter, clearNumber, clearAfter, moveNumber, moveAfter}
 use Rattle.kernel.specs.Frame.{frameNumber, frameAfter}
 
 -- zones by their number, then rank, reason and direction, then the time, then a frame's bytes and the room of the lent buffer

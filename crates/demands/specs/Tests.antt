@@ -6,26 +6,29 @@ use mathlib.Core.Option.{Option, none, some, bind}
 use lib.Dec.{ltb, leb}
 use lib.ListN.{length}
 use Prim.Native.Nat.{_*_}
-use Rattle.cbor.specs.Item.{Item, Pairs, payloadOf}
-use Rattle.messages.specs.declared.Command.{Command}
-use Rattle.messages.specs.declared.Request.{Request}
-use Rattle.messages.specs.declared.Response.{Response}
-use Rattle.frames.specs.Prefix.{framed, payloadIn}
-use Rattle.map_fields.specs.Fields.{mapIn}
-use Rattle.frames.specs.Requests.{Envelope, envelopeIn, servedAt, servedCommand, commandIn, readRequest, requestItem, requestWide, requestUnserved}
-use Rattle.frames.specs.Responses.{responseIn, responseItem, responseFits}
-use Rattle.frames.specs.Writing.{itemFrame}
-use Rattle.request_reader.specs.declared.requests.Reading.{Reading}
-use Rattle.store.specs.Sizes.{slots}
-use Rattle.store.specs.Zones.{slotOf, joined, zoneOf}
-use Rattle.store.specs.Words.{clockOf, overrideOf, settingsOf, zonesOf}
-use Rattle.device.specs.Calls.{joinTests, leaveTests, linkTests, overrideTests, clearTests, moveTests}
-use Rattle.device.specs.Commands.{commandTests}
+use Rattle.wire_cbor.specs.Item.{Item, Pairs, payloadOf}
+use Rattle.wire_messages.specs.declared.Command.{Command}
+use Rattle.wire_messages.specs.declared.Request.{Request}
+use Rattle.wire_messages.specs.declared.Response.{Response}
+use Rattle.wire_prefix.specs.Prefix.{framed, payloadIn}
+use Rattle.wire_fields.specs.Fields.{mapIn}
+use Rattle.wire_requests.specs.Requests.{Envelope, envelopeIn, commandIn, readRequest}
+use Rattle.wire_messages.specs.Numbers.{servedAt, servedCommand}
+use Rattle.wire_requests.specs.WrittenRequests.{requestItem, requestWide, requestUnserved}
+use Rattle.wire_responses.specs.Responses.{responseIn}
+use Rattle.wire_responses.specs.WrittenResponses.{responseItem, responseFits}
+use Rattle.wire_output.specs.Writing.{itemFrame}
+use Rattle.wire_requests.specs.declared.reading.Reading.{Reading}
+use Rattle.device_store.specs.Sizes.{slots}
+use Rattle.device_store.specs.Zones.{slotOf, joined, zoneOf}
+use Rattle.device_store.specs.Words.{clockOf, overrideOf, settingsOf, zonesOf}
+use Rattle.device_calls.specs.Calls.{joinTests, leaveTests, linkTests, overrideTests, clearTests, moveTests}
+use Rattle.device_calls.specs.Commands.{commandTests}
 use Rattle.kernel.specs.Frame.{responseFrame}
-use Rattle.conformance.specs.declared.Inputs.{Inputs}
-use Rattle.conformance.specs.Lists.{ascends}
-use Rattle.conformance.specs.Rules.{breaches}
-use Rattle.conformance.specs.Report.{inRange}
+use Rattle.report.specs.declared.Inputs.{Inputs}
+use Rattle.report.specs.Lists.{ascends}
+use Rattle.report.specs.Rules.{breaches}
+use Rattle.report.specs.Report.{inRange}
 use Rattle.demands.specs.Run.{Call, join, leave, lost, back, override, clear, move, frame}
 
 -- WHAT A FRAME'S BYTES HAVE IN THEM: nothing where they are not sound so far

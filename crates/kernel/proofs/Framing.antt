@@ -10,24 +10,24 @@ use native.Mathlib.Omega.{arith}
 use lib.Dec.{leb, eqb}
 use lib.ListN.{length}
 use borrow.Author.Tests.{eq-eqb, ne-eqb}
-use Rattle.bytes.specs.Bytes.{put, putWhole}
-use Rattle.messages.specs.Refusals.{firstOf}
-use Rattle.messages.specs.declared.Outcome.{Outcome}
-use Rattle.messages.specs.declared.Request.{Request}
-use Rattle.messages.specs.declared.Response.{Response}
-use Rattle.cbor.specs.Item.{Item, payloadOf}
-use Rattle.replies.specs.Replies.{replyTo}
-use Rattle.frames.specs.Prefix.{framed, payloadIn}
-use Rattle.frames.specs.Requests.{fromPayload, readRequest}
-use Rattle.frames.specs.Responses.{responseItem, statusAlone}
-use Rattle.frames.specs.Writing.{itemFrame, writingNumber, writtenOf, leftBy}
-use Rattle.sender.specs.declared.Written.{Written}
-use Rattle.request_reader.specs.declared.requests.Reading.{Reading}
-use Rattle.store.specs.Sizes.{words}
-use Rattle.device.specs.Commands.{commandNumber, commandAfter, commandAnswer, decisionOf, outcomeFor, enacted}
-use Rattle.device.specs.declared.Answer.{Answer}
-use Rattle.device.specs.declared.Decision.{Decision}
-use Rattle.device.proofs.Decisions.{answered, decision-enacted}
+use Rattle.wire_bytes.specs.Bytes.{put, putWhole}
+use Rattle.wire_messages.specs.Refusals.{firstOf}
+use Rattle.wire_messages.specs.declared.Outcome.{Outcome}
+use Rattle.wire_messages.specs.declared.Request.{Request}
+use Rattle.wire_messages.specs.declared.Response.{Response}
+use Rattle.wire_cbor.specs.Item.{Item, payloadOf}
+use Rattle.wire_responses.specs.Replies.{replyTo}
+use Rattle.wire_prefix.specs.Prefix.{framed, payloadIn}
+use Rattle.wire_requests.specs.Requests.{fromPayload, readRequest}
+use Rattle.wire_responses.specs.WrittenResponses.{responseItem, statusAlone}
+use Rattle.wire_output.specs.Writing.{itemFrame, writingNumber, writtenOf, leftBy}
+use Rattle.wire_output.specs.declared.Written.{Written}
+use Rattle.wire_requests.specs.declared.reading.Reading.{Reading}
+use Rattle.device_store.specs.Sizes.{words}
+use Rattle.device_calls.specs.Commands.{commandNumber, commandAfter, commandAnswer, decisionOf, outcomeFor, enacted}
+use Rattle.device_calls.specs.declared.Answer.{Answer}
+use Rattle.device_calls.specs.declared.Decision.{Decision}
+use Rattle.device_calls.proofs.Decisions.{answered, decision-enacted}
 use Rattle.kernel.specs.Frame.{responseTo, responseFrame, numberFrom, obeyedBy, answerFrom, afterFrom, outFrom, frameAnswer, frameAfter, frameOut}
 use Rattle.kernel.specs.declared.frame_call.Framed.{Framed}
 

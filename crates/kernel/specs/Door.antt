@@ -1,15 +1,17 @@
 -- What the contracts of the kernel's calls cite from the rooms beneath, for those who enter by the kernel.
-unfoldable pub use Rattle.device.specs.Start.{startNumber, startAfter}
-unfoldable pub use Rattle.device.specs.Calls.{joinNumber, joinAfter, leaveNumber, leaveAfter, linkNumber, linkAfter, overrideNumber, overrideAfter, clearNumber, clearAfter, askAnswer, moveNumber, moveAfter}
-unfoldable pub use Rattle.planner.specs.Plan.{planAnswer, planSlice}
-unfoldable pub use Rattle.plain_planner.specs.Records.{plainAnswer, plainSlice, recordAfter}
-unfoldable pub use Rattle.frames.specs.Requests.{readRequest, requestNumber, requestItem}
-unfoldable pub use Rattle.frames.specs.Responses.{readResponse, responseNumber, responseItem}
-unfoldable pub use Rattle.frames.specs.Writing.{itemFrame, writtenOf, leftBy}
-unfoldable pub use Rattle.conformance.specs.Report.{reportOf, pairsAfter}
-pub use Rattle.planner.specs.Plan.{rowSize}
-pub use Rattle.store.specs.declared.Settings.{Settings}
-pub use Rattle.request_reader.specs.declared.requests.Reading.{Reading}
-pub use Rattle.response_reader.specs.declared.responses.Answer.{Answer}
-pub use Rattle.sender.specs.declared.Written.{Written}
-pub use Rattle.conformance.specs.declared.Inputs.{Inputs}
+unfoldable pub use Rattle.device_calls.specs.Start.{startNumber, startAfter}
+unfoldable pub use Rattle.device_calls.specs.Calls.{joinNumber, joinAfter, leaveNumber, leaveAfter, linkNumber, linkAfter, overrideNumber, overrideAfter, clearNumber, clearAfter, askAnswer, moveNumber, moveAfter}
+unfoldable pub use Rattle.plan.specs.Plan.{planAnswer, planSlice}
+unfoldable pub use Rattle.plan_plain.specs.Records.{plainAnswer, plainSlice, recordAfter}
+unfoldable pub use Rattle.wire_requests.specs.Requests.{readRequest}
+unfoldable pub use Rattle.wire_requests.specs.WrittenRequests.{requestNumber, requestItem}
+unfoldable pub use Rattle.wire_responses.specs.Responses.{readResponse}
+unfoldable pub use Rattle.wire_responses.specs.WrittenResponses.{responseNumber, responseItem}
+unfoldable pub use Rattle.wire_output.specs.Writing.{itemFrame, writtenOf, leftBy}
+unfoldable pub use Rattle.report.specs.Report.{reportOf, pairsAfter}
+pub use Rattle.plan.specs.Plan.{rowSize}
+pub use Rattle.device_store.specs.declared.Settings.{Settings}
+pub use Rattle.wire_requests.specs.declared.reading.Reading.{Reading}
+pub use Rattle.wire_responses.specs.declared.reading.Answer.{Answer}
+pub use Rattle.wire_output.specs.declared.Written.{Written}
+pub use Rattle.report.specs.declared.Inputs.{Inputs}

@@ -4,15 +4,15 @@ use mathlib.Core.Bool.{Bool, true, false, cond}
 use mathlib.Core.List.{List, [], _∷_}
 use lib.Dec.{leb, eqb}
 use lib.ListN.{length}
-use Rattle.bytes.specs.Bytes.{putWhole}
-use Rattle.messages.specs.declared.Request.{Request}
-use Rattle.messages.specs.declared.Response.{Response}
-use Rattle.replies.specs.Replies.{replyTo}
-use Rattle.frames.specs.Requests.{readRequest, readingNumber}
-use Rattle.frames.specs.Responses.{responseItem, statusAlone}
-use Rattle.frames.specs.Writing.{itemFrame, writingNumber}
-use Rattle.request_reader.specs.declared.requests.Reading.{Reading}
-use Rattle.device.specs.Commands.{commandNumber, commandAfter, commandAnswer}
+use Rattle.wire_bytes.specs.Bytes.{putWhole}
+use Rattle.wire_messages.specs.declared.Request.{Request}
+use Rattle.wire_messages.specs.declared.Response.{Response}
+use Rattle.wire_responses.specs.Replies.{replyTo}
+use Rattle.wire_requests.specs.Requests.{readRequest, readingNumber}
+use Rattle.wire_responses.specs.WrittenResponses.{responseItem, statusAlone}
+use Rattle.wire_output.specs.Writing.{itemFrame, writingNumber}
+use Rattle.wire_requests.specs.declared.reading.Reading.{Reading}
+use Rattle.device_calls.specs.Commands.{commandNumber, commandAfter, commandAnswer}
 use Rattle.kernel.specs.declared.frame_call.Framed.{Framed}
 
 -- the response to a request: its message id, the number as status, and the result where one stands

@@ -1,18 +1,18 @@
 // The frame call: a request is read, decided and answered; only then is anything stored.
-use device::State;
-use device::commands::decide;
-use device::commands::enact;
-use device::commands::outcome_of;
-use frames::Reading;
-use messages::Request;
-use replies::reply_to;
-use replies::unserved_reply;
-use store::all;
+use device_calls::State;
+use device_calls::commands::decide;
+use device_calls::commands::enact;
+use device_calls::commands::outcome_of;
+use device_store::all;
+use wire_messages::Request;
+use wire_requests::Reading;
+use wire_responses::reply_to;
+use wire_responses::unserved_reply;
 ghost use mathlib.Core.Path.{_≡_};
 ghost use lib.ListN.{length};
-ghost use Rattle.cbor.specs.Item.{payloadOf};
-ghost use Rattle.frames.specs.Requests.{fromPayload};
-ghost use Rattle.request_reader.specs.declared.requests.Reading.{Reading};
+ghost use Rattle.wire_cbor.specs.Item.{payloadOf};
+ghost use Rattle.wire_requests.specs.Requests.{fromPayload};
+ghost use Rattle.wire_requests.specs.declared.reading.Reading.{Reading};
 ghost use Rattle.kernel.specs.Frame.{answerFrom, afterFrom, outFrom, frameAnswer, frameAfter, frameOut};
 
 // The answer to a frame: its number, and the length of the response frame that was written.
@@ -33,7 +33,7 @@ fn answer(d: &mut State, zone: u64, t: u64, r: Request, out: &mut [u8]) -> Frame
     let x = decide(d, zone, t, c);
     let n = x.number;
     let outcome = outcome_of(d, t, c, x);
-    let w = frames::frame_response(out, reply_to(r, n, outcome));
+    let w = wire_responses::frame_response(out, reply_to(r, n, outcome));
     if n != 0 {
         return Framed {
             number: n,
@@ -55,10 +55,10 @@ fn payload_call(d: &mut State, zone: u64, t: u64, payload: &[u8], out: &mut [u8]
     ensures { λ _. ⌜ now (d .exit) ≡ afterFrom (now (d .entry)) zone t (fromPayload (payloadOf (now (payload .entry)))) (length (now (out .entry))) ⌝ }
     ensures { λ _. ⌜ now (out .exit) ≡ outFrom (now (d .entry)) zone t (fromPayload (payloadOf (now (payload .entry)))) (now (out .entry)) ⌝ }
 {
-    match frames::read_payload(payload) {
+    match wire_requests::read_payload(payload) {
         Reading::Is(r) => answer(d, zone, t, r, out),
         Reading::Unserved(id) => {
-            let w = frames::frame_response(out, unserved_reply(id));
+            let w = wire_responses::frame_response(out, unserved_reply(id));
             Framed {
                 number: 4,
                 length: w.length,
@@ -77,8 +77,8 @@ pub fn frame(d: &mut State, zone: u64, t: u64, bytes: &[u8], out: &mut [u8]) -> 
     ensures { λ _. ⌜ now (d .exit) ≡ frameAfter (now (d .entry)) zone t (now (bytes .entry)) (length (now (out .entry))) ⌝ }
     ensures { λ _. ⌜ now (out .exit) ≡ frameOut (now (d .entry)) zone t (now (bytes .entry)) (now (out .entry)) ⌝ }
 {
-    if frames::is_framed(bytes) {
-        return payload_call(d, zone, t, &bytes[frames::PREFIX..], out);
+    if wire_prefix::is_framed(bytes) {
+        return payload_call(d, zone, t, &bytes[wire_prefix::PREFIX..], out);
     }
     Framed {
         number: 1,

@@ -7,7 +7,7 @@ use lib.ListN.{getD, take, drop}
 use lib.Dec.{eqb}
 use lib.IntN.{pos, negsuc}
 use Rattle.measurement_table.specs.Cells.{Cell}
-use Rattle.measurement_rows.specs.declared.table.Row.{Row}
+use Rattle.measurement_table.specs.declared.attributes.Row.{Row}
 use Rattle.measurement.specs.declared.flow.Flow.{Flow}
 
 -- nothing has no flow, and zero flows in neither direction

@@ -14,4 +14,4 @@ pub use measurement_table::clear;
 pub use measurement_table::place_at;
 pub use measurement_table::put_place;
 pub use measurement_writer::write_measurement;
-pub use sender::Written;
+pub use wire_output::Written;

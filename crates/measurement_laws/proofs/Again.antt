@@ -10,19 +10,19 @@ use lib.Seq.{take-at, drop-at}
 use lib.Dec.{eqb}
 use lib.IntN.{ℤ}
 use borrow.Author.Tests.{eqb-true, eqb-false}
-use Rattle.cbor.specs.Item.{Item, Pairs, Ok, OkPairs}
-use Rattle.cbor.specs.Find.{valueOf}
-use Rattle.map_fields.specs.Fields.{present}
-use Rattle.map_fields.specs.Ranges.{numberIn}
-use Rattle.map_fields.specs.ByPhase.{keysBelow}
-use Rattle.map_fields.specs.declared.ranges.Range.{Range}
-use Rattle.map_fields.proofs.Joined.{or-left, or-right}
-use Rattle.frame_laws.proofs.Maps.{Holds, hasKey, OkField, same-map}
-use Rattle.frame_laws.proofs.FieldsAgain.{no-value, same-inside, bind-parts, map-part}
-use Rattle.frame_laws.proofs.PhaseTrips.{held-ok}
+use Rattle.wire_cbor.specs.Item.{Item, Pairs, Ok, OkPairs}
+use Rattle.wire_cbor.specs.Find.{valueOf}
+use Rattle.wire_fields.specs.Fields.{present}
+use Rattle.wire_fields.specs.Ranges.{numberIn}
+use Rattle.wire_fields.specs.ByPhase.{keysBelow}
+use Rattle.wire_fields.specs.declared.ranges.Range.{Range}
+use Rattle.wire_fields.proofs.Joined.{or-left, or-right}
+use Rattle.wire_laws.proofs.Maps.{Holds, hasKey, OkField, same-map}
+use Rattle.wire_laws.proofs.FieldsAgain.{no-value, same-inside, bind-parts, map-part}
+use Rattle.wire_laws.proofs.PhaseTrips.{held-ok}
 use Rattle.measurement_table.specs.Table.{rangeOf}
 use Rattle.measurement_table.specs.Cells.{Cell, cellIn, cellsFrom, phasesIn, blanks, rowIn, rowsIn, cellItem, phaseFields, someMap, firstItem, rowItem, fieldsOf}
-use Rattle.measurement_rows.specs.declared.table.Row.{Row}
+use Rattle.measurement_table.specs.declared.attributes.Row.{Row}
 use Rattle.measurement_table.proofs.Order.{Rising}
 use Rattle.measurement_laws.specs.RoundTrips.{Unknown, RowsWriteAgain}
 use Rattle.measurement_laws.proofs.Fields.{Narrow, ok-held, none-from}

@@ -9,16 +9,16 @@ use lib.ListN.{length, take, drop, length-drop, take-append-drop}
 use lib.Seq.{length-take-le}
 use lib.Dec.{eqb}
 use borrow.Author.Tests.{eqb-true, lt-ltb}
-use Rattle.cbor.specs.Item.{Pairs}
-use Rattle.map_fields.specs.Fields.{present, intItem}
-use Rattle.map_fields.specs.Ranges.{within}
-use Rattle.map_fields.specs.ByPhase.{keysBelow}
-use Rattle.map_fields.specs.declared.ranges.Range.{Range}
-use Rattle.map_fields.proofs.Joined.{and-left, and-right, and-same}
-use Rattle.frame_laws.proofs.Maps.{Ascending, Holds}
+use Rattle.wire_cbor.specs.Item.{Pairs}
+use Rattle.wire_fields.specs.Fields.{present, intItem}
+use Rattle.wire_fields.specs.Ranges.{within}
+use Rattle.wire_fields.specs.ByPhase.{keysBelow}
+use Rattle.wire_fields.specs.declared.ranges.Range.{Range}
+use Rattle.wire_fields.proofs.Joined.{and-left, and-right, and-same}
+use Rattle.wire_laws.proofs.Maps.{Ascending, Holds}
 use Rattle.measurement_table.specs.Table.{rangeOf, places}
 use Rattle.measurement_table.specs.Cells.{Cell, cellIn, cellsFrom, phasesIn, blanks, rowIn, rowsIn, cellItem, phaseFields, someMap, firstItem, rowItem, fieldsOf, cellFits, cellsFit, rowsFit}
-use Rattle.measurement_rows.specs.declared.table.Row.{Row}
+use Rattle.measurement_table.specs.declared.attributes.Row.{Row}
 use Rattle.measurement_table.proofs.Order.{Rising}
 use Rattle.measurement_laws.specs.RoundTrips.{OthersPassed, RowsReadBack}
 use Rattle.measurement_laws.proofs.Fields.{holds-present}

@@ -1,16 +1,16 @@
 -- The cases of specs/Examples, computed. Assumes nothing.
 use mathlib.Core.Path.{refl}
 use mathlib.Core.Option.{bind}
-use Rattle.bytes.specs.Bytes.{numberAt, bytesOf}
-use Rattle.heads.specs.Head.{infoOf, widthOf, headBytes, argAt, headAt}
-use Rattle.heads.specs.Key.{keyAt}
-use Rattle.cbor.specs.Item.{countPairs, encode, encodePairs, itemAt, itemsAt, pairsAt, fromHead, payloadOf}
-use Rattle.cbor.specs.Find.{valueOf}
-use Rattle.messages.specs.Refusals.{firstOf}
-use Rattle.map_fields.specs.Fields.{mapIn, present}
-use Rattle.map_fields.specs.Ranges.{within, numberIn}
-use Rattle.map_fields.specs.ByPhase.{keysBelow}
-use Rattle.measurement_rows.specs.Table.{bounds, boundsOf}
+use Rattle.wire_bytes.specs.Bytes.{numberAt, bytesOf}
+use Rattle.wire_heads.specs.Head.{infoOf, widthOf, headBytes, argAt, headAt}
+use Rattle.wire_heads.specs.Key.{keyAt}
+use Rattle.wire_cbor.specs.Item.{countPairs, encode, encodePairs, itemAt, itemsAt, pairsAt, fromHead, payloadOf}
+use Rattle.wire_cbor.specs.Find.{valueOf}
+use Rattle.wire_messages.specs.Refusals.{firstOf}
+use Rattle.wire_fields.specs.Fields.{mapIn, present}
+use Rattle.wire_fields.specs.Ranges.{within, numberIn}
+use Rattle.wire_fields.specs.ByPhase.{keysBelow}
+use Rattle.measurement_table.specs.Rows.{bounds, boundsOf}
 use Rattle.measurement_table.specs.Table.{rows, rangeOf}
 use Rattle.measurement_table.specs.Cells.{cellIn, cellsFrom, phasesIn, blanks, rowIn, rowsIn, cellItem, phaseFields, someMap, firstItem, rowItem, fieldsOf}
 use Rattle.measurement_table.specs.Payload.{cellsOf, readNumber, orBlank, cellsRead, itemOf}

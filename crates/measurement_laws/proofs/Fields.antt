@@ -7,13 +7,13 @@ use mathlib.Core.Option.{none}
 use native.Mathlib.Omega.{arith}
 use lib.Dec.{ltb}
 use borrow.Author.Tests.{eq-eqb, ne-eqb, ltb-true}
-use Rattle.cbor.specs.Item.{Pairs, OkPairs}
-use Rattle.cbor.specs.Find.{valueOf}
-use Rattle.map_fields.specs.Fields.{Fields, present}
-use Rattle.map_fields.specs.ByPhase.{keysBelow}
-use Rattle.map_fields.proofs.Joined.{and-left, and-right}
-use Rattle.frame_laws.proofs.Maps.{fieldAt, Ascending, values, Holds, OkFields}
-use Rattle.frame_laws.proofs.PhaseTrips.{held-ok}
+use Rattle.wire_cbor.specs.Item.{Pairs, OkPairs}
+use Rattle.wire_cbor.specs.Find.{valueOf}
+use Rattle.wire_fields.specs.Fields.{Fields, present}
+use Rattle.wire_fields.specs.ByPhase.{keysBelow}
+use Rattle.wire_fields.proofs.Joined.{and-left, and-right}
+use Rattle.wire_laws.proofs.Maps.{fieldAt, Ascending, values, Holds, OkFields}
+use Rattle.wire_laws.proofs.PhaseTrips.{held-ok}
 
 -- the fields behind a key below them
 holds-behind : (j : ℕ) (all fs : Fields) (lo : ℕ) → Ascending fs (j + 1) → ((k : ℕ) → j < k → fieldAt all k ≡ fieldAt fs k) → Ascending all lo → Holds (present all) fs

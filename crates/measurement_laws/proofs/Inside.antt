@@ -12,19 +12,19 @@ use lib.Dec.{eqb, ltb, leb}
 use lib.IntN.{ℤ, pos, negsuc, negℤ}
 use lib.Signed.{leZ, ltZ}
 use borrow.Author.Tests.{eqb-true, leb-true, leb-false, lt-ltb, le-ltb, le-leb}
-use Rattle.cbor.specs.Item.{Item, Pairs, payloadOf}
-use Rattle.cbor.specs.Find.{valueOf}
-use Rattle.map_fields.specs.Fields.{intItem, mapIn}
-use Rattle.map_fields.specs.Ranges.{within, range, numberIn}
-use Rattle.map_fields.specs.ByPhase.{keysBelow}
-use Rattle.map_fields.specs.declared.ranges.Range.{Range}
-use Rattle.map_fields.proofs.Joined.{and-same, and-right}
-use Rattle.frame_laws.proofs.FieldsAgain.{no-value, same-inside, bind-parts, map-part}
+use Rattle.wire_cbor.specs.Item.{Item, Pairs, payloadOf}
+use Rattle.wire_cbor.specs.Find.{valueOf}
+use Rattle.wire_fields.specs.Fields.{intItem, mapIn}
+use Rattle.wire_fields.specs.Ranges.{within, range, numberIn}
+use Rattle.wire_fields.specs.ByPhase.{keysBelow}
+use Rattle.wire_fields.specs.declared.ranges.Range.{Range}
+use Rattle.wire_fields.proofs.Joined.{and-same, and-right}
+use Rattle.wire_laws.proofs.FieldsAgain.{no-value, same-inside, bind-parts, map-part}
 use Rattle.measurement_table.specs.Table.{rows, rangeOf, places}
 use Rattle.measurement_table.specs.Cells.{Cell, cellIn, cellsFrom, phasesIn, blanks, rowIn, rowsIn, cellFits, cellsFit, rowsFit}
 use Rattle.measurement_table.specs.Words.{held, marksFit, rangeNumber}
 use Rattle.measurement_table.specs.Payload.{cellsOf}
-use Rattle.measurement_rows.specs.declared.table.Row.{Row}
+use Rattle.measurement_table.specs.declared.attributes.Row.{Row}
 use Rattle.measurement_table.proofs.Order.{table-long}
 use Rattle.measurement_laws.specs.Outside.{RowsInside, NeverRead, NeverWritten, NumberExact, RangeExact, SignedExact, SignedKinds}
 

@@ -9,22 +9,22 @@ use lib.ListN.{length, take, drop, length-append}
 use lib.Dec.{eqb}
 use lib.IntN.{pos, negsuc}
 use borrow.Author.Tests.{ltb-true, leb-true}
-use Rattle.bytes.specs.Bytes.{bytesOf}
-use Rattle.heads.specs.Head.{infoOf, widthOf, headLen, headBytes}
-use Rattle.heads.proofs.Widths.{by-width, head-length, len-positive}
-use Rattle.cbor.specs.Item.{Item, Pairs, encode, encodePairs, countPairs}
-use Rattle.map_fields.specs.Fields.{Fields, present}
-use Rattle.map_fields.specs.Ranges.{within}
-use Rattle.map_fields.specs.Puts.{fieldBytes}
-use Rattle.map_fields.specs.declared.ranges.Range.{Range}
-use Rattle.map_fields.proofs.Joined.{and-left, and-right}
-use Rattle.map_fields.proofs.Added.{map-bytes, fields-none, fields-more}
-use Rattle.frame_laws.proofs.Maps.{count-fields}
-use Rattle.measurement_rows.specs.Table.{bounds, boundsOf}
+use Rattle.wire_bytes.specs.Bytes.{bytesOf}
+use Rattle.wire_heads.specs.Head.{infoOf, widthOf, headLen, headBytes}
+use Rattle.wire_heads.proofs.Widths.{by-width, head-length, len-positive}
+use Rattle.wire_cbor.specs.Item.{Item, Pairs, encode, encodePairs, countPairs}
+use Rattle.wire_fields.specs.Fields.{Fields, present}
+use Rattle.wire_fields.specs.Ranges.{within}
+use Rattle.wire_fields.specs.Puts.{fieldBytes}
+use Rattle.wire_fields.specs.declared.ranges.Range.{Range}
+use Rattle.wire_fields.proofs.Joined.{and-left, and-right}
+use Rattle.wire_fields.proofs.Added.{map-bytes, fields-none, fields-more}
+use Rattle.wire_laws.proofs.Maps.{count-fields}
+use Rattle.measurement_table.specs.Rows.{bounds, boundsOf}
 use Rattle.measurement_table.specs.Table.{rows, rangeOf}
 use Rattle.measurement_table.specs.Cells.{Cell, cellItem, phaseFields, someMap, firstItem, rowItem, fieldsOf, cellFits, cellsFit, rowsFit}
 use Rattle.measurement_table.specs.Payload.{itemOf}
-use Rattle.measurement_rows.specs.declared.table.Row.{Row}
+use Rattle.measurement_table.specs.declared.attributes.Row.{Row}
 use Rattle.measurement_table.proofs.Order.{table-long}
 use Rattle.measurement_laws.specs.Longest.{PayloadLongest, PayloadReached}
 use Rattle.measurement_laws.proofs.WellFormed.{take-short, phases-count, fields-count}

@@ -4,12 +4,12 @@ use mathlib.Core.Option.{some, bind}
 use native.Mathlib.Omega.{arith}
 use lib.ListN.{length}
 use borrow.Author.Tests.{le-leb}
-use Rattle.cbor.specs.Item.{Item, Pairs, Ok, encode}
-use Rattle.cbor_laws.proofs.Payload.{payload-exact}
-use Rattle.map_fields.specs.Fields.{mapIn}
-use Rattle.messages.specs.Refusals.{firstOf}
-use Rattle.frame_laws.proofs.Trips.{payload-back}
-use Rattle.frame_laws.proofs.FieldsAgain.{same-inside}
+use Rattle.wire_cbor.specs.Item.{Item, Pairs, Ok, encode}
+use Rattle.wire_cbor.proofs.Payload.{payload-exact}
+use Rattle.wire_fields.specs.Fields.{mapIn}
+use Rattle.wire_messages.specs.Refusals.{firstOf}
+use Rattle.wire_laws.proofs.Trips.{payload-back}
+use Rattle.wire_laws.proofs.FieldsAgain.{same-inside}
 use Rattle.measurement_table.specs.Table.{rows}
 use Rattle.measurement_table.specs.Cells.{rowsIn}
 use Rattle.measurement_table.specs.Payload.{cellsOf, readNumber, itemOf}

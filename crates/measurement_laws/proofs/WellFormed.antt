@@ -9,17 +9,17 @@ use lib.ListN.{length, getD, take, drop}
 use lib.Dec.{eqb}
 use lib.IntN.{pos, negsuc}
 use borrow.Author.Tests.{ltb-true, leb-true}
-use Rattle.cbor.specs.Item.{Item, Pairs, Ok}
-use Rattle.map_fields.specs.Fields.{present}
-use Rattle.map_fields.specs.Ranges.{within}
-use Rattle.map_fields.specs.declared.ranges.Range.{Range}
-use Rattle.map_fields.proofs.Joined.{and-left, and-right}
-use Rattle.frame_laws.proofs.Maps.{OkField, OkFields, ok-map}
-use Rattle.measurement_rows.specs.Table.{bounds, boundsOf}
+use Rattle.wire_cbor.specs.Item.{Item, Pairs, Ok}
+use Rattle.wire_fields.specs.Fields.{present}
+use Rattle.wire_fields.specs.Ranges.{within}
+use Rattle.wire_fields.specs.declared.ranges.Range.{Range}
+use Rattle.wire_fields.proofs.Joined.{and-left, and-right}
+use Rattle.wire_laws.proofs.Maps.{OkField, OkFields, ok-map}
+use Rattle.measurement_table.specs.Rows.{bounds, boundsOf}
 use Rattle.measurement_table.specs.Table.{rangeBy, rangeOf}
 use Rattle.measurement_table.specs.Cells.{Cell, cellItem, phaseFields, someMap, firstItem, rowItem, fieldsOf, cellFits, cellsFit, rowsFit}
-use Rattle.measurement_rows.specs.declared.table.Row.{Row}
-use Rattle.measurement_rows.specs.declared.table.Bounds.{Bounds}
+use Rattle.measurement_table.specs.declared.attributes.Row.{Row}
+use Rattle.measurement_table.specs.declared.attributes.Bounds.{Bounds}
 use Rattle.measurement_table.proofs.Order.{Rising}
 use Rattle.measurement_laws.proofs.Back.{phases-ascend, fields-ascend}
 

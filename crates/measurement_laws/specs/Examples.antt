@@ -4,7 +4,7 @@ use mathlib.Core.Path.{_≡_}
 use mathlib.Core.List.{List, [], _∷_, _++_, map}
 use mathlib.Core.Option.{some, none}
 use lib.IntN.{pos, negsuc}
-use Rattle.cbor.specs.Item.{encode}
+use Rattle.wire_cbor.specs.Item.{encode}
 use Rattle.measurement_table.specs.Cells.{Cell, blanks}
 use Rattle.measurement_table.specs.Payload.{readNumber, cellsRead, itemOf}
 

@@ -5,7 +5,7 @@ use mathlib.Core.Path.{_≡_}
 use mathlib.Core.Bool.{true}
 use mathlib.Core.List.{List}
 use lib.ListN.{length}
-use Rattle.cbor.specs.Item.{encode}
+use Rattle.wire_cbor.specs.Item.{encode}
 use Rattle.measurement_table.specs.Table.{rows}
 use Rattle.measurement_table.specs.Cells.{Cell, rowsFit}
 use Rattle.measurement_table.specs.Payload.{itemOf}

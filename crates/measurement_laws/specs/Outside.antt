@@ -9,16 +9,16 @@ use mathlib.Core.Option.{some}
 use lib.ListN.{length}
 use lib.IntN.{ℤ, pos, negℤ}
 use lib.Signed.{ltZ, leZ}
-use Rattle.cbor.specs.Item.{Item, Pairs}
-use Rattle.map_fields.specs.Fields.{intItem}
-use Rattle.map_fields.specs.Ranges.{within, signedBits, numberIn}
-use Rattle.map_fields.specs.declared.ranges.Range.{Range}
-use Rattle.measurement_rows.specs.Table.{signed}
+use Rattle.wire_cbor.specs.Item.{Item, Pairs}
+use Rattle.wire_fields.specs.Fields.{intItem}
+use Rattle.wire_fields.specs.Ranges.{within, signedBits, numberIn}
+use Rattle.wire_fields.specs.declared.ranges.Range.{Range}
+use Rattle.measurement_table.specs.Rows.{signed}
 use Rattle.measurement_table.specs.Table.{rows, places, rangeBy}
 use Rattle.measurement_table.specs.Cells.{Cell, rowsIn, rowsFit}
 use Rattle.measurement_table.specs.Words.{held, rangeNumber}
 use Rattle.measurement_table.specs.Payload.{cellsOf}
-use Rattle.measurement_rows.specs.declared.table.Row.{Row}
+use Rattle.measurement_table.specs.declared.attributes.Row.{Row}
 
 -- over any table: what is read has a cell for each place, and each number in the range of its row
 abbrev pub RowsInside : Type 0

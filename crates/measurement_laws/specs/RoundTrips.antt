@@ -6,15 +6,15 @@ use mathlib.Core.Bool.{true}
 use mathlib.Core.List.{List, [], _∷_}
 use mathlib.Core.Option.{some, none}
 use lib.ListN.{length}
-use Rattle.bytes.specs.Bytes.{Bytes}
-use Rattle.cbor.specs.Item.{Item, Pairs, OkPairs, encode, payloadOf}
-use Rattle.cbor.specs.Find.{valueOf}
-use Rattle.map_fields.specs.Fields.{present}
+use Rattle.wire_bytes.specs.Bytes.{Bytes}
+use Rattle.wire_cbor.specs.Item.{Item, Pairs, OkPairs, encode, payloadOf}
+use Rattle.wire_cbor.specs.Find.{valueOf}
+use Rattle.wire_fields.specs.Fields.{present}
 use Rattle.measurement_table.specs.Table.{rows, places}
 use Rattle.measurement_table.specs.Cells.{Cell, rowsIn, fieldsOf, rowsFit}
 use Rattle.measurement_table.specs.Words.{flat, held, rangeNumber}
 use Rattle.measurement_table.specs.Payload.{cellsOf, readNumber, cellsRead, itemOf}
-use Rattle.measurement_rows.specs.declared.table.Row.{Row}
+use Rattle.measurement_table.specs.declared.attributes.Row.{Row}
 use Rattle.measurement_table.proofs.Order.{Rising}
 
 -- OVER ANY TABLE

@@ -9,25 +9,25 @@ use lib.ListN.{length, length-append}
 use lib.Seq.{sets, sets-eq, drop-length}
 use lib.Dec.{eqb}
 use borrow.Author.Tests.{eq-eqb, ne-eqb}
-use Rattle.bytes.specs.Bytes.{Bytes}
-use Rattle.heads.specs.Head.{headAt}
-use Rattle.cbor.specs.Item.{Item, got, itemAt, encode, payloadOf, isSome, levels}
-use Rattle.cbor.specs.Find.{seekAt}
-use Rattle.heads.specs.declared.reading.Head.{Head}
-use Rattle.cbor_laws.proofs.Payload.{payload-exact}
-use Rattle.cbor_laws.proofs.Complete.{item-reads-back}
-use Rattle.cbor.proofs.Seen.{read-head-of}
-use Rattle.cbor_laws.proofs.Walks.{walk-starts}
-use Rattle.messages.specs.Refusals.{firstOf}
-use Rattle.map_fields.specs.Fields.{mapIn}
-use Rattle.map_fields.proofs.Joined.{is-some}
+use Rattle.wire_bytes.specs.Bytes.{Bytes}
+use Rattle.wire_heads.specs.Head.{headAt}
+use Rattle.wire_cbor.specs.Item.{Item, got, itemAt, encode, payloadOf, isSome, levels}
+use Rattle.wire_cbor.specs.Find.{seekAt}
+use Rattle.wire_heads.specs.declared.reading.Head.{Head}
+use Rattle.wire_cbor.proofs.Payload.{payload-exact}
+use Rattle.wire_cbor.proofs.Complete.{item-reads-back}
+use Rattle.wire_cbor.proofs.Seen.{read-head-of}
+use Rattle.wire_cbor.proofs.Walks.{walk-starts}
+use Rattle.wire_messages.specs.Refusals.{firstOf}
+use Rattle.wire_fields.specs.Fields.{mapIn}
+use Rattle.wire_fields.proofs.Joined.{is-some}
 use Rattle.measurement_reader.proofs.Options.{no-value, same-inside, bind-parts, map-part}
 use Rattle.measurement_table.specs.Table.{rows, places}
 use Rattle.measurement_table.specs.Cells.{Cell, blanks, rowsIn}
 use Rattle.measurement_table.specs.Payload.{lengthFits, cellsOf, readNumber, orBlank, cellsRead}
 use Rattle.measurement_table.specs.Words.{flat}
 use Rattle.measurement_reader.specs.Walk.{Filled, rowAt, nextAt, rowsAt, payloadAt}
-use Rattle.measurement_rows.specs.declared.table.Row.{Row}
+use Rattle.measurement_table.specs.declared.attributes.Row.{Row}
 use Rattle.measurement_reader.proofs.Walked.{rows-walk}
 use Rattle.measurement_reader.proofs.Rows.{row-long, flat-long, filled-some, filled-none}
 use Rattle.measurement_table.proofs.Order.{table, table-long}

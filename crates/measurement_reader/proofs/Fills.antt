@@ -9,20 +9,20 @@ use lib.Seq.{sets}
 use lib.Dec.{eqb, leb, ltb}
 use lib.IntN.{ℤ, pos, negsuc}
 use borrow.Author.Tests.{eq-eqb, ne-eqb}
-use Rattle.heads.specs.Head.{headAt}
-use Rattle.cbor.specs.Item.{Item, Got, got, bad, itemAt, endOf, pastOf}
-use Rattle.cbor.specs.Find.{seekAt}
-use Rattle.cbor.specs.Scan.{sight}
-use Rattle.heads.specs.declared.reading.Head.{Head}
-use Rattle.cbor.specs.declared.items.End.{End}
-use Rattle.cbor.specs.declared.pairs.Stop.{Stop}
+use Rattle.wire_heads.specs.Head.{headAt}
+use Rattle.wire_cbor.specs.Item.{Item, Got, got, bad, itemAt, endOf, pastOf}
+use Rattle.wire_cbor.specs.Find.{seekAt}
+use Rattle.wire_cbor.specs.Scan.{sight}
+use Rattle.wire_heads.specs.declared.reading.Head.{Head}
+use Rattle.wire_cbor.specs.declared.items.End.{End}
+use Rattle.wire_cbor.specs.declared.pairs.Stop.{Stop}
 use Rattle.measurement_table.specs.Cells.{Cell, blanks}
 use Rattle.measurement_table.specs.Words.{place, placeOf, flat}
 use Rattle.measurement_reader.specs.Walk.{placeOr, Filled, numberBy, numberFrom, cellAt, nextAt, cellsAt, phasesFrom}
-use Rattle.map_fields.specs.Ranges.{within}
-use Rattle.map_fields.specs.Sights.{numberSeen}
-use Rattle.map_fields.specs.declared.ranges.Range.{Range}
-use Rattle.map_fields.proofs.Joined.{no-both}
+use Rattle.wire_fields.specs.Ranges.{within}
+use Rattle.wire_fields.specs.Sights.{numberSeen}
+use Rattle.wire_fields.specs.declared.ranges.Range.{Range}
+use Rattle.wire_fields.proofs.Joined.{no-both}
 use Rattle.measurement_table.specs.declared.words.Place.{Place}
 
 -- NUMBERS

@@ -10,18 +10,18 @@ use lib.ListN.{length, getD, drop}
 use lib.Seq.{sets, drop-cons}
 use lib.Dec.{eqb}
 use borrow.Author.Tests.{eq-eqb, ne-eqb, eqb-true}
-use Rattle.heads.specs.Head.{headAt}
-use Rattle.cbor.specs.Find.{seekAt}
-use Rattle.heads.specs.declared.reading.Head.{Head}
-use Rattle.cbor.specs.declared.pairs.Stop.{Stop}
-use Rattle.map_fields.proofs.Joined.{no-both}
+use Rattle.wire_heads.specs.Head.{headAt}
+use Rattle.wire_cbor.specs.Find.{seekAt}
+use Rattle.wire_heads.specs.declared.reading.Head.{Head}
+use Rattle.wire_cbor.specs.declared.pairs.Stop.{Stop}
+use Rattle.wire_fields.proofs.Joined.{no-both}
 use Rattle.measurement_reader.proofs.Options.{no-value, same-inside, bind-parts, map-part}
-use Rattle.map_fields.specs.declared.ranges.Range.{Range}
+use Rattle.wire_fields.specs.declared.ranges.Range.{Range}
 use Rattle.measurement_table.specs.Table.{rows, noRow, rangeOf, places}
 use Rattle.measurement_table.specs.Cells.{Cell, blanks}
 use Rattle.measurement_table.specs.Words.{placeOf, flat}
 use Rattle.measurement_reader.specs.Walk.{placeOr, Filled, cellAt, nextAt, cellsAt, phasesFrom, rowAt, rowsAt}
-use Rattle.measurement_rows.specs.declared.table.Row.{Row}
+use Rattle.measurement_table.specs.declared.attributes.Row.{Row}
 use Rattle.measurement_table.specs.declared.words.Place.{Place}
 use Rattle.measurement_reader.proofs.Fills.{refused, taken}
 

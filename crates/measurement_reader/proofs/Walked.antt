@@ -9,26 +9,26 @@ use native.Mathlib.Omega.{arith}
 use lib.Dec.{eqb, ltb}
 use lib.IntN.{ℤ}
 use borrow.Author.Tests.{eqb-true, ne-eqb, lt-ltb, ltb-true}
-use Rattle.bytes.specs.Bytes.{Bytes}
-use Rattle.heads.specs.Head.{headAt, headLen}
-use Rattle.cbor.specs.Item.{Item, Pairs, got, itemAt, pairsAt, countPairs}
-use Rattle.cbor.specs.Find.{valueOf, seekAt}
-use Rattle.cbor_laws.specs.Laws.{Walking, Sought}
-use Rattle.heads.specs.declared.reading.Head.{Head}
-use Rattle.cbor.specs.declared.pairs.Stop.{Stop}
-use Rattle.cbor.proofs.Seen.{majorOf, argOf, read-head-of, pairs-step, value-here, value-there}
-use Rattle.bytes.proofs.Order.{below}
-use Rattle.cbor_laws.proofs.Walks.{walk-starts, seek-exact}
-use Rattle.map_fields.specs.Ranges.{numberIn}
-use Rattle.map_fields.specs.ByPhase.{keysBelow}
-use Rattle.map_fields.specs.declared.ranges.Range.{Range}
-use Rattle.map_fields.proofs.Joined.{and-left, and-right, and-same}
+use Rattle.wire_bytes.specs.Bytes.{Bytes}
+use Rattle.wire_heads.specs.Head.{headAt, headLen}
+use Rattle.wire_cbor.specs.Item.{Item, Pairs, got, itemAt, pairsAt, countPairs}
+use Rattle.wire_cbor.specs.Find.{valueOf, seekAt}
+use Rattle.wire_cbor.specs.Encodings.{Walking, Sought}
+use Rattle.wire_heads.specs.declared.reading.Head.{Head}
+use Rattle.wire_cbor.specs.declared.pairs.Stop.{Stop}
+use Rattle.wire_cbor.proofs.Seen.{majorOf, argOf, read-head-of, pairs-step, value-here, value-there}
+use Rattle.wire_bytes.proofs.Order.{below}
+use Rattle.wire_cbor.proofs.Walks.{walk-starts, seek-exact}
+use Rattle.wire_fields.specs.Ranges.{numberIn}
+use Rattle.wire_fields.specs.ByPhase.{keysBelow}
+use Rattle.wire_fields.specs.declared.ranges.Range.{Range}
+use Rattle.wire_fields.proofs.Joined.{and-left, and-right, and-same}
 use Rattle.measurement_reader.proofs.Options.{no-value}
 use Rattle.measurement_table.specs.Table.{rangeOf}
 use Rattle.measurement_table.specs.Cells.{Cell, cellIn, cellsFrom, phasesIn, blanks, rowIn, rowsIn}
 use Rattle.measurement_reader.specs.Walk.{numberBy, numberFrom, cellAt, nextAt, cellsAt, phasesFrom, rowAt, rowsAt}
 use Rattle.measurement_table.proofs.Order.{Rising}
-use Rattle.measurement_rows.specs.declared.table.Row.{Row}
+use Rattle.measurement_table.specs.declared.attributes.Row.{Row}
 
 -- no key from w on
 none-from : (ps : Pairs) (w k : ℕ) → keysBelow w ps ≡ true → w ≤ k → valueOf ps k ≡ none

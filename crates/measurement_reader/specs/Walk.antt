@@ -8,16 +8,16 @@ use mathlib.Core.Option.{Option, some, none, bind, Option·map}
 use lib.Dec.{eqb}
 use lib.IntN.{ℤ, pos, negsuc}
 use lib.Seq.{sets}
-use Rattle.heads.specs.Head.{headAt}
-use Rattle.heads.specs.declared.reading.Head.{Head}
-use Rattle.cbor.specs.Item.{itemAt, pastOf}
-use Rattle.cbor.specs.Find.{seekAt}
-use Rattle.map_fields.specs.Ranges.{whenWithin}
-use Rattle.map_fields.specs.declared.ranges.Range.{Range}
+use Rattle.wire_heads.specs.Head.{headAt}
+use Rattle.wire_heads.specs.declared.reading.Head.{Head}
+use Rattle.wire_cbor.specs.Item.{itemAt, pastOf}
+use Rattle.wire_cbor.specs.Find.{seekAt}
+use Rattle.wire_fields.specs.Ranges.{whenWithin}
+use Rattle.wire_fields.specs.declared.ranges.Range.{Range}
 use Rattle.measurement_table.specs.Table.{rangeOf, rows}
 use Rattle.measurement_table.specs.Cells.{Cell, blanks}
 use Rattle.measurement_table.specs.Words.{place, placeOf, flat}
-use Rattle.measurement_rows.specs.declared.table.Row.{Row}
+use Rattle.measurement_table.specs.declared.attributes.Row.{Row}
 use Rattle.measurement_table.specs.declared.words.Place.{Place}
 
 -- ANSWERS

@@ -1,10 +1,10 @@
 // One cell of a payload, and where the walk goes on behind it.
-use cbor::End;
-use cbor::Sight;
-use heads::Head;
-use map_fields::Range;
-use map_fields::is_in;
 use measurement_table::Place;
+use wire_cbor::End;
+use wire_cbor::Sight;
+use wire_fields::Range;
+use wire_fields::is_in;
+use wire_heads::Head;
 ghost use mathlib.Core.Path.{_≡_};
 ghost use mathlib.Core.Option.{some, Option·map};
 ghost use Rattle.measurement_reader.specs.Walk.{placeOr, numberBy, cellAt, nextAt};
@@ -39,7 +39,7 @@ pub(crate) fn cell_at(s: &[u8], range: Range, there: bool, at: usize) -> Place
     ensures { λ r. ⌜ r ≡ placeOr (cellAt (now (s .entry)) range there at) ⌝ }
 {
     if there {
-        return match heads::read_head(s, at) {
+        return match wire_heads::read_head(s, at) {
             Head::Bad => NOT_READ,
             Head::Is(major, n, _) => number_of(range, major, n),
         };
@@ -52,7 +52,7 @@ pub(crate) fn next_at(s: &[u8], depth: u64, there: bool, at: usize) -> usize
     ensures { λ r. ⌜ r ≡ nextAt (now (s .entry)) depth there at ⌝ }
 {
     if there {
-        return match cbor::check_item(s, at, depth) {
+        return match wire_cbor::check_item(s, at, depth) {
             End::Bad => 0,
             End::At(e) => e,
         };

@@ -1,13 +1,13 @@
 // A payload of Measurement, read.
 use crate::walk::rows_into;
-use heads::Head;
 use measurement_table::Words;
 use measurement_table::clear;
+use wire_heads::Head;
 ghost use mathlib.Core.Path.{_≡_};
 ghost use mathlib.Core.Bool.{_&&_};
 ghost use lib.Dec.{leb};
-ghost use Rattle.heads.specs.Head.{headAt};
-ghost use Rattle.cbor.specs.Item.{payloadOf, isSome};
+ghost use Rattle.wire_heads.specs.Head.{headAt};
+ghost use Rattle.wire_cbor.specs.Item.{payloadOf, isSome};
 ghost use Rattle.measurement_table.specs.Payload.{readNumber, cellsRead};
 ghost use Rattle.measurement_table.specs.Words.{flat};
 ghost use Rattle.measurement_reader.specs.Walk.{Filled, payloadAt};
@@ -28,15 +28,15 @@ fn has_length(n: usize) -> bool
 fn is_item(s: &[u8]) -> bool
     ensures { λ r. ⌜ r ≡ isSome (payloadOf (now (s .entry))) ⌝ }
 {
-    let mut sights = [0u64; cbor::WORDS];
-    cbor::scan(s, 0, &mut sights)
+    let mut sights = [0u64; wire_cbor::WORDS];
+    wire_cbor::scan(s, 0, &mut sights)
 }
 
 // The rows of a payload, which is one item.
 fn payload_into(s: &[u8], words: &mut Words) -> bool
     ensures { λ r. ⌜ Filled (payloadAt (now (s .entry)) (headAt (now (s .entry)) 0)) 0 (now (words .entry)) r (now (words .exit)) ⌝ }
 {
-    match heads::read_head(s, 0) {
+    match wire_heads::read_head(s, 0) {
         Head::Bad => false,
         Head::Is(major, n, next) => {
             if major != 5 {

@@ -2,8 +2,6 @@
 use crate::cells::REFUSED;
 use crate::cells::cell_at;
 use crate::cells::next_at;
-use heads::Head;
-use map_fields::Range;
 use measurement_table::Place;
 use measurement_table::ROWS;
 use measurement_table::Row;
@@ -11,10 +9,12 @@ use measurement_table::Words;
 use measurement_table::put_place;
 use measurement_table::range_of;
 use measurement_table::row_at;
+use wire_fields::Range;
+use wire_heads::Head;
 ghost use mathlib.Core.Path.{_≡_};
 ghost use Prim.Native.Nat.{_+_, _*_, _≤_};
 ghost use lib.Seq.{sets};
-ghost use Rattle.heads.specs.Head.{headAt};
+ghost use Rattle.wire_heads.specs.Head.{headAt};
 ghost use Rattle.measurement_table.specs.Table.{rows};
 ghost use Rattle.measurement_table.specs.Cells.{blanks};
 ghost use Rattle.measurement_table.specs.Words.{flat};
@@ -54,7 +54,7 @@ fn cells_into(
     let mut left = n;
     let mut k: usize = 0;
     while k < width {
-        let w = cbor::seek(s, p, left, k as u64, INNER);
+        let w = wire_cbor::seek(s, p, left, k as u64, INNER);
         let c = cell_at(s, range, w.there, w.at);
         if c.mark == REFUSED {
             return false;
@@ -79,7 +79,7 @@ fn phases_into(
     requires { ⌜ place + width ≤ 36 ⌝ }
     ensures { λ r. ⌜ Filled (phasesFrom (now (s .entry)) 6 range width (headAt (now (s .entry)) at)) (2 * place) (now (words .entry)) r (now (words .exit)) ⌝ }
 {
-    match heads::read_head(s, at) {
+    match wire_heads::read_head(s, at) {
         Head::Bad => false,
         Head::Is(major, n, next) => {
             if major != 5 {
@@ -125,7 +125,7 @@ pub(crate) fn rows_into(s: &[u8], at: usize, n: u64, words: &mut Words) -> bool
     let mut place: usize = 0;
     while i < ROWS {
         let row = row_at(i);
-        let w = cbor::seek(s, p, left, row.0 as u64, OUTER);
+        let w = wire_cbor::seek(s, p, left, row.0 as u64, OUTER);
         if !row_into(s, row, w.there, w.at, place, words) {
             return false;
         }

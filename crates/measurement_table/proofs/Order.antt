@@ -7,9 +7,9 @@ use native.Mathlib.Omega.{arith}
 use lib.ListN.{length}
 use lib.Dec.{leb, ltb}
 use borrow.Author.Tests.{leb-true, ltb-true}
-use Rattle.map_fields.proofs.Joined.{and-left, and-right}
+use Rattle.wire_fields.proofs.Joined.{and-left, and-right}
 use Rattle.measurement_table.specs.Table.{rows, places}
-use Rattle.measurement_rows.specs.declared.table.Row.{Row}
+use Rattle.measurement_table.specs.declared.attributes.Row.{Row}
 
 -- numbers ascend from lo on
 abbrev pub Rising : List Row → ℕ → Type 0

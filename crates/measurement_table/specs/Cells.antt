@@ -7,14 +7,14 @@ use mathlib.Core.Option.{Option, some, none, bind, Option·map}
 use lib.ListN.{take, drop}
 use lib.Dec.{eqb}
 use lib.IntN.{ℤ}
-use Rattle.cbor.specs.Item.{Item, Pairs}
-use Rattle.cbor.specs.Find.{valueOf}
-use Rattle.map_fields.specs.Fields.{intItem, Fields, present}
-use Rattle.map_fields.specs.Ranges.{within, numberIn}
-use Rattle.map_fields.specs.ByPhase.{keysBelow}
-use Rattle.map_fields.specs.declared.ranges.Range.{Range}
+use Rattle.wire_cbor.specs.Item.{Item, Pairs}
+use Rattle.wire_cbor.specs.Find.{valueOf}
+use Rattle.wire_fields.specs.Fields.{intItem, Fields, present}
+use Rattle.wire_fields.specs.Ranges.{within, numberIn}
+use Rattle.wire_fields.specs.ByPhase.{keysBelow}
+use Rattle.wire_fields.specs.declared.ranges.Range.{Range}
 use Rattle.measurement_table.specs.Table.{rangeOf}
-use Rattle.measurement_rows.specs.declared.table.Row.{Row}
+use Rattle.measurement_table.specs.declared.attributes.Row.{Row}
 
 abbrev pub Cell : Type 0
 Cell = Option ℤ

@@ -2,3 +2,4 @@ pub mod Table
 pub mod Cells
 pub mod Words
 pub mod Payload
+pub mod Rows

@@ -5,9 +5,9 @@ use mathlib.Core.List.{List, [], _∷_}
 use mathlib.Core.Option.{Option, some, none, bind}
 use lib.ListN.{length}
 use lib.Dec.{leb, eqb}
-use Rattle.cbor.specs.Item.{Item, payloadOf, isSome}
-use Rattle.messages.specs.Refusals.{firstOf}
-use Rattle.map_fields.specs.Fields.{mapIn, present}
+use Rattle.wire_cbor.specs.Item.{Item, payloadOf, isSome}
+use Rattle.wire_messages.specs.Refusals.{firstOf}
+use Rattle.wire_fields.specs.Fields.{mapIn, present}
 use Rattle.measurement_table.specs.Table.{rows}
 use Rattle.measurement_table.specs.Cells.{Cell, blanks, rowsIn, fieldsOf}
 

@@ -1,11 +1,11 @@
--- The range of each kind of attribute; the table itself is `measurement_rows/Table`. Assumes nothing: these are definitions.
+-- The range of each kind of attribute; the table itself is `measurement_table/Table`. Assumes nothing: these are definitions.
 use Prim.Native.Nat.{ℕ}
-use Rattle.map_fields.specs.Ranges.{range}
-use Rattle.map_fields.specs.declared.ranges.Range.{Range}
-use Rattle.measurement_rows.specs.Table.{boundsOf}
-use Rattle.measurement_rows.specs.declared.table.Bounds.{Bounds}
-unfoldable pub use Rattle.measurement_rows.specs.Table.{rows, places}
-pub use Rattle.measurement_rows.specs.Table.{noRow}
+use Rattle.wire_fields.specs.Ranges.{range}
+use Rattle.wire_fields.specs.declared.ranges.Range.{Range}
+use Rattle.measurement_table.specs.Rows.{boundsOf}
+use Rattle.measurement_table.specs.declared.attributes.Bounds.{Bounds}
+unfoldable pub use Rattle.measurement_table.specs.Rows.{rows, places}
+pub use Rattle.measurement_table.specs.Rows.{noRow}
 
 abbrev pub rangeBy : Bounds → Range
 rangeBy b = range (b .below) (b .high)

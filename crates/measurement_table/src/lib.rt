@@ -2,9 +2,13 @@
 mod table; // table.rt: the range of each kind
 mod words; // words.rt: cells as words
 
-pub use measurement_rows::ROWS;
-pub use measurement_rows::Row;
-pub use measurement_rows::row_at;
+// The attributes of the Measurement feature (document 002), as plain numbers.
+mod attributes; // attributes.rt: the attributes by number, places and kind, and the bounds of the kinds
+
+pub use attributes::Bounds;
+pub use attributes::ROWS;
+pub use attributes::Row;
+pub use attributes::row_at;
 pub use table::range_of;
 pub use words::PLACES;
 pub use words::Place;

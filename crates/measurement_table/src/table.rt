@@ -1,6 +1,6 @@
 // The range of each kind of attribute.
-use map_fields::Range;
-use measurement_rows::bounds_of;
+use crate::attributes::bounds_of;
+use wire_fields::Range;
 ghost use mathlib.Core.Path.{_≡_};
 ghost use Rattle.measurement_table.specs.Table.{rangeOf};
 

@@ -6,17 +6,17 @@ use mathlib.Core.Option.{Option, some, none}
 use native.Mathlib.Omega.{arith}
 use lib.IntN.{pos, negsuc}
 use borrow.Author.Tests.{eq-eqb}
-use Rattle.cbor.specs.Item.{Item, Pairs, countPairs}
-use Rattle.cbor.specs.Scan.{sightOf}
-use Rattle.cbor.specs.declared.sights.Sight.{Sight}
-use Rattle.map_fields.specs.Fields.{Fields, present}
-use Rattle.map_fields.specs.Puts.{pairsOf}
-use Rattle.map_fields.specs.ByPhase.{seenOf, phaseMap}
-use Rattle.map_fields.proofs.Added.{Flat, count-more, count-none}
+use Rattle.wire_cbor.specs.Item.{Item, Pairs, countPairs}
+use Rattle.wire_cbor.specs.Scan.{sightOf}
+use Rattle.wire_cbor.specs.declared.sights.Sight.{Sight}
+use Rattle.wire_fields.specs.Fields.{Fields, present}
+use Rattle.wire_fields.specs.Puts.{pairsOf}
+use Rattle.wire_fields.specs.ByPhase.{seenOf, phaseMap}
+use Rattle.wire_fields.proofs.Added.{Flat, count-more, count-none}
 use Rattle.measurement_table.specs.Cells.{Cell, cellItem, phaseFields, someMap, firstItem, rowItem}
 use Rattle.measurement_table.specs.Words.{heldAt, heldFrom}
-use Rattle.measurement_rows.specs.declared.table.Row.{Row}
-use Rattle.measurement_fits.proofs.Cases.{held-one, held-three}
+use Rattle.measurement_table.specs.declared.attributes.Row.{Row}
+use Rattle.measurement_writer.proofs.FitCases.{held-one, held-three}
 
 pub flat-cell : (c : Cell) → Flat (cellItem c)
 unfolding cellItem

@@ -6,19 +6,19 @@ use mathlib.Core.Option.{Option, some, none}
 use native.Mathlib.Omega.{arith}
 use lib.ListN.{length, take, length-append}
 use lib.IntN.{pos, negsuc}
-use Rattle.bytes.specs.Bytes.{putWhole, pastWhole}
-use Rattle.heads.specs.Head.{headBytes, headLen, headOf}
-use Rattle.heads.proofs.Widths.{by-width, head-length, head-short}
-use Rattle.cbor.specs.Item.{Item, encode, encodePairs, countPairs}
-use Rattle.cbor.specs.Scan.{sightOf}
-use Rattle.cbor.specs.declared.sights.Sight.{Sight}
-use Rattle.map_fields.specs.Fields.{Fields, present}
-use Rattle.map_fields.specs.Puts.{Puts, PutsField, pairBytes, fieldBytes, sightBytes, pairPieces, sightPieces}
-use Rattle.map_fields.specs.ByPhase.{seenOf, phaseMap, PutsPhases}
-use Rattle.map_fields.proofs.Added.{puts-none, puts-more, puts-head, puts-fit, flat-put, pairs-small, map-bytes, fields-more, fields-one, count-more, count-none}
-use Rattle.map_fields.proofs.PhaseLaws.{puts-map}
-use Rattle.sender.specs.declared.Written.{Written}
-use Rattle.sender.proofs.Sends.{Writes}
+use Rattle.wire_bytes.specs.Bytes.{putWhole, pastWhole}
+use Rattle.wire_heads.specs.Head.{headBytes, headLen, headOf}
+use Rattle.wire_heads.proofs.Widths.{by-width, head-length, head-short}
+use Rattle.wire_cbor.specs.Item.{Item, encode, encodePairs, countPairs}
+use Rattle.wire_cbor.specs.Scan.{sightOf}
+use Rattle.wire_cbor.specs.declared.sights.Sight.{Sight}
+use Rattle.wire_fields.specs.Fields.{Fields, present}
+use Rattle.wire_fields.specs.Puts.{Puts, PutsField, pairBytes, fieldBytes, sightBytes, pairPieces, sightPieces}
+use Rattle.wire_fields.specs.ByPhase.{seenOf, phaseMap, PutsPhases}
+use Rattle.wire_fields.proofs.Added.{puts-none, puts-more, puts-head, puts-fit, flat-put, pairs-small, map-bytes, fields-more, fields-one, count-more, count-none}
+use Rattle.wire_fields.proofs.PhaseLaws.{puts-map}
+use Rattle.wire_output.specs.declared.Written.{Written}
+use Rattle.wire_output.proofs.Sends.{Writes}
 use Rattle.measurement_table.specs.Table.{rows}
 use Rattle.measurement_table.specs.Cells.{Cell, cellItem, fieldsOf}
 use Rattle.measurement_table.specs.Words.{held}

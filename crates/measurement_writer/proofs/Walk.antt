@@ -7,17 +7,17 @@ use native.Mathlib.Omega.{arith}
 use lib.ListN.{drop}
 use lib.Dec.{ltb, eqb}
 use borrow.Author.Tests.{ltb-true}
-use Rattle.cbor.specs.Item.{encodePairs, countPairs}
-use Rattle.map_fields.specs.Fields.{present}
-use Rattle.map_fields.specs.Puts.{fieldBytes, pairsOf}
-use Rattle.map_fields.proofs.Added.{fields-none, fields-more, count-none, count-more, pairs-small}
-use Rattle.map_fields.proofs.Joined.{and-left}
+use Rattle.wire_cbor.specs.Item.{encodePairs, countPairs}
+use Rattle.wire_fields.specs.Fields.{present}
+use Rattle.wire_fields.specs.Puts.{fieldBytes, pairsOf}
+use Rattle.wire_fields.proofs.Added.{fields-none, fields-more, count-none, count-more, pairs-small}
+use Rattle.wire_fields.proofs.Joined.{and-left}
 use Rattle.measurement_table.specs.Table.{rows, places}
 use Rattle.measurement_table.specs.Cells.{Cell, rowItem, fieldsOf}
 use Rattle.measurement_table.specs.Words.{heldFrom}
-use Rattle.measurement_rows.specs.declared.table.Row.{Row}
-use Rattle.measurement_fits.specs.Shape.{shaped}
-use Rattle.measurement_fits.proofs.Walk.{heldBy, held-take, held-drop}
+use Rattle.measurement_table.specs.declared.attributes.Row.{Row}
+use Rattle.measurement_writer.specs.Shape.{shaped}
+use Rattle.measurement_writer.proofs.FitWalk.{heldBy, held-take, held-drop}
 
 pub key-low : (r : Row) → shaped r ≡ true → r .0 < 256
 unfolding shaped

@@ -2,10 +2,10 @@
 use Prim.Native.Nat.{ℕ, _+_, _*_, _≤_}
 use mathlib.Core.List.{List}
 use lib.ListN.{length}
-use Rattle.map_fields.specs.Puts.{Adds, fieldBytes}
+use Rattle.wire_fields.specs.Puts.{Adds, fieldBytes}
 use Rattle.measurement_table.specs.Cells.{rowItem}
 use Rattle.measurement_table.specs.Words.{heldFrom}
-use Rattle.measurement_rows.specs.declared.table.Row.{Row}
+use Rattle.measurement_table.specs.declared.attributes.Row.{Row}
 
 -- the bytes of a row whose cells stand from place i on: none where the attribute is absent
 abbrev pub rowBytes : List ℕ → ℕ → Row → List ℕ

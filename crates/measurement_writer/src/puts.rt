@@ -1,24 +1,24 @@
 // The attributes that are there, counted and put one behind the other; absent ones are left out.
-use map_fields::count_phases;
-use map_fields::put_map;
-use map_fields::put_phases;
-use map_fields::put_sight;
-use measurement_fits::cell_sight;
+use crate::sights::cell_sight;
 use measurement_table::ROWS;
 use measurement_table::Row;
 use measurement_table::Words;
 use measurement_table::row_at;
+use wire_fields::count_phases;
+use wire_fields::put_map;
+use wire_fields::put_phases;
+use wire_fields::put_sight;
 ghost use mathlib.Core.Path.{_≡_};
 ghost use mathlib.Core.Bool.{true};
 ghost use Prim.Native.Nat.{_+_, _*_, _≤_};
-ghost use Rattle.cbor.specs.Item.{encode, encodePairs, countPairs};
-ghost use Rattle.map_fields.specs.Fields.{present};
-ghost use Rattle.map_fields.specs.Puts.{Puts, pairsOf};
+ghost use Rattle.wire_cbor.specs.Item.{encode, encodePairs, countPairs};
+ghost use Rattle.wire_fields.specs.Fields.{present};
+ghost use Rattle.wire_fields.specs.Puts.{Puts, pairsOf};
 ghost use Rattle.measurement_table.specs.Table.{rows};
 ghost use Rattle.measurement_table.specs.Cells.{rowItem, fieldsOf};
 ghost use Rattle.measurement_table.specs.Words.{heldFrom, held};
 ghost use Rattle.measurement_table.specs.Payload.{itemOf};
-ghost use Rattle.measurement_fits.specs.Shape.{shaped};
+ghost use Rattle.measurement_writer.specs.Shape.{shaped};
 ghost use Rattle.measurement_writer.specs.Room.{rowBytes, placeRoom, rowsRoom, payloadRoom, PutsShort};
 
 // 1 where an attribute is there, else 0.
@@ -107,6 +107,6 @@ pub(crate) fn put_payload(out: &mut [u8], words: &Words) -> usize
     ensures { λ r. ⌜ Puts (now (out .entry)) 0 (encode (itemOf (held (now (words .entry))))) payloadRoom (now (out .exit)) r ⌝ }
 {
     let n = count_rows(words);
-    let p = heads::put_head(out, 0, 5, n);
+    let p = wire_heads::put_head(out, 0, 5, n);
     put_rows(out, p, words)
 }

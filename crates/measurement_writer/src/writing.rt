@@ -1,14 +1,14 @@
 // A payload of Measurement, written.
+use crate::fits::range_number;
 use crate::puts::put_payload;
-use measurement_fits::range_number;
 use measurement_table::Words;
-use sender::Written;
-use sender::deliver;
-use sender::refused;
+use wire_output::Written;
+use wire_output::deliver;
+use wire_output::refused;
 ghost use mathlib.Core.Path.{_≡_};
 ghost use lib.ListN.{length};
-ghost use Rattle.cbor.specs.Item.{encode};
-ghost use Rattle.sender.specs.Writing.{writtenOf, leftBy};
+ghost use Rattle.wire_cbor.specs.Item.{encode};
+ghost use Rattle.wire_output.specs.Writing.{writtenOf, leftBy};
 ghost use Rattle.measurement_table.specs.Payload.{itemOf};
 ghost use Rattle.measurement_table.specs.Words.{held, rangeNumber};
 

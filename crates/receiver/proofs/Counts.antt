@@ -8,8 +8,8 @@ use lib.ListN.{length, getD, take, length-append, List·getD-append}
 use lib.Seq.{length-take-le, getD-take, getD-append-add}
 use lib.Dec.{leb, ltb, eqb}
 use borrow.Author.Tests.{ltb-true, ltb-false, leb-true, eqb-true, eqb-false, lt-ltb, le-ltb, le-leb, lt-leb, eq-eqb, ne-eqb}
-use Rattle.prefix.specs.Prefix.{endOf}
-use Rattle.prefix.proofs.Ends.{no-both}
+use Rattle.wire_prefix.specs.Prefix.{endOf}
+use Rattle.wire_prefix.proofs.Ends.{no-both}
 use Rattle.receiver.specs.declared.record.Record.{Record}
 use Rattle.receiver.specs.Receive.{fresh, isOpen, endFor, recordAt, lengthAt}
 

@@ -10,10 +10,10 @@ use lib.ListN.{length, take, set, getD, length-set}
 use lib.Seq.{paste, paste-zero, paste-suc}
 use lib.Dec.{leb, ltb, eqb}
 use borrow.Author.Tests.{ltb-true, ltb-false, lt-ltb, le-ltb}
-use Rattle.bytes.specs.Bytes.{putWhole, put}
-use Rattle.bytes.proofs.PutLaws.{put-whole, copied, taken-length}
-use Rattle.prefix.specs.Prefix.{badEnd}
-use Rattle.prefix.proofs.Ends.{good-end, end-good}
+use Rattle.wire_bytes.specs.Bytes.{putWhole, put}
+use Rattle.wire_bytes.proofs.PutLaws.{put-whole, copied, taken-length}
+use Rattle.wire_prefix.specs.Prefix.{badEnd}
+use Rattle.wire_prefix.proofs.Ends.{good-end, end-good}
 use Rattle.receiver.specs.declared.record.Record.{Record}
 use Rattle.receiver.specs.declared.record.Answer.{Answer}
 use Rattle.receiver.specs.declared.record.Decision.{Decision}

@@ -5,8 +5,8 @@ use mathlib.Core.Bool.{Bool, cond, _&&_}
 use mathlib.Core.List.{List, _++_}
 use lib.ListN.{length, take}
 use lib.Dec.{leb, ltb, eqb}
-use Rattle.bytes.specs.Bytes.{putWhole}
-use Rattle.prefix.specs.Prefix.{mostFrame, endOf, badEnd}
+use Rattle.wire_bytes.specs.Bytes.{putWhole}
+use Rattle.wire_prefix.specs.Prefix.{mostFrame, endOf, badEnd}
 use Rattle.receiver.specs.declared.record.Record.{Record}
 use Rattle.receiver.specs.declared.record.Answer.{Answer}
 

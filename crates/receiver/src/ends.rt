@@ -1,10 +1,10 @@
 // Where the frame in hand ends, as its prefix says, which may stand half in the room and half in the scrap.
-use prefix::PREFIX;
+use wire_prefix::PREFIX;
 ghost use mathlib.Core.Path.{_≡_};
 ghost use mathlib.Core.List.{_++_};
 ghost use Prim.Native.Nat.{_<_, _≤_};
 ghost use lib.ListN.{length, getD, take};
-ghost use Rattle.prefix.specs.Prefix.{endOf};
+ghost use Rattle.wire_prefix.specs.Prefix.{endOf};
 
 // The byte `i` of the room's first `have` bytes with the scrap behind them.
 fn byte(have: usize, room: &[u8], scrap: &[u8], i: usize) -> usize
@@ -13,9 +13,9 @@ fn byte(have: usize, room: &[u8], scrap: &[u8], i: usize) -> usize
     ensures { λ b. ⌜ b < 256 ⌝ }
 {
     if i < have {
-        return bytes::byte_at(room, i) as usize;
+        return wire_bytes::byte_at(room, i) as usize;
     }
-    bytes::byte_at(scrap, i - have) as usize
+    wire_bytes::byte_at(scrap, i - have) as usize
 }
 
 // Where the frame ends that these bytes begin with; 5, the soonest, while its prefix is not whole.

@@ -1,6 +1,6 @@
 // The receive record: its counts, which of them a call leaves, and what they become.
-use prefix::FRAME;
-use prefix::PREFIX;
+use wire_prefix::FRAME;
+use wire_prefix::PREFIX;
 ghost use mathlib.Core.Path.{_≡_};
 ghost use Rattle.receiver.specs.Receive.{isOpen, recordAt, lengthAt, refusal};
 

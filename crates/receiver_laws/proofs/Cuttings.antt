@@ -8,8 +8,8 @@ use lib.ListN.{length, take, drop, length-append, length-drop}
 use lib.Seq.{take-append-le, drop-append-le, drop-append-add, drop-length}
 use lib.Dec.{ltb, eqb}
 use borrow.Author.Tests.{ltb-true, ltb-false, lt-ltb, le-ltb, eq-eqb, ne-eqb}
-use Rattle.prefix.specs.Prefix.{endOf, badEnd}
-use Rattle.prefix.proofs.Ends.{good-end, end-stays, bad-four}
+use Rattle.wire_prefix.specs.Prefix.{endOf, badEnd}
+use Rattle.wire_prefix.proofs.Ends.{good-end, end-stays, bad-four}
 use Rattle.receiver.specs.declared.record.Record.{Record}
 use Rattle.receiver_laws.specs.Stream.{Cut, stop, halt, give, cutIn, cut}
 use Rattle.receiver.specs.Receive.{fresh, shut, refused, received, Done}

@@ -8,8 +8,8 @@ use native.Mathlib.Omega.{arith}
 use lib.ListN.{length, take}
 use lib.Dec.{ltb}
 use borrow.Author.Tests.{ltb-true, ltb-false}
-use Rattle.prefix.specs.Prefix.{badEnd}
-use Rattle.prefix.proofs.Ends.{end-good, end-short}
+use Rattle.wire_prefix.specs.Prefix.{badEnd}
+use Rattle.wire_prefix.proofs.Ends.{end-good, end-short}
 use Rattle.receiver.specs.declared.record.Record.{Record}
 use Rattle.receiver.specs.Receive.{isOpen, endFor, recordAt, refused, accepted, received}
 use Rattle.receiver_laws.specs.Laws.{Unchanged, EmptyScrap}

@@ -3,8 +3,8 @@ use Prim.Native.Nat.{ℕ}
 use mathlib.Core.Path.{_≡_, refl}
 use mathlib.Core.Bool.{true, false}
 use mathlib.Core.List.{List, [], _∷_}
-use Rattle.bytes.specs.Bytes.{numberAt}
-use Rattle.prefix.specs.Prefix.{endOf, badEnd}
+use Rattle.wire_bytes.specs.Bytes.{numberAt}
+use Rattle.wire_prefix.specs.Prefix.{endOf, badEnd}
 use Rattle.receiver_laws.specs.Stream.{cutIn, cut}
 
 -- a frame of one byte, and part of a frame of two

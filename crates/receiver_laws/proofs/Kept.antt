@@ -9,9 +9,9 @@ use lib.ListN.{length, take, drop, length-append}
 use lib.Seq.{length-take-le, take-length, take-append-add, paste, take-paste, length-paste}
 use lib.Dec.{leb, ltb}
 use borrow.Author.Tests.{ltb-true, ltb-false, le-leb}
-use Rattle.bytes.specs.Bytes.{putWhole}
-use Rattle.prefix.specs.Prefix.{endOf, badEnd}
-use Rattle.prefix.proofs.Ends.{good-end, end-good, end-short, end-stays}
+use Rattle.wire_bytes.specs.Bytes.{putWhole}
+use Rattle.wire_prefix.specs.Prefix.{endOf, badEnd}
+use Rattle.wire_prefix.proofs.Ends.{good-end, end-good, end-short, end-stays}
 use Rattle.receiver.specs.declared.record.Record.{Record}
 use Rattle.receiver.specs.Receive.{fresh, shut, isOpen, endFor, recordAt, refused, accepted, received, Done}
 use Rattle.receiver.proofs.Counts.{Counts, prefix, payload, counts, fits, in-prefix, in-payload, end-new, end-known, at-end, no-end, at-prefix, at-payload, record-is}

@@ -8,9 +8,9 @@ use native.Mathlib.Omega.{arith}
 use lib.ListN.{length, getD, take, replicate, length-replicate}
 use lib.Dec.{leb, ltb, eqb}
 use borrow.Author.Tests.{ltb-true, ltb-false, eqb-true, eqb-false, le-leb}
-use Rattle.bytes.specs.Bytes.{Bytes}
-use Rattle.prefix.specs.Prefix.{endOf, badEnd}
-use Rattle.prefix.proofs.Ends.{good-end, end-good, end-short, end-read, four}
+use Rattle.wire_bytes.specs.Bytes.{Bytes}
+use Rattle.wire_prefix.specs.Prefix.{endOf, badEnd}
+use Rattle.wire_prefix.proofs.Ends.{good-end, end-good, end-short, end-read, four}
 use Rattle.receiver.specs.declared.record.Record.{Record}
 use Rattle.receiver.specs.Receive.{fresh, shut, isOpen, endFor, recordAt, refused, accepted, received}
 use Rattle.receiver_laws.specs.Laws.{CallsLeave, CallsReach, ClosedForGood}

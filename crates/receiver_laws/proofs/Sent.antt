@@ -8,9 +8,9 @@ use lib.ListN.{length, take, drop, length-append, take-append-drop}
 use lib.Seq.{take-at, drop-at, length-take-le}
 use lib.Dec.{leb, ltb, eqb}
 use borrow.Author.Tests.{ltb-true, ltb-false, le-leb, lt-ltb, eq-eqb}
-use Rattle.bytes.specs.Bytes.{numberAt}
-use Rattle.prefix.specs.Prefix.{framed, endOf, badEnd}
-use Rattle.prefix.proofs.Ends.{no-both, good-end, end-good, end-short, end-read, end-stays, framed-ends, both}
+use Rattle.wire_bytes.specs.Bytes.{numberAt}
+use Rattle.wire_prefix.specs.Prefix.{framed, endOf, badEnd}
+use Rattle.wire_prefix.proofs.Ends.{no-both, good-end, end-good, end-short, end-read, end-stays, framed-ends, both}
 use Rattle.receiver_laws.specs.Stream.{Cut, stop, halt, give, cutIn, cut, allFramed}
 use Rattle.receiver_laws.specs.Driver.{joined}
 use Rattle.receiver_laws.specs.Laws.{CutsFrames, CutsBad, CutFramed, FramesArrive}

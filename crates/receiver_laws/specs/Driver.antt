@@ -4,7 +4,7 @@ use mathlib.Core.Bool.{Bool, cond, _&&_}
 use mathlib.Core.List.{List, [], _∷_, _++_}
 use lib.ListN.{length, take, drop}
 use lib.Dec.{ltb, eqb}
-use Rattle.prefix.specs.Prefix.{endOf}
+use Rattle.wire_prefix.specs.Prefix.{endOf}
 use Rattle.receiver.specs.declared.record.Record.{Record}
 use Rattle.receiver_laws.specs.Stream.{Cut}
 use Rattle.receiver.specs.Receive.{Done, shut, recordAt, received}

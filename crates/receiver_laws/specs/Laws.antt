@@ -6,8 +6,8 @@ use mathlib.Core.Bool.{true, false}
 use mathlib.Core.List.{List, [], _++_}
 use lib.ListN.{length, take}
 use lib.Dec.{eqb}
-use Rattle.bytes.specs.Bytes.{Bytes}
-use Rattle.prefix.specs.Prefix.{mostFrame, endOf, badEnd}
+use Rattle.wire_bytes.specs.Bytes.{Bytes}
+use Rattle.wire_prefix.specs.Prefix.{mostFrame, endOf, badEnd}
 use Rattle.receiver.specs.declared.record.Record.{Record}
 use Rattle.receiver_laws.specs.Stream.{Cut, allFramed, cut}
 use Rattle.receiver.specs.Receive.{fresh, shut, isOpen, Done, refused, received}

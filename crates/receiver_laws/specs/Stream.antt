@@ -4,7 +4,7 @@ use mathlib.Core.Bool.{Bool, true, false, cond, _&&_}
 use mathlib.Core.List.{List, [], _∷_}
 use lib.ListN.{length, take, drop}
 use lib.Dec.{ltb}
-use Rattle.prefix.specs.Prefix.{framed, endOf, badEnd}
+use Rattle.wire_prefix.specs.Prefix.{framed, endOf, badEnd}
 
 -- the whole frames in order, whether a bad length closed the stream, and the bytes behind the last frame (none once closed)
 pub record Cut : Type 0 where

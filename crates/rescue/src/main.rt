@@ -3,8 +3,8 @@
 use libc::STDERR_FILENO;
 use libc::STDIN_FILENO;
 use libc::STDOUT_FILENO;
-use rescuer::MOST;
-use rescuer::REPORT;
+use rescue_walk::MOST;
+use rescue_walk::REPORT;
 
 fn show(to: i32, bytes: &[u8], n: usize) {
     if n <= bytes.len() {
@@ -13,9 +13,9 @@ fn show(to: i32, bytes: &[u8], n: usize) {
 }
 
 fn run(input: &[u8], out: &mut [u8], report: &mut [u64], page: &mut [u8]) {
-    let x = rescuer::rescue(input, out, report);
+    let x = rescue_walk::rescue(input, out, report);
     show(STDOUT_FILENO, out, x.length);
-    let n = rescue_text::put_text(page, 0, x.number, x.runs, report);
+    let n = rescue_walk::put_text(page, 0, x.number, x.runs, report);
     show(STDERR_FILENO, page, n);
 }
 

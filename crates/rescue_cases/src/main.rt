@@ -6,8 +6,8 @@ use kernel::State;
 use kernel::WORDS;
 use libc::STDIN_FILENO;
 use libc::STDOUT_FILENO;
-use rescuer::MOST;
-use rescuer::REPORT;
+use rescue_walk::MOST;
+use rescue_walk::REPORT;
 
 fn show(bytes: &[u8], n: usize) {
     if n <= bytes.len() {
@@ -24,9 +24,9 @@ fn step(
     out: &mut [u8],
     rows: &mut [i64],
 ) -> usize {
-    let x = script::step(d, s, at, out, rows);
+    let x = bench_script::step(d, s, at, out, rows);
     if x.good {
-        let p = script::print_answer(page, 0, x.number, rows, x.count);
+        let p = bench_script::print_answer(page, 0, x.number, rows, x.count);
         show(page, p);
         return x.next;
     }
@@ -50,15 +50,15 @@ fn play_with(d: &mut State, s: &[u8], page: &mut [u8], out: &mut [u8], rows: &mu
 // Plays a script on a fresh device.
 fn play(s: &[u8], page: &mut [u8]) {
     let mut d = [0u64; WORDS];
-    kernel::start(&mut d, bench_device::bench_settings());
+    kernel::start(&mut d, bench_script::bench_settings());
     let mut out = [0u8; RESPONSE];
     let mut rows = [0i64; PLAN];
     play_with(&mut d, s, page, &mut out, &mut rows);
 }
 
 fn run(input: &[u8], kept: &mut [u8], report: &mut [u64], page: &mut [u8]) {
-    let x = rescuer::rescue(input, kept, report);
-    let n = rescue_text::put_text(page, 0, x.number, x.runs, report);
+    let x = rescue_walk::rescue(input, kept, report);
+    let n = rescue_walk::put_text(page, 0, x.number, x.runs, report);
     show(page, n);
     let end = x.length;
     if end <= kept.len() {
@@ -93,7 +93,7 @@ fn case(n: u64) -> bool {
     io::print_decimal(STDOUT_FILENO, n);
     io::write_all(STDOUT_FILENO, b"\n");
     let mut input = [0u8; MOST + 1];
-    take(&mut input, bytes::get_u32(&prefix, 0) as usize)
+    take(&mut input, wire_bytes::get_u32(&prefix, 0) as usize)
 }
 
 fn main() {

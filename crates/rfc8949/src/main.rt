@@ -1,12 +1,12 @@
 // Runs vectors through the checker and the readers. A line of the input is a name and bytes in hex; a line of the output is the name and
 // `refused`, or `accepted` and the item's heads in order: integers, strings as h'..' and t'..', false, true, null, and an array or a map with
 // its count before its elements. Behind a map stand the keys 0 to 31 that are found in it, each with its value's position.
-use cbor::Sight;
-use cbor::Stop;
-use heads::Head;
 use libc::STDIN_FILENO;
 use libc::STDOUT_FILENO;
-use messages::Field;
+use wire_cbor::Sight;
+use wire_cbor::Stop;
+use wire_heads::Head;
+use wire_messages::Field;
 
 fn text(s: &[u8]) {
     io::write_all(STDOUT_FILENO, s);
@@ -114,7 +114,7 @@ fn show_field(field: Field) {
 
 // Shows an integer by its head.
 fn show_int(major: u64, arg: u64) {
-    let value = map_fields::read_value(Sight { major, arg }, false);
+    let value = wire_fields::read_value(Sight { major, arg }, false);
     let field = value.field;
     if value.ok {
         show_field(field);
@@ -177,7 +177,7 @@ fn show_simple(v: u64) {
 
 // Shows what the head at `at` says, and gives the position of the next head.
 fn show_head(s: &[u8], at: usize) -> usize {
-    match heads::read_head(s, at) {
+    match wire_heads::read_head(s, at) {
         Head::Bad => s.len(),
         Head::Is(major, v, next) => {
             if major < 2 {
@@ -221,11 +221,11 @@ fn show_heads(s: &[u8]) {
 }
 
 fn show_key(s: &[u8], key: u64) {
-    match heads::read_head(s, 0) {
+    match wire_heads::read_head(s, 0) {
         Head::Bad => {}
         Head::Is(major, n, next) => {
             if major == 5 {
-                show_found(cbor::seek(s, next, n, key, cbor::DEPTH - 1), key);
+                show_found(wire_cbor::seek(s, next, n, key, wire_cbor::DEPTH - 1), key);
             }
         }
     }
@@ -247,7 +247,7 @@ fn show_keys(s: &[u8]) {
 }
 
 fn show(s: &[u8]) {
-    if cbor::is_item(s) {
+    if wire_cbor::is_item(s) {
         text(b" accepted");
         show_heads(s);
         show_keys(s);

@@ -8,8 +8,8 @@ use native.Mathlib.Omega.{arith}
 use lib.ListN.{length, set, length-append}
 use lib.Seq.{sets, set-comm}
 use borrow.Author.Tests.{lt-ltb, le-ltb}
-use Rattle.bytes.specs.Bytes.{put}
-use Rattle.bytes.proofs.PutLaws.{sets-append}
+use Rattle.wire_bytes.specs.Bytes.{put}
+use Rattle.wire_bytes.proofs.PutLaws.{sets-append}
 use Rattle.text.specs.Text.{digits, widthIn, decimal}
 
 pub digits-length : (w n : ℕ) → length (digits w n) ≡ w

@@ -9,8 +9,8 @@ use lib.Dec.{leb}
 use lib.ListN.{length, set, getD, drop}
 use lib.Seq.{drop-cons, drop-length}
 use borrow.Author.Tests.{le-leb, lt-leb}
-use Rattle.bytes.specs.Bytes.{put}
-use Rattle.bytes.proofs.Order.{below}
+use Rattle.wire_bytes.specs.Bytes.{put}
+use Rattle.wire_bytes.proofs.Order.{below}
 use Rattle.text.specs.Text.{hexDigit, hex}
 
 pub pairs-test : (len p n : ℕ) → p ≤ len → leb n ((len - p) / 2) ≡ leb (p + 2 * n) len

@@ -5,9 +5,9 @@ use mathlib.Core.Logic.{⊎-elim}
 use mathlib.Core.List.{List, [], _∷_, _++_}
 use native.Mathlib.Omega.{arith}
 use lib.ListN.{length, length-append}
-use Rattle.bytes.specs.Bytes.{put, putWhole, pastWhole}
-use Rattle.bytes.proofs.Order.{below}
-use Rattle.bytes.proofs.PutLaws.{put-whole, put-none, puts-join, length-put}
+use Rattle.wire_bytes.specs.Bytes.{put, putWhole, pastWhole}
+use Rattle.wire_bytes.proofs.Order.{below}
+use Rattle.wire_bytes.proofs.PutLaws.{put-whole, put-none, puts-join, length-put}
 use Rattle.text.specs.Pieces.{putAll, pastAll, joined}
 use Rattle.text.specs.Laws.{PiecesJoin, PiecesMore, PiecesLength, PiecesWithin}
 

@@ -4,7 +4,7 @@ use Prim.Native.Nat.{ℕ, _+_, _≤_}
 use mathlib.Core.Path.{_≡_}
 use mathlib.Core.List.{List, _++_}
 use lib.ListN.{length}
-use Rattle.bytes.specs.Bytes.{putWhole, pastWhole}
+use Rattle.wire_bytes.specs.Bytes.{putWhole, pastWhole}
 use Rattle.text.specs.Pieces.{putAll, pastAll, joined}
 
 -- where all fits, pieces are written as the one text that they make

@@ -1,7 +1,7 @@
 -- Pieces of text written one behind the other, each where it fits wholly. Assumes nothing: these are definitions.
 use Prim.Native.Nat.{ℕ}
 use mathlib.Core.List.{List, [], _∷_, _++_}
-use Rattle.bytes.specs.Bytes.{putWhole, pastWhole}
+use Rattle.wire_bytes.specs.Bytes.{putWhole, pastWhole}
 
 -- s with the pieces stored from p on
 unfoldable pub putAll : List ℕ → ℕ → List (List ℕ) → List ℕ

@@ -1,11 +1,11 @@
 // Decimal and signed decimal.
-use bytes::has_room;
+use wire_bytes::has_room;
 ghost use mathlib.Core.Path.{_≡_};
 ghost use mathlib.Core.List.{[], _∷_};
 ghost use Prim.Native.Nat.{_+_, _≤_};
 ghost use lib.IntN.{natAbs};
 ghost use lib.ListN.{length};
-ghost use Rattle.bytes.specs.Bytes.{put, putWhole, pastWhole};
+ghost use Rattle.wire_bytes.specs.Bytes.{put, putWhole, pastWhole};
 ghost use Rattle.text.specs.Text.{digits, widthIn, mostDigits, decimal, signed};
 
 // The most digits of a number.

@@ -3,7 +3,7 @@ ghost use mathlib.Core.Path.{_≡_};
 ghost use Prim.Native.Nat.{_+_, _*_, _<_, _≤_, _/_, _%_};
 ghost use lib.Dec.{leb};
 ghost use lib.ListN.{length, set};
-ghost use Rattle.bytes.specs.Bytes.{put, putWhole, pastWhole};
+ghost use Rattle.wire_bytes.specs.Bytes.{put, putWhole, pastWhole};
 ghost use Rattle.text.specs.Text.{hexDigit, hex};
 
 // Whether `n` pairs of digits fit at `at` into `len`.

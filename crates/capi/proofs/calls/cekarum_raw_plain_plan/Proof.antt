@@ -43,15 +43,15 @@ use denote.Triple.Spec.{Meets, tripleOf}
 use denote.Triple.Table.{entered, cited}
 use denote.Triple.Walked.{Stays, onExit, stay-none-ref, gave-slice, stay-ref, walkOf, Walks, ends-at, walked, goes-none-ref, goes-gave-slice, goes-ref, walk-meets}
 use Rattle.kernel.specs.Door.{plainAnswer, plainSlice}
-use Rattle.plain_planner.specs.declared.Row.{Row}
-use Rattle.plain_planner.specs.declared.Planned.{Planned}
-use Rattle.plain_planner.proofs.Row as T
-use Rattle.plain_planner.proofs.Planned as P
-use Rattle.plain_planner.proofs.Planned.Laws as P′
-use Rattle.plain_planner.proofs.plain_plan as callee
-use Rattle.plain_planner.proofs.plain_plan.Symbol as callee-def
-use Rattle.plain_planner.proofs.plain_plan.Symbol.{name as #callee}
-use Rattle.plain_planner.proofs.plain_plan.Met as callee-thm
+use Rattle.plan_plain.specs.declared.Row.{Row}
+use Rattle.plan_plain.specs.declared.Planned.{Planned}
+use Rattle.plan_plain.proofs.Row as T
+use Rattle.plan_plain.proofs.Planned as P
+use Rattle.plan_plain.proofs.Planned.Laws as P′
+use Rattle.plan_plain.proofs.plain_plan as callee
+use Rattle.plan_plain.proofs.plain_plan.Symbol as callee-def
+use Rattle.plan_plain.proofs.plain_plan.Symbol.{name as #callee}
+use Rattle.plan_plain.proofs.plain_plan.Met as callee-thm
 use Rattle.capi.proofs.calls.cekarum_raw_plain_plan.Key.{name as #export}
 use Rattle.capi.proofs.calls.cekarum_raw_plain_plan as f
 use Rattle.capi.proofs.calls.cekarum_raw_plain_plan.Statement as stated
@@ -213,4 +213,4 @@ cekarum-raw-plain-plan-spec 𝓤 H 𝓜 𝓖 𝓡 =
     entered 𝓤 H (tripleOf 𝓤 H (𝓖 .A) f.signature (f.spec 𝓤 H (𝓖 .A) (𝓜 .mem) (𝓡 .run)))
     (tables 𝓤 H 𝓜 𝓡 code.env .C) (tables 𝓤 H 𝓜 𝓡 code.env .Λ) #export code.function (code.unfolded 𝓤 H 𝓜 𝓡)
     (meets 𝓤 H (𝓖 .A) (givenOf 𝓤 H 𝓜 𝓖) (𝓜 .mem) (𝓡 .run) (tablesOf 𝓤 H 𝓜 (tables 𝓤 H 𝓜 𝓡 code.env))
-    (cited 𝓤 H (Call 𝓤 H (𝓖 .A) (𝓜 .mem) (𝓡 .run)) 𝓜 𝓡 code.env #callee callee-def.routine code.calls-plain-planner·plain-plan (callee-thm.met 𝓤 H 𝓜 𝓖 𝓡)))
+    (cited 𝓤 H (Call 𝓤 H (𝓖 .A) (𝓜 .mem) (𝓡 .run)) 𝓜 𝓡 code.env #callee callee-def.routine code.calls-plan-plain·plain-plan (callee-thm.met 𝓤 H 𝓜 𝓖 𝓡)))

@@ -1,6 +1,6 @@
 -- What was read is made flat, then put into words and values.
 use mathlib.Core.Path.{ap, _∙_}
-use Rattle.flat_requests.specs.Requests.{requestWords, requestValues}
+use Rattle.capi_messages.specs.Requests.{requestWords, requestValues}
 use Rattle.capi.specs.Requests.{flatReading}
 use borrow.Author.Needs.{needs}
 use Rattle.capi.proofs.requests.cekarum_raw_read_request.Statement.{statement}

@@ -1,6 +1,6 @@
 -- What was read is made flat, then put into words and values.
 use mathlib.Core.Path.{ap, _∙_}
-use Rattle.flat_responses.specs.Responses.{responseWords, responseValues}
+use Rattle.capi_messages.specs.Responses.{responseWords, responseValues}
 use Rattle.capi.specs.Responses.{flatAnswer}
 use borrow.Author.Needs.{needs}
 use Rattle.capi.proofs.responses.cekarum_raw_read_response.Statement.{statement}

@@ -1,6 +1,6 @@
 -- The tests are those of the definition, in its order.
-use Rattle.messages.specs.Refusals.{firstOf}
-use Rattle.store.proofs.Tests.{via}
+use Rattle.wire_messages.specs.Refusals.{firstOf}
+use Rattle.device_store.proofs.Tests.{via}
 use borrow.Author.Needs.{needs}
 use Rattle.command_tests.proofs.content.content_number.Statement.{statement}
 use Rattle.command_tests.proofs.content.content_number.Tie as tie

@@ -1,5 +1,5 @@
 -- The command decides first, then the override.
-use Rattle.store.proofs.Tests.{via}
+use Rattle.device_store.proofs.Tests.{via}
 use borrow.Author.Needs.{needs}
 use Rattle.command_tests.proofs.content.is_stopped.Statement.{statement}
 use Rattle.command_tests.proofs.content.is_stopped.Tie as tie

@@ -1,8 +1,8 @@
 -- Decided and written before anything is stored: `ready` gives number, frame and output; only 0 with room is enacted.
 use mathlib.Core.Path.{_≡_, sym, ap, _∙_}
 use lib.ListN.{length}
-use Rattle.store.specs.Sizes.{words}
-use Rattle.device.proofs.Decisions.{decision-enacted}
+use Rattle.device_store.specs.Sizes.{words}
+use Rattle.device_calls.proofs.Decisions.{decision-enacted}
 use Rattle.kernel.proofs.Framing.{ready, refused-answer, accepted-answer, accepted-after, crowded-after}
 use borrow.Author.Needs.{needs}
 use Rattle.kernel.proofs.frame_call.answer.Statement.{statement}

@@ -1,7 +1,7 @@
 -- A right prefix has a payload behind it, which `payload_call` answers; a wrong one is reading 1, and nothing moves.
 use mathlib.Core.Path.{sym, _∙_}
 use native.Mathlib.Omega.{arith}
-use Rattle.prefix.proofs.Framed.{long-enough, rest-all}
+use Rattle.wire_prefix.proofs.Framed.{long-enough, rest-all}
 use Rattle.kernel.proofs.Framing.{as-framed, not-framed, refused-reading}
 use borrow.Author.Needs.{needs}
 use Rattle.kernel.proofs.frame_call.frame.Statement.{statement}

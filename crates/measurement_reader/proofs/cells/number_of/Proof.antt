@@ -1,7 +1,7 @@
 -- One test says whether it is a number of the range, the major type of which sign.
 use borrow.Author.Needs.{needs}
 use borrow.Author.Tests.{not-true, not-false}
-use Rattle.map_fields.proofs.Joined.{via}
+use Rattle.wire_fields.proofs.Joined.{via}
 use Rattle.measurement_reader.proofs.Fills.{number-out, number-uint, number-nint}
 use Rattle.measurement_reader.proofs.cells.number_of.Statement.{statement}
 use Rattle.measurement_reader.proofs.cells.number_of.Tie as tie

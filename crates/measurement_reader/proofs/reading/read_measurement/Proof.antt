@@ -1,7 +1,7 @@
 -- One refusal after the other; what the walk fills is what the tree says (ByTree), all 36 cells.
 use borrow.Author.Needs.{needs}
 use borrow.Author.Tests.{not-true, not-false}
-use Rattle.bytes.proofs.NumberLaws.{all-bytes}
+use Rattle.wire_bytes.proofs.NumberLaws.{all-bytes}
 use Rattle.measurement_reader.proofs.ByTree.{read-length, read-item, read-whole, read-rows}
 use Rattle.measurement_reader.proofs.reading.read_measurement.Statement.{statement}
 use Rattle.measurement_reader.proofs.reading.read_measurement.Tie as tie

@@ -1,5 +1,5 @@
 -- One place that holds a number, or three of which one does.
-use Rattle.measurement_fits.proofs.Walk.{three-places}
+use Rattle.measurement_writer.proofs.FitWalk.{three-places}
 use Rattle.measurement_writer.proofs.Cases.{one-absent, one-there, three-absent, three-there}
 use borrow.Author.Needs.{needs}
 use Rattle.measurement_writer.proofs.puts.count_row.Statement.{statement}

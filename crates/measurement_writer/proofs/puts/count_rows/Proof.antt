@@ -4,12 +4,12 @@ use mathlib.Core.Path.{_≡_, ap, _∙_}
 use mathlib.Core.List.{List}
 use native.Mathlib.Omega.{arith}
 use lib.ListN.{drop}
-use Rattle.cbor.specs.Item.{countPairs}
-use Rattle.map_fields.specs.Fields.{present}
+use Rattle.wire_cbor.specs.Item.{countPairs}
+use Rattle.wire_fields.specs.Fields.{present}
 use Rattle.measurement_table.specs.Table.{rows, places}
 use Rattle.measurement_table.specs.Cells.{Cell, fieldsOf}
 use Rattle.measurement_table.specs.Words.{held}
-use Rattle.measurement_fits.proofs.Walk.{row-shaped, row-next, places-next, places-start, heldBy, held-all}
+use Rattle.measurement_writer.proofs.FitWalk.{row-shaped, row-next, places-next, places-start, heldBy, held-all}
 use Rattle.measurement_writer.proofs.Walk.{count-small, count-rows-more, count-rows-end}
 use borrow.Author.Needs.{needs}
 use Rattle.measurement_writer.proofs.puts.count_rows.Statement.{statement}

@@ -1,5 +1,5 @@
 -- One number, or a map of phases.
-use Rattle.measurement_fits.proofs.Walk.{three-places}
+use Rattle.measurement_writer.proofs.FitWalk.{three-places}
 use Rattle.measurement_writer.proofs.Walk.{key-low}
 use Rattle.measurement_writer.proofs.Cases.{item-one}
 use Rattle.measurement_writer.proofs.Short.{one-put}

@@ -4,13 +4,13 @@ use mathlib.Core.Path.{_≡_, refl, ap, sym}
 use mathlib.Core.List.{List}
 use native.Mathlib.Omega.{arith}
 use lib.ListN.{drop, length}
-use Rattle.cbor.specs.Item.{encodePairs}
-use Rattle.map_fields.specs.Fields.{present}
+use Rattle.wire_cbor.specs.Item.{encodePairs}
+use Rattle.wire_fields.specs.Fields.{present}
 use Rattle.measurement_table.specs.Table.{rows, places}
 use Rattle.measurement_table.specs.Cells.{Cell, fieldsOf}
 use Rattle.measurement_table.specs.Words.{held}
 use Rattle.measurement_writer.specs.Room.{placeRoom, rowsRoom, PutsShort}
-use Rattle.measurement_fits.proofs.Walk.{row-shaped, row-next, places-next, places-start, heldBy, held-all}
+use Rattle.measurement_writer.proofs.FitWalk.{row-shaped, row-next, places-next, places-start, heldBy, held-all}
 use Rattle.measurement_writer.proofs.Walk.{rows-bytes, rows-bytes-end}
 use Rattle.measurement_writer.proofs.Short.{shorts-none, shorts-same, shorts-more, shorts-room}
 use borrow.Author.Needs.{needs}

@@ -1,6 +1,6 @@
 -- Refused, or written whole into a local that has the room, and delivered.
-use Rattle.cbor.specs.Item.{encode}
-use Rattle.sender.proofs.Sends.{sent-within, sent-length, no-refusal, a-refusal}
+use Rattle.wire_cbor.specs.Item.{encode}
+use Rattle.wire_output.proofs.Sends.{sent-within, sent-length, no-refusal, a-refusal}
 use Rattle.measurement_table.specs.Payload.{itemOf}
 use Rattle.measurement_table.specs.Words.{held, rangeNumber}
 use Rattle.measurement_writer.proofs.Short.{deliver-item}

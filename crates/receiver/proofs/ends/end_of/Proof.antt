@@ -3,7 +3,7 @@ use mathlib.Core.List.{_++_}
 use lib.ListN.{take}
 use borrow.Author.Needs.{needs}
 use native.Mathlib.Omega.{arith}
-use Rattle.prefix.proofs.Ends.{end-short, end-told}
+use Rattle.wire_prefix.proofs.Ends.{end-short, end-told}
 use Rattle.receiver.proofs.Counts.{length-both}
 use Rattle.receiver.proofs.ends.end_of.Statement.{statement}
 use Rattle.receiver.proofs.ends.end_of.Tie as tie

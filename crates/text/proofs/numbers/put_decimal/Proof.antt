@@ -1,7 +1,7 @@
 -- The digits are put where they have room, and nothing else is.
 use native.Mathlib.Omega.{arith}
 use lib.ListN.{length}
-use Rattle.bytes.proofs.PutLaws.{stored, not-stored, has-room}
+use Rattle.wire_bytes.proofs.PutLaws.{stored, not-stored, has-room}
 use Rattle.text.specs.Text.{decimal}
 use Rattle.text.proofs.Digits.{decimal-length, put-decimal}
 use borrow.Author.Needs.{needs}

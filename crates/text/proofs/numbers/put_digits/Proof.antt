@@ -4,7 +4,7 @@ use mathlib.Core.Path.{_≡_, refl, sym, _∙_}
 use native.Mathlib.Omega.{arith}
 use borrow.Author.Needs.{needs}
 use lib.ListN.{length, length-set}
-use Rattle.bytes.specs.Bytes.{put}
+use Rattle.wire_bytes.specs.Bytes.{put}
 use Rattle.text.specs.Text.{digits}
 use Rattle.text.proofs.Digits.{put-last, put-nothing}
 use Rattle.text.proofs.numbers.put_digits.Statement.{statement}

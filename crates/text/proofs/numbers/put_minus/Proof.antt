@@ -1,5 +1,5 @@
 -- The sign and the digits behind it are one piece, put where it has room.
-use Rattle.bytes.proofs.PutLaws.{length-put, stored, not-stored, has-room}
+use Rattle.wire_bytes.proofs.PutLaws.{length-put, stored, not-stored, has-room}
 use mathlib.Core.Path.{_∙_, ap}
 use mathlib.Core.List.{_∷_}
 use Prim.Native.Nat.{_+_}

@@ -1,5 +1,5 @@
 -- Room for n pairs is room for 2 n digits, without a sum that wraps.
-use Rattle.bytes.proofs.Order.{no-room}
+use Rattle.wire_bytes.proofs.Order.{no-room}
 use Rattle.text.proofs.Hexes.{pairs-test}
 use Rattle.text.proofs.pairs.has_pairs.Statement.{statement}
 use Rattle.text.proofs.pairs.has_pairs.Tie as tie

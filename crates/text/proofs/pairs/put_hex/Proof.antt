@@ -2,7 +2,7 @@
 use Prim.Native.Nat.{_*_}
 use native.Mathlib.Omega.{arith}
 use lib.ListN.{length}
-use Rattle.bytes.proofs.PutLaws.{stored, not-stored, has-room}
+use Rattle.wire_bytes.proofs.PutLaws.{stored, not-stored, has-room}
 use Rattle.text.specs.Text.{hex}
 use Rattle.text.proofs.Hexes.{hex-length}
 use borrow.Author.Needs.{needs}

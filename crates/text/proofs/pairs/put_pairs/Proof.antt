@@ -4,7 +4,7 @@ use mathlib.Core.Path.{_≡_, refl, ap, _∙_}
 use native.Mathlib.Omega.{arith}
 use borrow.Author.Needs.{needs}
 use lib.ListN.{length, length-set, drop}
-use Rattle.bytes.specs.Bytes.{put}
+use Rattle.wire_bytes.specs.Bytes.{put}
 use Rattle.text.specs.Text.{hex}
 use Rattle.text.proofs.Hexes.{pair-more, pair-none}
 use Rattle.text.proofs.pairs.put_pairs.Statement.{statement}

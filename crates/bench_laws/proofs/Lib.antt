@@ -1,0 +1,8 @@
+pub mod Computed
+pub mod OtherOrder
+-- The laws, each in the file of its subject.
+pub mod Sounds
+pub mod Pinned
+pub mod Rooms
+pub mod Benches
+pub mod Examples

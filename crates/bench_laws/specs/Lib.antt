@@ -1,0 +1,5 @@
+pub mod Example
+pub mod OtherOrder
+pub mod Sound
+pub mod Answers
+pub mod Laws

@@ -1,0 +1,96 @@
+// What of a script is read and not yet run.
+ghost use mathlib.Core.Path.{_≡_};
+ghost use Prim.Native.Nat.{_+_, _-_, _≤_};
+ghost use mathlib.Core.Bool.{_&&_};
+ghost use lib.Dec.{ltb};
+ghost use lib.ListN.{length};
+ghost use Rattle.bench_records.specs.Kinds.{longest};
+
+// The bytes of the buffer from `from` to `to`; `left` more may be read.
+pub(crate) struct Input {
+    pub(crate) from: usize,
+    pub(crate) to: usize,
+    pub(crate) left: u64,
+}
+
+// Moves the bytes from `from` to `to` to the front.
+fn shift(buf: &mut [u8], from: usize, to: usize)
+    requires { ⌜ (from ≤ to) × (to ≤ length (now buf)) ⌝ }
+{
+    let n = to - from;
+    let mut i = 0;
+    while i < n {
+        buf[i] = buf[from + i];
+        i += 1;
+    }
+}
+
+// The end of the next read: no more than the buffer holds, and no more than may be read.
+fn read_end(len: usize, to: usize, left: u64) -> usize
+    requires { ⌜ to ≤ len ⌝ }
+    ensures { λ r. ⌜ (to ≤ r) × (r ≤ len) × (r ≤ to + left) ⌝ }
+{
+    if left < (len - to) as u64 {
+        return to + left as usize;
+    }
+    len
+}
+
+// One read behind `to`: how many bytes it brought, 0 at the end of the input.
+fn read_more(buf: &mut [u8], to: usize, left: u64) -> usize
+    requires { ⌜ to ≤ length (now buf) ⌝ }
+    ensures { λ r. ⌜ (to + r ≤ length (now (buf .entry))) × (r ≤ left) ⌝ }
+{
+    let end = read_end(buf.len(), to, left);
+    let got = libc::read(0, &mut buf[to..end]);
+    io::count(got, &buf[to..end])
+}
+
+fn is_short(to: usize, left: u64) -> bool
+    ensures { λ r. ⌜ r ≡ (ltb to longest && ltb 0 left) ⌝ }
+{
+    to < bench_records::LONGEST && 0 < left
+}
+
+// Brings what is left to the front, and reads until a whole record must be there or the input ends.
+pub(crate) fn fill(buf: &mut [u8], x: Input) -> Input
+    requires { ⌜ (x .from ≤ x .to) × (x .to ≤ length (now buf)) ⌝ }
+    ensures { λ r. ⌜ (r .from ≡ 0) × (r .to ≤ length (now (buf .entry))) × (r .to + r .left ≤ (x .to - x .from) + x .left) ⌝ }
+{
+    let from = x.from;
+    let end = x.to;
+    shift(buf, from, end);
+    let mut to = end - from;
+    let mut left = x.left;
+    while is_short(to, left) {
+        let n = read_more(buf, to, left);
+        if n == 0 {
+            return Input {
+                from: 0,
+                to: to,
+                left: 0,
+            };
+        }
+        to += n;
+        left -= n as u64;
+    }
+    Input {
+        from: 0,
+        to: to,
+        left: left,
+    }
+}
+
+// Reads `left` bytes and passes them over.
+pub fn skip(left: u64) {
+    let mut room = io::large_buffer();
+    let buf: &mut [u8] = &mut room;
+    let mut rest = left;
+    while 0 < rest {
+        let n = read_more(buf, 0, rest);
+        if n == 0 {
+            return;
+        }
+        rest -= n as u64;
+    }
+}

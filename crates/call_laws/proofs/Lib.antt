@@ -1,4 +1,0 @@
-pub mod FirstOf
-pub mod Rooms
-pub mod Expiry
-pub mod Others

@@ -1,5 +1,0 @@
-pub mod Item
-pub mod Find
-pub mod Scan
-pub mod Pass
-pub mod Laws

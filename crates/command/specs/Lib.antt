@@ -1,4 +1,0 @@
-pub mod Says
-pub mod Content
-pub mod Obeys
-pub mod Outcomes

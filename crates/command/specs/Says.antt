@@ -1,3 +1,0 @@
--- A command seen by quantity.
-unfoldable pub use Rattle.command_says.specs.Says.{says, someOf}
-pub use Rattle.command_says.specs.Says.{currentField, kindOf, isOf, fieldAt, isSet, aimOf, durationOf, topOf, limitField, targetField, setpointField, aimField, phaseField, negative, natural, fieldNames, fieldNegative}

@@ -1,2 +1,0 @@
-pub mod Obeys
-pub mod Fields

@@ -1,6 +1,0 @@
-pub mod Sizes
-pub mod Lists
-pub mod Features
-pub mod Attributes
-pub mod Rules
-pub mod Report

@@ -1,0 +1,4 @@
+pub mod Scraps
+pub mod Lines
+pub mod Rescues
+pub mod Meas

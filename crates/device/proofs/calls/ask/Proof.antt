@@ -1,8 +1,0 @@
--- The values are those at the second that the clock shows.
-use Rattle.device.specs.Calls.{askAnswer}
-use Rattle.device.proofs.calls.ask.Statement.{statement}
-use Rattle.device.proofs.calls.ask.Tie as tie
-
-pub ask-spec : {M : Type 1} → statement M
-unfolding askAnswer
-ask-spec = tie.close (tie.spec (λ c κs. tt) (λ c κs. tt) (λ c. rw (c .values-at .ensures, c .before .clock .ensures)))

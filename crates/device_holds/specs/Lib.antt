@@ -1,0 +1,4 @@
+pub mod Holds
+pub mod Dues
+pub mod Links
+pub mod Table

@@ -1,2 +1,0 @@
-pub mod Holds
-pub mod Dues

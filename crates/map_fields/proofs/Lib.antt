@@ -1,9 +1,0 @@
--- What the proofs of several functions use, and the laws that callers cite.
-pub mod Joined
-pub mod Signs
-pub mod BySight
-pub mod RangeLaws
-pub mod Parts
-pub mod Added
-pub mod PhaseLaws
-pub mod OnlyLaws

@@ -1,6 +1,0 @@
-pub mod Fields
-pub mod Ranges
-pub mod Puts
-pub mod Sights
-pub mod ByPhase
-pub mod Laws

@@ -1,3 +1,0 @@
--- What the proofs of several functions use, and the walk that the writer cites.
-pub mod Walk
-pub mod Cases

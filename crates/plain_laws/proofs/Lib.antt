@@ -1,2 +1,0 @@
-pub mod Due
-pub mod Agree

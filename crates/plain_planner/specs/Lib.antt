@@ -1,3 +1,0 @@
-pub mod Same
-pub mod Plain
-pub mod Records

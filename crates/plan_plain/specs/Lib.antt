@@ -1,0 +1,4 @@
+pub mod Same
+pub mod Plain
+pub mod Records
+pub mod Candidates

@@ -1,0 +1,70 @@
+// The seconds of the rows: a candidate at which the values are not those of the second before.
+use crate::candidates::next_after;
+use device_holds::values_at;
+use device_store::END;
+use device_store::State;
+use device_store::VALUES;
+use device_store::clock;
+ghost use mathlib.Core.Path.{_≡_};
+ghost use mathlib.Core.Bool.{not};
+ghost use Prim.Native.Nat.{_-_, _<_};
+ghost use lib.ListN.{length};
+ghost use Rattle.device_store.specs.Words.{clockOf};
+ghost use Rattle.device_holds.specs.Holds.{situationOf, valuesAt};
+ghost use Rattle.plan_plain.specs.Same.{sameNumber, same};
+ghost use Rattle.plan_plain.specs.Plain.{plainSeconds, nextRow};
+
+fn same_number(a: i64, b: i64) -> bool
+    ensures { λ r. ⌜ r ≡ sameNumber a b ⌝ }
+{
+    a == b
+}
+
+fn same(a: [i64; VALUES], b: [i64; VALUES]) -> bool
+    ensures { λ r. ⌜ r ≡ same a b ⌝ }
+{
+    let mut i = 0;
+    while i < VALUES {
+        if same_number(a[i], b[i]) {
+            i += 1;
+        } else {
+            return false;
+        }
+    }
+    true
+}
+
+// Whether every value at n is that of the second before.
+fn unchanged(d: &State, n: u64) -> bool
+    requires { ⌜ 0 < n ⌝ }
+    ensures { λ r. ⌜ r ≡ same (valuesAt (situationOf (now (d .entry))) n) (valuesAt (situationOf (now (d .entry))) (n - 1)) ⌝ }
+{
+    same(values_at(d, n), values_at(d, n - 1))
+}
+
+// The second of the next row after t, END where there is none.
+pub fn next_row(d: &State, t: u64) -> u64
+    ensures { λ r. ⌜ r ≡ nextRow (situationOf (now (d .entry))) t ⌝ }
+{
+    let mut n = next_after(d, t);
+    while n < END {
+        if !unchanged(d, n) {
+            return n;
+        }
+        n = next_after(d, n);
+    }
+    n
+}
+
+// How many rows the plan has.
+pub fn count(d: &State) -> usize
+    ensures { λ r. ⌜ r ≡ length (plainSeconds (situationOf (now (d .entry))) (clockOf (now (d .entry)))) ⌝ }
+{
+    let mut n = 0;
+    let mut t = next_row(d, clock(d));
+    while t < END {
+        n += 1;
+        t = next_row(d, t);
+    }
+    n
+}

@@ -1,2 +1,0 @@
-pub mod Quantities
-pub mod Smaller

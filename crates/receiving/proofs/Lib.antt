@@ -1,2 +1,0 @@
--- The proofs of the statements.
-pub mod Received

@@ -1,1 +1,0 @@
-// No code: frames that come in scraps, applied to a device, as statements in specs/, proved in proofs/.

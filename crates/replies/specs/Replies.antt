@@ -1,9 +1,0 @@
--- The response that is made for a request. Assumes nothing: this is a definition.
-use Prim.Native.Nat.{ℕ}
-use Rattle.messages.specs.declared.Outcome.{Outcome}
-use Rattle.messages.specs.declared.Request.{Request}
-use Rattle.messages.specs.declared.Response.{Response}
-
--- its message id, the number as status, and the result where one stands
-abbrev pub replyTo : Request → ℕ → Outcome → Response
-replyTo r number o = record { id = r .id; status = number; outcome = o }

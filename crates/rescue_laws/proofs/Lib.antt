@@ -1,6 +1,0 @@
--- The laws, each in the file of its subject.
-pub mod Sounds
-pub mod Pinned
-pub mod Rooms
-pub mod Benches
-pub mod Examples

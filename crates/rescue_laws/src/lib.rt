@@ -1,1 +1,0 @@
-// No code: what is proved of a rescued script is stated in specs/, and proved in proofs/.

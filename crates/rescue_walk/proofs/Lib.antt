@@ -1,0 +1,8 @@
+-- What the proofs of several functions use, and the walk without a bound.
+pub mod Begins
+pub mod Walks
+pub mod Pieces
+pub mod Loops
+pub mod Writings
+-- What the proofs use.
+mod Pairs

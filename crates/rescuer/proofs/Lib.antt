@@ -1,6 +1,0 @@
--- What the proofs of several functions use, and the walk without a bound.
-pub mod Begins
-pub mod Walks
-pub mod Pieces
-pub mod Loops
-pub mod Writings

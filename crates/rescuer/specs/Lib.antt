@@ -1,3 +1,0 @@
-pub mod Walk
-pub mod Steps
-pub mod Rescue

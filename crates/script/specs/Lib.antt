@@ -1,4 +1,0 @@
-pub mod Runs
-pub mod Answers
-pub mod Bench
-pub mod Laws

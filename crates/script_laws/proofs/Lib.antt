@@ -1,2 +1,0 @@
-pub mod Computed
-pub mod OtherOrder

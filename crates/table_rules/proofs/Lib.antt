@@ -1,3 +1,0 @@
--- What the proofs of several functions use, and the laws of the smaller number that callers cite.
-pub mod Ends
-pub mod Rows

@@ -1,0 +1,17 @@
+-- Put as it is to be seen.
+use Rattle.wire_fields.specs.Fields.{amountItem}
+use Rattle.wire_fields.proofs.Added.{flat-put, flat-amount}
+use borrow.Author.Needs.{needs}
+use Rattle.wire_fields.proofs.puts.put_amount.Statement.{statement}
+use Rattle.wire_fields.proofs.puts.put_amount.Tie as tie
+
+pub put-amount-spec : {M : Type 1} → statement M
+put-amount-spec =
+    tie.close
+    (tie.spec
+    (λ c κs. search needs) (λ c κs. search needs) (λ c. search needs)
+    (λ c.
+    let at-put-sight = c .before .before .put-sight in
+    let at-amount-sight = c .before .before .before .amount-sight in
+    let at-args = c .before .before .before .before .before .before .args in
+    flat-put _ (amountItem (at-args .a)) (flat-amount (at-args .a)) _ (at-amount-sight .ensures) (at-put-sight .ensures)))

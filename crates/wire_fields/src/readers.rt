@@ -1,0 +1,58 @@
+// The fields of a map, by what is seen under their keys: one reader each for unsigned and signed numbers, truths and maps.
+use crate::ranges::INT64;
+use crate::ranges::is_in;
+use crate::ranges::is_number;
+use crate::ranges::up_to;
+use crate::truths::both;
+use crate::truths::either;
+use crate::values::field_of;
+use wire_cbor::Sight;
+use wire_messages::Field;
+ghost use lib.Dec.{eqb};
+ghost use mathlib.Core.Bool.{true};
+ghost use Rattle.wire_fields.specs.Fields.{truth, needed, valueIn, successIn};
+ghost use Rattle.wire_fields.specs.Sights.{Reads, UintReads, MapReads};
+
+// A signed number, null or nothing; not `ok` is refusal 3.
+pub struct Value {
+    pub ok: bool,
+    pub field: Field,
+}
+
+// Whether an unsigned number of at most `most` is there, or nothing where it need not be.
+pub fn is_uint(k: Sight, must: bool, most: u64) -> bool
+    ensures { λ r. ⌜ UintReads k must most r ⌝ }
+{
+    either(both(!must, k.major == 8), is_in(k, up_to(most)))
+}
+
+// A signed number, or null where that is allowed, or nothing.
+pub fn read_value(k: Sight, null: bool) -> Value
+    ensures { λ r. ⌜ Reads k (valueIn null) (r .ok) (r .field) ⌝ }
+{
+    Value {
+        ok: is_number(k, INT64, null),
+        field: field_of(k),
+    }
+}
+
+// Whether false or true is there.
+pub fn is_truth(k: Sight) -> bool
+    ensures { λ r. ⌜ Reads k (needed truth) r (eqb (k .arg) 21) ⌝ }
+{
+    both(k.major == 7, either(k.arg == 20, k.arg == 21))
+}
+
+// Whether true is there.
+pub fn is_success(k: Sight) -> bool
+    ensures { λ r. ⌜ Reads k successIn r true ⌝ }
+{
+    both(k.major == 7, k.arg == 21)
+}
+
+// Whether a map is there.
+pub fn is_map(k: Sight) -> bool
+    ensures { λ r. ⌜ MapReads k r ⌝ }
+{
+    k.major == 5
+}

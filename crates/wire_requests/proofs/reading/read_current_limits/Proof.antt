@@ -1,0 +1,35 @@
+-- Each field is judged by its sight, the phases by those one level below, and all together are the parameters.
+use mathlib.Core.Path.{ap, _∙_}
+use Rattle.wire_requests.specs.Settings.{durationOf}
+use Rattle.wire_requests.proofs.Requested.{current-limits-read}
+use borrow.Author.Needs.{needs}
+use Rattle.wire_requests.proofs.reading.read_current_limits.Statement.{statement}
+use Rattle.wire_requests.proofs.reading.read_current_limits.Tie as tie
+
+pub read-current-limits-spec : {M : Type 1} → statement M
+read-current-limits-spec =
+    tie.close
+    (tie.spec
+    (λ c κs. search needs) (λ c κs. search needs) (λ c κs. search needs) (λ c κs. search needs) (λ c κs. search needs)
+    (λ c κs. search needs) (λ c κs. search needs) (λ c κs. search needs) (λ c κs. search needs) (λ c κs. search needs)
+    (λ c κs. search needs) (λ c κs. search needs) (λ c κs. search needs) (λ c κs. search needs)
+    (λ c.
+    let at-all4 = c .before .before .before .all4 in
+    let at-is-cause = c .before .before .before .before .is-cause in
+    let at-is-uint2 = c .before .before .before .before .before .is-uint2 in
+    let at-is-uint = c .before .before .before .before .before .before .is-uint in
+    let at-sight-of7 = c .before .before .before .before .before .before .before .sight-of7 in
+    let at-sight-of6 = c .before .before .before .before .before .before .before .before .sight-of6 in
+    let back-8 = c .before .before .before .before .before .before .before .before in
+    let at-sight-of5 = back-8 .before .sight-of5 in
+    let at-read-phases = back-8 .before .before .read-phases in
+    let at-sight-of4 = back-8 .before .before .before .sight-of4 in
+    let at-sight-of3 = back-8 .before .before .before .before .sight-of3 in
+    let at-sight-of2 = back-8 .before .before .before .before .before .sight-of2 in
+    let at-sight-of = back-8 .before .before .before .before .before .before .sight-of in
+    let at-args = back-8 .before .before .before .before .before .before .before .args in
+    current-limits-read (at-args .sights .now) _ _ _ _ _ _ _ (at-sight-of .ensures) (at-sight-of2 .ensures) (at-sight-of3 .ensures)
+    (at-sight-of4 .ensures)
+    (at-sight-of5 .ensures) (at-sight-of6 .ensures) (at-sight-of7 .ensures) _ _ _ _ (at-read-phases .ensures) (at-is-uint .ensures)
+    (at-is-uint2 .ensures)
+    (at-is-cause .ensures) _ (at-all4 .ensures) _ (c .duration-of .ensures ∙ ap durationOf (c .before .amount-of .ensures))))
