@@ -8,7 +8,7 @@ use lib.IntN.{ℤ, pos, ℤ-discrete}
 use lib.ListN.{length, drop}
 use lib.Seq.{take-at, drop-at}
 use borrow.Author.Tests.{le-ltb, le-leb}
-use Rattle.wire_messages.specs.Refusals.{firstOf}
+use Rattle.refusals.specs.Refusals.{firstOf}
 use Rattle.wire_requests.specs.Requests.{readRequest}
 use Rattle.wire_output.specs.Writing.{writingNumber}
 use Rattle.wire_requests.specs.declared.reading.Reading.{Reading}

@@ -15,7 +15,7 @@ use Rattle.wire_messages.specs.declared.Phases.{Phases}
 use Rattle.wire_messages.specs.declared.CurrentLimits.{CurrentLimits}
 use Rattle.wire_messages.specs.declared.Command.{Command}
 use Rattle.wire_messages.specs.declared.Request.{Request}
-use Rattle.wire_messages.specs.Refusals.{firstOf}
+use Rattle.refusals.specs.Refusals.{firstOf}
 use Rattle.wire_requests.specs.WrittenRequests.{isServed, requestItem, requestWide, requestUnserved, requestNumber}
 use Rattle.wire_messages.specs.Numbers.{servedAt}
 use Rattle.wire_requests.specs.Requests.{readRequest}

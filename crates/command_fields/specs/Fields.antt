@@ -3,7 +3,7 @@ use Prim.Native.Nat.{ℕ}
 use mathlib.Core.Bool.{Bool, true, false, cond, _&&_}
 use lib.Dec.{ltb, eqb}
 use lib.IntN.{ℤ, pos, negsuc}
-use Rattle.wire_messages.specs.Numbers.{belowMinimum, aboveContractual, invalidValue, overrideSet, notSupported}
+use Rattle.refusals.specs.Reasons.{belowMinimum, aboveContractual, invalidValue, overrideSet, notSupported}
 use Rattle.wire_messages.specs.declared.Field.{Field}
 use Rattle.wire_messages.specs.declared.Amount.{Amount}
 use Rattle.wire_messages.specs.declared.Amount.the-variants.{Absent, Is}

@@ -13,6 +13,7 @@ use Rattle.command_fields.specs.Fields.{fieldTooLow, fieldAbove}
 use Rattle.command_tests.specs.Asked.{beyond, outside}
 use Rattle.command_by_quantity.specs.declared.said.Kind.{Kind}
 use Rattle.command_by_quantity.specs.Says.{says, kindOf, isSet, aimOf, topOf, someOf, fieldNames, fieldNegative}
+use Rattle.refusals.specs.Refusals.{BAD_VALUE, BELOW_MINIMUM, NOT_SUPPORTED, OVERRIDDEN}
 
 -- 4: the command is not served
 abbrev pub ofNone : Kind → Bool
@@ -66,7 +67,7 @@ belowTheMinimum s c = fieldTooLow (s .minimum) (says c 0)
 -- what is asked of the command itself, once its zone is joined and up
 abbrev pub contentTests : Settings → ℕ → Command → List (Bool × ℕ)
 contentTests s override c =
-    (unsupported s c, 11) ∷ (setsLimits c && not (eqb override 0), 12) ∷ (invalid s c, 13) ∷ (belowTheMinimum s c, 14) ∷ []
+    (unsupported s c, NOT_SUPPORTED) ∷ (setsLimits c && not (eqb override 0), OVERRIDDEN) ∷ (invalid s c, BAD_VALUE) ∷ (belowTheMinimum s c, BELOW_MINIMUM) ∷ []
 
 -- some number is above the most that its quantity may be: "above contractual 1 (status 0)"
 unfoldable pub isCapped : Settings → Command → Bool

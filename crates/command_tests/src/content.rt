@@ -9,12 +9,16 @@ use command_by_quantity::says;
 use command_fields::field_too_low;
 use device_store::Settings;
 use device_store::supports;
+use refusals::BAD_VALUE;
+use refusals::BELOW_MINIMUM;
+use refusals::NOT_SUPPORTED;
+use refusals::OVERRIDDEN;
 use wire_messages::Aim;
 use wire_messages::Command;
 ghost use mathlib.Core.Path.{_≡_};
 ghost use mathlib.Core.Bool.{not, _&&_};
 ghost use lib.Dec.{eqb};
-ghost use Rattle.wire_messages.specs.Refusals.{firstOf};
+ghost use Rattle.refusals.specs.Refusals.{firstOf};
 ghost use Rattle.command_tests.specs.Content.{accepts, aimUnsupported, unsupported, isUnserved, setsLimits};
 ghost use Rattle.command_tests.specs.Content.{invalid, belowTheMinimum, contentTests, isCapped};
 
@@ -109,16 +113,16 @@ pub fn content_number(s: Settings, overridden: u64, c: Command) -> u64
     ensures { λ r. ⌜ r ≡ firstOf (contentTests s overridden c) ⌝ }
 {
     if is_unsupported(s, c) {
-        return 11;
+        return NOT_SUPPORTED;
     }
     if is_stopped(c, overridden) {
-        return 12;
+        return OVERRIDDEN;
     }
     if is_invalid(s, c) {
-        return 13;
+        return BAD_VALUE;
     }
     if is_below_minimum(s, c) {
-        return 14;
+        return BELOW_MINIMUM;
     }
     0
 }

@@ -8,7 +8,7 @@ use native.Mathlib.Omega.{arith}
 use lib.Dec.{leb, eqb}
 use lib.ListN.{length}
 use borrow.Author.Tests.{ne-eqb}
-use Rattle.wire_messages.specs.Refusals
+use Rattle.refusals.specs.Refusals
 use Rattle.wire_messages.specs.declared.Request.{Request}
 use Rattle.wire_requests.specs.Requests.{readRequest, readingNumber}
 use Rattle.wire_output.specs.Writing.{writingNumber}

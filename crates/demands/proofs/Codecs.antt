@@ -8,7 +8,7 @@ use lib.Dec.{leb}
 use lib.ListN.{length}
 use native.Mathlib.Omega.{arith}
 use Rattle.wire_cbor.specs.Item.{Item, payloadOf}
-use Rattle.wire_messages.specs.Refusals.{firstOf}
+use Rattle.refusals.specs.Refusals.{firstOf}
 use Rattle.wire_messages.specs.declared.Command.{Command}
 use Rattle.wire_messages.specs.declared.Request.{Request}
 use Rattle.wire_messages.specs.declared.Response.{Response}

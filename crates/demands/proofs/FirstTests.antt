@@ -6,7 +6,7 @@ use Prim.Native.Nat.{ℕ, _≤_}
 use native.Mathlib.Omega.{arith}
 use lib.Dec.{leb, eqb}
 use borrow.Author.Tests.{ne-eqb, leb-true}
-use Rattle.wire_messages.specs.Refusals
+use Rattle.refusals.specs.Refusals
 use Rattle.device_calls.specs.Refusals.{firstOf, Numbered}
 use Rattle.kernel_laws.proofs.FirstOf.{refused-exactly, accepted-exactly}
 use Rattle.demands.specs.Answers.{ByTests}

@@ -10,7 +10,7 @@ use lib.IntN.{ℤ, ℤ-discrete}
 use lib.ListN.{length, set}
 use lib.Seq.{set-out}
 use borrow.Author.Tests.{le-leb, lt-leb, le-ltb, leb-true, leb-false, ltb-false}
-use Rattle.wire_messages.specs.Refusals.{firstOf}
+use Rattle.refusals.specs.Refusals.{firstOf}
 use Rattle.device_store.specs.Sizes.{end, slots, words}
 use Rattle.device_rules.specs.Rules.{late}
 use Rattle.device_store.specs.Zones.{freeZone}

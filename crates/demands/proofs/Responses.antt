@@ -9,7 +9,7 @@ use lib.ListN.{length}
 use lib.Dec.{leb·zero}
 use borrow.Author.Tests.{eqb-true}
 use Rattle.wire_bytes.specs.Bytes.{put, putWhole}
-use Rattle.wire_messages.specs.Refusals
+use Rattle.refusals.specs.Refusals
 use Rattle.wire_messages.specs.declared.Request.{Request}
 use Rattle.wire_requests.specs.Requests.{readRequest}
 use Rattle.wire_responses.specs.Responses.{isStatus}
@@ -19,7 +19,7 @@ use Rattle.wire_requests.specs.declared.reading.Reading.{Reading}
 use Rattle.device_store.specs.Zones.{joined, zoneOf}
 use Rattle.device_store.specs.Words.{clockOf, overrideOf, settingsOf, zonesOf}
 use Rattle.device_calls.specs.Commands.{commandTests, commandNumber}
-use Rattle.wire_messages.specs.Refusals.{firstOf}
+use Rattle.refusals.specs.Refusals.{firstOf}
 use Rattle.kernel.specs.Frame.{responseTo, responseFrame, numberFrom, frameNumber, frameAnswer, frameOut}
 use Rattle.demands.specs.Answers.{Responds}
 use Rattle.demands.proofs.Lists.{never}

@@ -12,7 +12,7 @@ use Rattle.wire_messages.specs.declared.Request.{Request}
 use Rattle.wire_messages.specs.declared.Response.{Response}
 use Rattle.device_store.specs.declared.Settings.{Settings}
 use Rattle.device_holds.specs.Holds.{Situation, valuesAt}
-use Rattle.wire_messages.specs.Refusals.{firstOf}
+use Rattle.refusals.specs.Refusals.{firstOf, NOT_SERVED}
 use Rattle.device_calls.specs.Calls.{joinTests, leaveTests, linkTests, overrideTests, overrideWord, clearTests, moveTests}
 use Rattle.device_calls.specs.Commands.{commandTests}
 use Rattle.command_effects.specs.Outcomes.{isCapped, outcomeWith}
@@ -49,12 +49,12 @@ responseBy s h z t r = record { id = r .id; status = commandNumberBy s h z t (r 
 -- the response frame: none at 1, 2 and 3; status 4; a status and its result else
 unfoldable pub responseFrameBy : Settings → Log → ℕ → ℕ → Reading → List ℕ
 responseFrameBy s h z t (Reading.Refused n) = []
-responseFrameBy s h z t (Reading.Unserved i) = itemFrame (responseItem (statusAlone i 4))
+responseFrameBy s h z t (Reading.Unserved i) = itemFrame (responseItem (statusAlone i NOT_SERVED))
 responseFrameBy s h z t (Reading.Is r) = itemFrame (responseItem (responseBy s h z t r))
 
 unfoldable pub numberFromBy : Settings → Log → ℕ → ℕ → Reading → ℕ → ℕ
 numberFromBy s h z t (Reading.Refused n) room = n
-numberFromBy s h z t (Reading.Unserved i) room = 4
+numberFromBy s h z t (Reading.Unserved i) room = NOT_SERVED
 numberFromBy s h z t (Reading.Is r) room = writingNumber (commandNumberBy s h z t (r .command)) (responseFrameBy s h z t (Reading.Is r)) room
 
 unfoldable pub numberBy : Settings → Log → Call → ℕ

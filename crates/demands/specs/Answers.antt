@@ -25,6 +25,7 @@ use Rattle.device_calls.specs.Commands.{commandNumber, commandAfter}
 use Rattle.demands.specs.Run.{Call, join, leave, lost, back, override, clear, move, frame, number, next}
 use Rattle.demands.specs.Accepted.{startedWith}
 use Rattle.demands.specs.Tests.{tests}
+use Rattle.refusals.specs.Refusals.{BAD_SETTINGS}
 
 -- a number beside the tests in their order
 pub record ByTests (n : ℕ) (l : List (Bool × ℕ)) : Type 0 where
@@ -53,7 +54,7 @@ pub record Answers (ws : List ℕ) (c : Call) : Type 0 where
 
 -- a start, whatever the words held before: refused with 16 alone, and then fresh with settings of its own
 pub record Starts (s : Settings) : Type 0 where
-  pub numbered : ByTests (startNumber s) ((badSettings s, 16) ∷ [])
+  pub numbered : ByTests (startNumber s) ((badSettings s, BAD_SETTINGS) ∷ [])
   -- "A fresh device's clock is 0"
   pub clock : clockOf (startAfter s) ≡ 0
   -- "settings that then stay": they are read back, or those of a refused start

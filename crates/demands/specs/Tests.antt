@@ -30,6 +30,7 @@ use Rattle.report.specs.Lists.{ascends}
 use Rattle.report.specs.Rules.{breaches}
 use Rattle.report.specs.Report.{inRange}
 use Rattle.demands.specs.Run.{Call, join, leave, lost, back, override, clear, move, frame}
+use Rattle.refusals.specs.Refusals.{BAD_CBOR, BAD_LENGTH, BAD_MESSAGE, BAD_SETTINGS, NOT_ASCENDING, NOT_SERVED, NO_SPACE}
 
 -- WHAT A FRAME'S BYTES HAVE IN THEM: nothing where they are not sound so far
 unfoldable pub missing : {A : Type 0} → Option A → Bool
@@ -56,13 +57,13 @@ parametersOf e = commandIn (e .command) (e .parameters)
 -- a request read: "1, 2, envelope 3, 4, parameters 3"
 unfoldable pub readTests : List ℕ → List (Bool × ℕ)
 readTests bytes =
-    (not (framed bytes), 1) ∷ (missing (itemOf bytes), 2) ∷ (missing (envelopeOf bytes), 3) ∷ (unserved (envelopeOf bytes), 4)
-    ∷ (missing (bind (envelopeOf bytes) parametersOf), 3) ∷ []
+    (not (framed bytes), BAD_LENGTH) ∷ (missing (itemOf bytes), BAD_CBOR) ∷ (missing (envelopeOf bytes), BAD_MESSAGE) ∷ (unserved (envelopeOf bytes), NOT_SERVED)
+    ∷ (missing (bind (envelopeOf bytes) parametersOf), BAD_MESSAGE) ∷ []
 
 -- a response read for a command: "an unserved one is 4, tested first", then 1, 2, 3
 unfoldable pub answerTests : ℕ → List ℕ → List (Bool × ℕ)
 answerTests command bytes =
-    (not (servedCommand command), 4) ∷ (not (framed bytes), 1) ∷ (missing (itemOf bytes), 2) ∷ (missing (bind (mapOf bytes) (responseIn command)), 3)
+    (not (servedCommand command), NOT_SERVED) ∷ (not (framed bytes), BAD_LENGTH) ∷ (missing (itemOf bytes), BAD_CBOR) ∷ (missing (bind (mapOf bytes) (responseIn command)), BAD_MESSAGE)
     ∷ []
 
 -- 15: "the complete output is longer than the lent buffer"
@@ -71,24 +72,24 @@ tooLong i room = not (leb (length (itemFrame i)) room)
 
 -- "Request writers answer 3 for a value out of range, then 4 for what is not served, then 15"
 unfoldable pub writeRequestTests : Request → ℕ → List (Bool × ℕ)
-writeRequestTests r room = (requestWide r, 3) ∷ (requestUnserved r, 4) ∷ (tooLong (requestItem r) room, 15) ∷ []
+writeRequestTests r room = (requestWide r, BAD_MESSAGE) ∷ (requestUnserved r, NOT_SERVED) ∷ (tooLong (requestItem r) room, NO_SPACE) ∷ []
 
 -- "an unserved one is 4, tested first, in writing too"; "response writers 3, then 15"
 unfoldable pub writeResponseTests : ℕ → Response → ℕ → List (Bool × ℕ)
 writeResponseTests command r room =
-    (not (servedCommand command), 4) ∷ (not (responseFits command r), 3) ∷ (tooLong (responseItem r) room, 15) ∷ []
+    (not (servedCommand command), NOT_SERVED) ∷ (not (responseFits command r), BAD_MESSAGE) ∷ (tooLong (responseItem r) room, NO_SPACE) ∷ []
 
 -- "Conformance: 16, 17, 15"; the room is counted in numbers, two a pair
 unfoldable pub reportTests : Inputs → List ℕ → ℕ → List (Bool × ℕ)
 reportTests i attributes room =
-    (not (inRange i), 16) ∷ (not (ascends attributes), 17) ∷ (ltb room (2 * length (breaches i attributes)), 15) ∷ []
+    (not (inRange i), BAD_SETTINGS) ∷ (not (ascends attributes), NOT_ASCENDING) ∷ (ltb room (2 * length (breaches i attributes)), NO_SPACE) ∷ []
 
 -- THE DEVICE
 -- the request that was read, asked of the device: "5, 9, 10, 11, 12, 13, 14, 15"
 unfoldable pub obeyTests : List ℕ → ℕ → ℕ → ℕ → Reading → List (Bool × ℕ)
 obeyTests ws z t room (Reading.Is r) =
     commandTests (clockOf ws) (joined (zonesOf ws) z) (zoneOf (zonesOf ws) z .up) (settingsOf ws) (overrideOf ws) t (r .command)
-    ++ ((not (leb (length (responseFrame ws z t (Reading.Is r))) room), 15) ∷ [])
+    ++ ((not (leb (length (responseFrame ws z t (Reading.Is r))) room), NO_SPACE) ∷ [])
 obeyTests ws z t room (Reading.Unserved i) = []
 obeyTests ws z t room (Reading.Refused n) = []
 

@@ -6,7 +6,7 @@ use mathlib.Core.List.{List, [], _∷_, _++_, foldl, map}
 use lib.Dec.{eqb}
 use lib.IntN.{ℤ, pos, negsuc}
 use lib.ListN.{replicate}
-use Rattle.wire_messages.specs.Numbers.{AUTONOMOUS, CONTROLLED, LIMITED, FAILSAFE}
+use Rattle.refusals.specs.States.{AUTONOMOUS, CONTROLLED, LIMITED, FAILSAFE}
 use Rattle.wire_messages.specs.declared.Amount.{Amount}
 use Rattle.wire_messages.specs.declared.Field.{Field}
 use Rattle.wire_messages.specs.declared.Target.{Target}

@@ -14,6 +14,7 @@ use Rattle.device_rules.specs.Rules.{badJoin, goTogether}
 use Rattle.device_calls.specs.Refusals.{firstOf, late}
 use Rattle.device_store.specs.declared.Zone.{Zone}
 use Rattle.device_store.specs.declared.Change.{Change}
+use Rattle.refusals.specs.Refusals.{ALREADY, BAD_OVERRIDE, BAD_TIME, BAD_ZONE, FULL, NOT_JOINED}
 
 -- a change of slot i alone, at t
 unfoldable pub zoneChange : List ℕ → ℕ → ℕ → Zone → Change
@@ -26,7 +27,7 @@ sinceTold ws i u t = cond u (sinceOf ws) (sinceAfter (zonesOf ws) (set (zonesOf 
 
 -- join of zone z with rank k at t: "join of a joined id" is 7, "join with eight zones joined" 8
 abbrev pub joinTests : ℕ → Bool → Bool → ℕ → ℕ → ℕ → List (Bool × ℕ)
-joinTests clock there full z k t = (late clock t, 5) ∷ (badJoin z k, 6) ∷ (there, 7) ∷ (full, 8) ∷ []
+joinTests clock there full z k t = (late clock t, BAD_TIME) ∷ (badJoin z k, BAD_ZONE) ∷ (there, ALREADY) ∷ (full, FULL) ∷ []
 
 unfoldable pub joinNumber : List ℕ → ℕ → ℕ → ℕ → ℕ
 joinNumber ws z k t =
@@ -37,7 +38,7 @@ joinAfter ws z k t = after ws (joinNumber ws z k t) (zoneChange ws t (slotOf (zo
 
 -- leave of zone z at t: its slot is free and holds nothing of it
 abbrev pub leaveTests : ℕ → Bool → ℕ → List (Bool × ℕ)
-leaveTests clock there t = (late clock t, 5) ∷ (not there, 9) ∷ []
+leaveTests clock there t = (late clock t, BAD_TIME) ∷ (not there, NOT_JOINED) ∷ []
 
 unfoldable pub leaveNumber : List ℕ → ℕ → ℕ → ℕ
 leaveNumber ws z t = firstOf (leaveTests (clockOf ws) (joined (zonesOf ws) z) t)
@@ -50,7 +51,7 @@ unfoldable pub same : Bool → Bool → Bool
 same a b = cond a b (not b)
 
 abbrev pub linkTests : ℕ → Bool → Bool → Bool → ℕ → List (Bool × ℕ)
-linkTests clock there up u t = (late clock t, 5) ∷ (not there, 9) ∷ (same up u, 7) ∷ []
+linkTests clock there up u t = (late clock t, BAD_TIME) ∷ (not there, NOT_JOINED) ∷ (same up u, ALREADY) ∷ []
 
 unfoldable pub linkNumber : List ℕ → ℕ → Bool → ℕ → ℕ
 linkNumber ws z u t = firstOf (linkTests (clockOf ws) (joined (zonesOf ws) z) (zoneOf (zonesOf ws) z .up) u t)
@@ -65,7 +66,7 @@ overrideWord reason d = 1 + 2 * reason + d
 
 -- override with a reason and a direction at t: "Setting again replaces"
 abbrev pub overrideTests : ℕ → Bool → ℕ → ℕ → ℕ → List (Bool × ℕ)
-overrideTests clock manager reason d t = (late clock t, 5) ∷ (not (goTogether manager reason d), 18) ∷ []
+overrideTests clock manager reason d t = (late clock t, BAD_TIME) ∷ (not (goTogether manager reason d), BAD_OVERRIDE) ∷ []
 
 unfoldable pub overrideNumber : List ℕ → ℕ → ℕ → ℕ → ℕ
 overrideNumber ws reason d t = firstOf (overrideTests (clockOf ws) (settingsOf ws .manager) reason d t)
@@ -75,7 +76,7 @@ overrideAfter ws reason d t = after ws (overrideNumber ws reason d t) (headChang
 
 -- clear the override at t: 7 where none is set
 abbrev pub clearTests : ℕ → ℕ → ℕ → List (Bool × ℕ)
-clearTests clock override t = (late clock t, 5) ∷ (eqb override 0, 7) ∷ []
+clearTests clock override t = (late clock t, BAD_TIME) ∷ (eqb override 0, ALREADY) ∷ []
 
 unfoldable pub clearNumber : List ℕ → ℕ → ℕ
 clearNumber ws t = firstOf (clearTests (clockOf ws) (overrideOf ws) t)
@@ -89,7 +90,7 @@ askAnswer ws = valuesAt (situationOf ws) (clockOf ws)
 
 -- "another only moves the clock to a given second"
 abbrev pub moveTests : ℕ → ℕ → List (Bool × ℕ)
-moveTests clock t = (late clock t, 5) ∷ []
+moveTests clock t = (late clock t, BAD_TIME) ∷ []
 
 unfoldable pub moveNumber : List ℕ → ℕ → ℕ
 moveNumber ws t = firstOf (moveTests (clockOf ws) t)

@@ -5,7 +5,7 @@ use mathlib.Core.Path.{_≡_}
 use mathlib.Core.List.{List}
 use lib.Dec.{ltb, leb, eqb}
 use lib.ListN.{getD}
-unfoldable pub use Rattle.wire_messages.specs.Refusals.{firstOf}
+unfoldable pub use Rattle.refusals.specs.Refusals.{firstOf}
 unfoldable pub use Rattle.device_rules.specs.Rules.{late}
 use Rattle.device_store.specs.Sizes.{end}
 use Rattle.device_store.specs.Zones.{any}

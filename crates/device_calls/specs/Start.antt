@@ -9,6 +9,7 @@ use Rattle.device_store.specs.Words.{fresh}
 use Rattle.device_rules.specs.Rules.{badSettings}
 use Rattle.device_calls.specs.Refusals.{firstOf}
 use Rattle.device_store.specs.declared.Settings.{Settings}
+use Rattle.refusals.specs.Refusals.{BAD_SETTINGS}
 
 -- "a fresh device that accepts neither limits nor setpoints, consumption only, failsafe duration 7,200, all else 0, none or no"; L5: phase
 -- count "1 after a refused start"
@@ -28,7 +29,7 @@ refusedSettings =
     }
 
 unfoldable pub startNumber : Settings → ℕ
-startNumber s = firstOf ((badSettings s, 16) ∷ [])
+startNumber s = firstOf ((badSettings s, BAD_SETTINGS) ∷ [])
 
 unfoldable pub startAfter : Settings → List ℕ
 startAfter s = fresh (cond (badSettings s) refusedSettings s)

@@ -1,4 +1,11 @@
 // The calls without a frame: start, join, leave, lost, back, override, clear, ask, and the clock moved.
+use refusals::ALREADY;
+use refusals::BAD_OVERRIDE;
+use refusals::BAD_SETTINGS;
+use refusals::BAD_TIME;
+use refusals::BAD_ZONE;
+use refusals::FULL;
+use refusals::NOT_JOINED;
 ghost use mathlib.Core.Path.{_≡_};
 ghost use mathlib.Core.Bool.{true, false};
 ghost use Prim.Native.Nat.{_<_, _≤_};
@@ -45,7 +52,7 @@ pub fn start(d: &mut State, s: Settings) -> u64
 {
     if device_rules::is_bad_settings(s) {
         device_store::fresh(d, refused_settings());
-        return 16;
+        return BAD_SETTINGS;
     }
     device_store::fresh(d, s);
     0
@@ -68,17 +75,17 @@ pub fn join(d: &mut State, zone: u64, rank: u64, t: u64) -> u64
     ensures { λ _. ⌜ now (d .exit) ≡ joinAfter (now (d .entry)) zone rank t ⌝ }
 {
     if device_rules::is_late(device_store::clock(d), t) {
-        return 5;
+        return BAD_TIME;
     }
     if device_rules::is_bad_join(zone, rank) {
-        return 6;
+        return BAD_ZONE;
     }
     if device_store::is_joined(d, zone) {
-        return 7;
+        return ALREADY;
     }
     let slot = device_store::slot_of(d, 0);
     if SLOTS <= slot {
-        return 8;
+        return FULL;
     }
     let change = Change {
         time: t,
@@ -97,11 +104,11 @@ pub fn leave(d: &mut State, zone: u64, t: u64) -> u64
     ensures { λ _. ⌜ now (d .exit) ≡ leaveAfter (now (d .entry)) zone t ⌝ }
 {
     if device_rules::is_late(device_store::clock(d), t) {
-        return 5;
+        return BAD_TIME;
     }
     let slot = device_store::slot_of_joined(d, zone);
     if SLOTS <= slot {
-        return 9;
+        return NOT_JOINED;
     }
     let change = Change {
         time: t,
@@ -149,14 +156,14 @@ fn link(d: &mut State, zone: u64, up: bool, t: u64) -> u64
     ensures { λ _. ⌜ now (d .exit) ≡ linkAfter (now (d .entry)) zone up t ⌝ }
 {
     if device_rules::is_late(device_store::clock(d), t) {
-        return 5;
+        return BAD_TIME;
     }
     let slot = device_store::slot_of_joined(d, zone);
     if SLOTS <= slot {
-        return 9;
+        return NOT_JOINED;
     }
     if is_same(device_store::up_at(d, slot), up) {
-        return 7;
+        return ALREADY;
     }
     let change = Change {
         time: t,
@@ -198,13 +205,13 @@ pub fn set_override(d: &mut State, reason: u64, direction: u64, t: u64) -> u64
     ensures { λ _. ⌜ now (d .exit) ≡ overrideAfter (now (d .entry)) reason direction t ⌝ }
 {
     if device_rules::is_late(device_store::clock(d), t) {
-        return 5;
+        return BAD_TIME;
     }
     if device_rules::go_together(device_store::is_manager(d), reason, direction) {
         device_store::apply_head(d, t, override_word(reason, direction));
         return 0;
     }
-    18
+    BAD_OVERRIDE
 }
 
 // Clears the override, where one is set.
@@ -213,10 +220,10 @@ pub fn clear_override(d: &mut State, t: u64) -> u64
     ensures { λ _. ⌜ now (d .exit) ≡ clearAfter (now (d .entry)) t ⌝ }
 {
     if device_rules::is_late(device_store::clock(d), t) {
-        return 5;
+        return BAD_TIME;
     }
     if device_store::overridden(d) == 0 {
-        return 7;
+        return ALREADY;
     }
     device_store::apply_head(d, t, 0);
     0
@@ -235,7 +242,7 @@ pub fn move_clock(d: &mut State, t: u64) -> u64
     ensures { λ _. ⌜ now (d .exit) ≡ moveAfter (now (d .entry)) t ⌝ }
 {
     if device_rules::is_late(device_store::clock(d), t) {
-        return 5;
+        return BAD_TIME;
     }
     let o = device_store::overridden(d);
     device_store::apply_head(d, t, o);

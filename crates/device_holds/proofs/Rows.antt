@@ -9,12 +9,12 @@ use native.Mathlib.Omega.{arith}
 use borrow.Author.Tests.{lt-ltb, le-ltb, le-leb, lt-leb, ltb-true, ltb-false, leb-true}
 use lib.Dec.{ltb, leb, eqb}
 use lib.ListN.{getD}
-use Rattle.wire_messages.specs.Numbers.{AUTONOMOUS, CONTROLLED, LIMITED, FAILSAFE, OVERRIDE}
+use Rattle.refusals.specs.States.{AUTONOMOUS, CONTROLLED, LIMITED, FAILSAFE, OVERRIDE}
 use Rattle.wire_messages.specs.declared.Amount.the-variants.{Absent, Is}
 use Rattle.device_store.specs.Zones.{idOf, rankOf, freeZone, any, isJoined, isUp, anyJoined, anyUp, heldOf}
 use Rattle.device_store.specs.Quantities.{isLimit, isSetpoint, isCurrent, directionOf, supports}
 use Rattle.device_holds.specs.Holds.{Claim, claimOf, goesBefore, winner, amountOf, Situation, inFailsafe, smallestWith, failsafeValue, valueAt, present, stateAt}
-use Rattle.wire_messages.specs.Refusals.{firstOf}
+use Rattle.refusals.specs.Refusals.{firstOf}
 use Rattle.device_holds.specs.Table.{Unexpired, Some, Each, SmallestLimit, NoBetter, BestSetpoint, SomeUp, SmallestSource, Failsafe, NoneUp, StateOrder, Table}
 use Rattle.device_store.specs.declared.Zone.{Zone}
 use Rattle.device_store.proofs.Tests.{never}

@@ -10,7 +10,7 @@ use lib.Dec.{ltb, eqb}
 use lib.IntN.{ℤ, pos, negsuc}
 use lib.ListN.{getD}
 use lib.Signed.{nonNeg}
-use Rattle.wire_messages.specs.Numbers.{AUTONOMOUS, CONTROLLED, LIMITED, OVERRIDE}
+use Rattle.refusals.specs.States.{AUTONOMOUS, CONTROLLED, LIMITED, OVERRIDE}
 use Rattle.wire_messages.specs.declared.Amount.{Amount}
 use Rattle.wire_messages.specs.declared.Amount.the-variants.{Absent, Is}
 use Rattle.device_store.specs.Quantities.{helds, isLimit, isSetpoint, directionOf, supports}

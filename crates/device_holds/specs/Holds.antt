@@ -5,7 +5,7 @@ use mathlib.Core.List.{List, _∷_}
 use lib.Dec.{ltb, eqb}
 use lib.ListN.{getD, set}
 use lib.IntN.{ℤ, pos}
-use Rattle.wire_messages.specs.Numbers.{AUTONOMOUS, CONTROLLED, LIMITED, FAILSAFE, OVERRIDE}
+use Rattle.refusals.specs.States.{AUTONOMOUS, CONTROLLED, LIMITED, FAILSAFE, OVERRIDE}
 use Rattle.wire_messages.specs.declared.Amount.{Amount}
 use Rattle.wire_messages.specs.declared.Amount.the-variants.{Absent, Is}
 use Rattle.device_store.specs.Quantities.{helds, isLimit, isSetpoint, directionOf, supports}

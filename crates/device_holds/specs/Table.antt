@@ -6,12 +6,12 @@ use mathlib.Core.Path.{_≡_}
 use mathlib.Core.List.{List, [], _∷_}
 use lib.Dec.{ltb, eqb}
 use lib.ListN.{length, getD}
-use Rattle.wire_messages.specs.Numbers.{CONTROLLED, LIMITED, FAILSAFE, OVERRIDE}
+use Rattle.refusals.specs.States.{CONTROLLED, LIMITED, FAILSAFE, OVERRIDE}
 use Rattle.wire_messages.specs.declared.Amount.the-variants.{Absent, Is}
 use Rattle.device_store.specs.Quantities.{isLimit, isSetpoint, isCurrent, directionOf, supports}
 use Rattle.device_store.specs.Zones.{idOf, rankOf, freeZone, isJoined, anyJoined, anyUp, heldOf}
 use Rattle.device_holds.specs.Holds.{noClaim, claimOf, goesBefore, winner, Situation, inFailsafe, valueAt, present, stateAt}
-use Rattle.wire_messages.specs.Refusals.{firstOf}
+use Rattle.refusals.specs.Refusals.{firstOf}
 use Rattle.device_store.specs.declared.Zone.{Zone}
 use Rattle.device_store.specs.declared.Settings.{Settings}
 

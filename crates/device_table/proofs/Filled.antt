@@ -11,7 +11,7 @@ use lib.Dec.{ltb}
 use lib.IntN.{ℤ, pos}
 use lib.ListN.{length, getD, set, length-set}
 use lib.Seq.{getD-set-same, getD-set-other}
-use Rattle.wire_messages.specs.Numbers.{FAILSAFE}
+use Rattle.refusals.specs.States.{FAILSAFE}
 use Rattle.device_store.specs.Quantities.{helds, isLimit, isSetpoint, directionOf}
 use Rattle.device_store.specs.Sizes.{most}
 use Rattle.device_store.specs.Zones.{upTo}

@@ -6,7 +6,7 @@ use mathlib.Core.List.{List, _∷_}
 use lib.Dec.{ltb}
 use lib.IntN.{ℤ, pos, negsuc}
 use lib.ListN.{getD}
-use Rattle.wire_messages.specs.Numbers.{FAILSAFE}
+use Rattle.refusals.specs.States.{FAILSAFE}
 use Rattle.device_store.specs.Quantities.{helds, isLimit, isSetpoint, directionOf}
 use Rattle.device_store.specs.Sizes.{most}
 use Rattle.device_store.specs.Zones.{upTo}

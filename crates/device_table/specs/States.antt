@@ -4,7 +4,7 @@ use mathlib.Core.Bool.{cond, not, _||_}
 use lib.Dec.{eqb}
 use lib.IntN.{ℤ, pos}
 use lib.Signed.{nonNeg}
-use Rattle.wire_messages.specs.Numbers.{AUTONOMOUS, CONTROLLED, LIMITED, OVERRIDE}
+use Rattle.refusals.specs.States.{AUTONOMOUS, CONTROLLED, LIMITED, OVERRIDE}
 
 -- the control state beside the limits a and b that are shown, some zone up; and with no value, no zone up
 unfoldable pub stateUp : ℕ → ℤ → ℤ → ℤ

@@ -1,4 +1,8 @@
 // The control state beside what is shown of a row of the table of links.
+use refusals::AUTONOMOUS;
+use refusals::CONTROLLED;
+use refusals::LIMITED;
+use refusals::OVERRIDE;
 ghost use mathlib.Core.Path.{_≡_};
 ghost use Rattle.device_table.specs.States.{stateUp, stateDown};
 
@@ -7,20 +11,24 @@ pub fn state_up(overridden: u64, a: i64, b: i64) -> i64
     ensures { λ r. ⌜ r ≡ stateUp overridden a b ⌝ }
 {
     if overridden != 0 {
-        return 4;
+        return OVERRIDE;
     }
     if 0 <= a {
-        return 2;
+        return LIMITED;
     }
     if 0 <= b {
-        return 2;
+        return LIMITED;
     }
-    1
+    CONTROLLED
 }
 
 // With no value, no zone up.
 pub fn state_down(overridden: u64) -> i64
     ensures { λ r. ⌜ r ≡ stateDown overridden ⌝ }
 {
-    if overridden != 0 { 4 } else { 0 }
+    if overridden != 0 {
+        OVERRIDE
+    } else {
+        AUTONOMOUS
+    }
 }

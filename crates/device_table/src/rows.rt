@@ -13,6 +13,7 @@ use device_store::least;
 use device_store::overridden;
 use device_store::settings_at;
 use device_store::since;
+use refusals::FAILSAFE;
 ghost use mathlib.Core.Path.{_≡_};
 ghost use Rattle.device_store.specs.Words.{overrideOf, settingsOf};
 ghost use Rattle.device_table.specs.Rows.{valuesUp, valuesNone, SafeLow, ShowsDown};
@@ -54,7 +55,7 @@ pub fn values_down(d: &State, g: Lows, t: u64) -> [i64; VALUES]
         low[0] = safe_low(s.failsafe[0], low[0]);
         low[1] = safe_low(s.failsafe[1], low[1]);
         let mut v = row(s.directions, low, [MOST; LEADS]);
-        v[0] = 3;
+        v[0] = FAILSAFE;
         return v;
     }
     values_none(d)

@@ -11,7 +11,7 @@ use lib.Dec.{leb, eqb}
 use lib.ListN.{length}
 use borrow.Author.Tests.{eq-eqb, ne-eqb}
 use Rattle.wire_bytes.specs.Bytes.{put, putWhole}
-use Rattle.wire_messages.specs.Refusals.{firstOf}
+use Rattle.refusals.specs.Refusals.{firstOf}
 use Rattle.wire_messages.specs.declared.Outcome.{Outcome}
 use Rattle.wire_messages.specs.declared.Request.{Request}
 use Rattle.wire_messages.specs.declared.Response.{Response}

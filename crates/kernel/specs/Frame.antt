@@ -14,6 +14,7 @@ use Rattle.wire_output.specs.Writing.{itemFrame, writingNumber}
 use Rattle.wire_requests.specs.declared.reading.Reading.{Reading}
 use Rattle.device_calls.specs.Commands.{commandNumber, commandAfter, commandAnswer}
 use Rattle.kernel.specs.declared.frame_call.Framed.{Framed}
+use Rattle.refusals.specs.Refusals.{NOT_SERVED}
 
 -- the response to a request: its message id, the number as status, and the result where one stands
 unfoldable pub responseTo : List ℕ → ℕ → ℕ → Request → Response
@@ -22,7 +23,7 @@ responseTo ws z t r = replyTo r (commandNumber ws z t (r .command)) (commandAnsw
 -- the table's column "Response frame": none at 1, 2 and 3; status 4; a status and its result else
 unfoldable pub responseFrame : List ℕ → ℕ → ℕ → Reading → List ℕ
 responseFrame ws z t (Reading.Refused n) = []
-responseFrame ws z t (Reading.Unserved i) = itemFrame (responseItem (statusAlone i 4))
+responseFrame ws z t (Reading.Unserved i) = itemFrame (responseItem (statusAlone i NOT_SERVED))
 responseFrame ws z t (Reading.Is r) = itemFrame (responseItem (responseTo ws z t r))
 
 -- "Order, for a frame: 1, 2, envelope 3, 4, parameters 3, 5, 9, 10, 11, 12, 13, 14, 15"

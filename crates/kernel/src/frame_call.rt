@@ -4,6 +4,8 @@ use device_calls::commands::decide;
 use device_calls::commands::enact;
 use device_calls::commands::outcome_of;
 use device_store::all;
+use refusals::BAD_LENGTH;
+use refusals::NOT_SERVED;
 use wire_messages::Request;
 use wire_requests::Reading;
 use wire_responses::reply_to;
@@ -60,7 +62,7 @@ fn payload_call(d: &mut State, zone: u64, t: u64, payload: &[u8], out: &mut [u8]
         Reading::Unserved(id) => {
             let w = wire_responses::frame_response(out, unserved_reply(id));
             Framed {
-                number: 4,
+                number: NOT_SERVED,
                 length: w.length,
             }
         }
@@ -81,7 +83,7 @@ pub fn frame(d: &mut State, zone: u64, t: u64, bytes: &[u8], out: &mut [u8]) -> 
         return payload_call(d, zone, t, &bytes[wire_prefix::PREFIX..], out);
     }
     Framed {
-        number: 1,
+        number: BAD_LENGTH,
         length: 0,
     }
 }

@@ -10,7 +10,7 @@ use lib.Dec.{ltb, eqb}
 use lib.IntN.{ℤ, pos}
 use lib.ListN.{length}
 use borrow.Author.Tests.{lt-ltb, le-ltb}
-use Rattle.wire_messages.specs.Refusals.{firstOf}
+use Rattle.refusals.specs.Refusals.{firstOf}
 use Rattle.device_store.specs.Sizes.{end, slots}
 use Rattle.device_store.specs.Zones.{upTo}
 use Rattle.device_store.specs.Words.{clockOf}

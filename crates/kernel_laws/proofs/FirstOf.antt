@@ -10,7 +10,7 @@ use borrow.Author.Tests.{eq-eqb}
 use lib.Dec.{eqb}
 use lib.ListN.{getD}
 use Rattle.device_store.specs.Zones.{any}
-use Rattle.wire_messages.specs.Refusals.{firstOf}
+use Rattle.refusals.specs.Refusals.{firstOf}
 use Rattle.device_calls.specs.Refusals.{FirstAt, NoneHolds, Numbered}
 
 apart : false ≡ true → ⊥

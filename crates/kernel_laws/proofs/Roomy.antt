@@ -7,7 +7,7 @@ use native.Mathlib.Omega.{arith}
 use borrow.Author.Tests.{le-leb, eqb-true}
 use lib.Dec.{eqb}
 use lib.ListN.{length}
-use Rattle.wire_messages.specs.Refusals.{firstOf}
+use Rattle.refusals.specs.Refusals.{firstOf}
 use Rattle.wire_requests.specs.Requests.{readRequest, readingNumber}
 use Rattle.wire_output.specs.Writing.{writingNumber}
 use Rattle.wire_requests.specs.declared.reading.Reading.{Reading}

@@ -15,6 +15,7 @@ use Rattle.wire_responses.specs.Sizes.{longestResponse}
 use Rattle.wire_requests.specs.declared.reading.Reading.{Reading}
 use Rattle.wire_responses.specs.declared.reading.Answer.{Answer}
 use Rattle.kernel.specs.Frame.{responseTo, responseFrame}
+use Rattle.refusals.specs.Refusals.{NOT_SERVED}
 
 -- the response to a request reads back as that response, for every content of the words
 abbrev pub ResponsesRead : Type 0
@@ -26,7 +27,7 @@ ResponsesRead =
 abbrev pub UnservedReads : Type 0
 UnservedReads =
     (ws : List ℕ) (z t : ℕ) (bytes : List ℕ) (i c : ℕ) → readRequest bytes ≡ Reading.Unserved i → servedCommand c ≡ true
-    → readResponse c (responseFrame ws z t (Reading.Unserved i)) ≡ Answer.Is (statusAlone i 4)
+    → readResponse c (responseFrame ws z t (Reading.Unserved i)) ≡ Answer.Is (statusAlone i NOT_SERVED)
 
 -- no response of the frame call is longer than the longest, for every content of the words: so much room is always enough
 abbrev pub ResponsesShort : Type 0

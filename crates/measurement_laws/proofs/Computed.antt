@@ -6,7 +6,7 @@ use Rattle.wire_heads.specs.Head.{infoOf, widthOf, headBytes, argAt, headAt}
 use Rattle.wire_heads.specs.Key.{keyAt}
 use Rattle.wire_cbor.specs.Item.{countPairs, encode, encodePairs, itemAt, itemsAt, pairsAt, fromHead, payloadOf}
 use Rattle.wire_cbor.specs.Find.{valueOf}
-use Rattle.wire_messages.specs.Refusals.{firstOf}
+use Rattle.refusals.specs.Refusals.{firstOf}
 use Rattle.wire_fields.specs.Fields.{mapIn, present}
 use Rattle.wire_fields.specs.Ranges.{within, numberIn}
 use Rattle.wire_fields.specs.ByPhase.{keysBelow}

@@ -12,7 +12,7 @@ use lib.IntN.{pos, negsuc}
 use borrow.Author.Tests.{eq-eqb}
 use Rattle.wire_cbor.specs.Item.{encode, payloadOf, isSome}
 use Rattle.wire_fields.proofs.Joined.{and-same}
-use Rattle.wire_messages.specs.Refusals.{firstOf}
+use Rattle.refusals.specs.Refusals.{firstOf}
 use Rattle.measurement_table.specs.Cells.{Cell}
 use Rattle.measurement_table.specs.Words.{placeOf, cellOf, flat, heldAt, heldFrom, held, marksFit, rangeNumber}
 use Rattle.measurement_table.specs.Payload.{lengthFits, cellsOf, readNumber, orBlank, cellsRead, itemOf}

@@ -7,7 +7,7 @@ use borrow.Author.Tests.{le-leb}
 use Rattle.wire_cbor.specs.Item.{Item, Pairs, Ok, encode}
 use Rattle.wire_cbor.proofs.Payload.{payload-exact}
 use Rattle.wire_fields.specs.Fields.{mapIn}
-use Rattle.wire_messages.specs.Refusals.{firstOf}
+use Rattle.refusals.specs.Refusals.{firstOf}
 use Rattle.wire_laws.proofs.Trips.{payload-back}
 use Rattle.wire_laws.proofs.FieldsAgain.{same-inside}
 use Rattle.measurement_table.specs.Table.{rows}

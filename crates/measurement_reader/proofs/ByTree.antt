@@ -18,7 +18,7 @@ use Rattle.wire_cbor.proofs.Payload.{payload-exact}
 use Rattle.wire_cbor.proofs.Complete.{item-reads-back}
 use Rattle.wire_cbor.proofs.Seen.{read-head-of}
 use Rattle.wire_cbor.proofs.Walks.{walk-starts}
-use Rattle.wire_messages.specs.Refusals.{firstOf}
+use Rattle.refusals.specs.Refusals.{firstOf}
 use Rattle.wire_fields.specs.Fields.{mapIn}
 use Rattle.wire_fields.proofs.Joined.{is-some}
 use Rattle.measurement_reader.proofs.Options.{no-value, same-inside, bind-parts, map-part}

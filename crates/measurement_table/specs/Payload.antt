@@ -6,7 +6,7 @@ use mathlib.Core.Option.{Option, some, none, bind}
 use lib.ListN.{length}
 use lib.Dec.{leb, eqb}
 use Rattle.wire_cbor.specs.Item.{Item, payloadOf, isSome}
-use Rattle.wire_messages.specs.Refusals.{firstOf}
+use Rattle.refusals.specs.Refusals.{firstOf, BAD_CBOR, BAD_LENGTH, BAD_MESSAGE}
 use Rattle.wire_fields.specs.Fields.{mapIn, present}
 use Rattle.measurement_table.specs.Table.{rows}
 use Rattle.measurement_table.specs.Cells.{Cell, blanks, rowsIn, fieldsOf}
@@ -21,7 +21,7 @@ cellsOf s = bind (payloadOf s) (λ i. bind (mapIn i) (rowsIn rows))
 
 -- "Refusals: 1 .., then 2, 3"; 0 where it is read
 unfoldable pub readNumber : List ℕ → ℕ
-readNumber s = firstOf ((not (lengthFits s), 1) ∷ (not (isSome (payloadOf s)), 2) ∷ (not (isSome (cellsOf s)), 3) ∷ [])
+readNumber s = firstOf ((not (lengthFits s), BAD_LENGTH) ∷ (not (isSome (payloadOf s)), BAD_CBOR) ∷ (not (isSome (cellsOf s)), BAD_MESSAGE) ∷ [])
 
 -- what a reader leaves: nothing in all cells where it refuses
 unfoldable pub orBlank : ℕ → Option (List Cell) → List Cell

@@ -6,6 +6,7 @@ use measurement_table::Row;
 use measurement_table::Words;
 use measurement_table::range_of;
 use measurement_table::row_at;
+use refusals::BAD_MESSAGE;
 use wire_fields::Range;
 use wire_fields::all3;
 use wire_fields::is_number;
@@ -74,10 +75,10 @@ pub fn range_number(words: &Words) -> u64
     ensures { λ r. ⌜ r ≡ rangeNumber (now (words .entry)) ⌝ }
 {
     if !marks_fit(words) {
-        return 3;
+        return BAD_MESSAGE;
     }
     if !rows_fit(words) {
-        return 3;
+        return BAD_MESSAGE;
     }
     0
 }

@@ -12,7 +12,7 @@ use borrow.Author.Tests.{lt-ltb, le-ltb}
 use Rattle.device_store.specs.Sizes.{helds}
 use Rattle.device_store.specs.Words.{clockOf}
 use Rattle.device_holds.specs.Holds.{Situation, situationOf, valuesAt}
-use Rattle.wire_messages.specs.Refusals.{firstOf}
+use Rattle.refusals.specs.Refusals.{firstOf}
 use Rattle.plan.specs.Rows.{last, rowsOf, plan}
 use Rattle.plan.specs.Plan.{planOf, rowSize, numbersOf, rowsFrom, planNumber, planAnswer, front, planSlice}
 use Rattle.plan.specs.declared.Planned.{Planned}

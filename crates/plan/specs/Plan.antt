@@ -8,7 +8,7 @@ use lib.ListN.{length, drop}
 use Rattle.device_store.specs.Sizes.{values}
 use Rattle.device_store.specs.Words.{clockOf}
 use Rattle.device_holds.specs.Holds.{Situation, situationOf, valuesAt}
-use Rattle.wire_messages.specs.Refusals.{firstOf}
+use Rattle.refusals.specs.Refusals.{firstOf, NO_SPACE}
 use Rattle.plan.specs.Rows.{plan}
 use Rattle.plan.specs.declared.Planned.{Planned}
 
@@ -30,7 +30,7 @@ rowsFrom ws = planOf (situationOf ws) (clockOf ws)
 
 -- into a slice with room for so many numbers: 15 where the rows are longer, and no other refusal
 abbrev pub planTests : List (ℕ × List ℤ) → ℕ → List (Bool × ℕ)
-planTests rows room = (ltb room (length (numbersOf rows)), 15) ∷ []
+planTests rows room = (ltb room (length (numbersOf rows)), NO_SPACE) ∷ []
 
 unfoldable pub planNumber : List ℕ → ℕ → ℕ
 planNumber ws room = firstOf (planTests (rowsFrom ws) room)

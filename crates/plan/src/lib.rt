@@ -4,6 +4,7 @@ mod rows;
 
 use device_store::State;
 use device_store::clock;
+use refusals::NO_SPACE;
 pub use rows::PLAN;
 pub use rows::ROW;
 ghost use mathlib.Core.Path.{_≡_};
@@ -45,7 +46,7 @@ pub fn plan(d: &State, rows: &mut [i64]) -> Planned
         };
     }
     Planned {
-        number: 15,
+        number: NO_SPACE,
         count: 0,
     }
 }

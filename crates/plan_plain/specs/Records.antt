@@ -10,6 +10,7 @@ use Rattle.device_holds.specs.Holds.{Situation, situationOf, valuesAt}
 use Rattle.plan_plain.specs.Plain.{plainRows, nextRow}
 use Rattle.plan_plain.specs.declared.Row.{Row}
 use Rattle.plan_plain.specs.declared.Planned.{Planned}
+use Rattle.refusals.specs.Refusals.{NO_SPACE}
 
 -- "one record a row, so the debugger shows names"
 unfoldable pub rowOf : ℕ → List ℤ → Row
@@ -39,7 +40,7 @@ rowsNow ws = plainRows (situationOf ws) (clockOf ws)
 
 -- "15 exactly when there are more rows than records"
 unfoldable pub plainNumber : List ℕ → ℕ → ℕ
-plainNumber ws room = cond (ltb room (length (rowsNow ws))) 15 0
+plainNumber ws room = cond (ltb room (length (rowsNow ws))) NO_SPACE 0
 
 -- the number, and how many rows; "Beside a refusal, .. counts 0"
 unfoldable pub plainAnswer : List ℕ → ℕ → Planned

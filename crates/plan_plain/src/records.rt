@@ -7,6 +7,7 @@ use device_holds::values_at;
 use device_store::State;
 use device_store::VALUES;
 use device_store::clock;
+use refusals::NO_SPACE;
 ghost use mathlib.Core.Path.{_≡_};
 ghost use Rattle.device_store.specs.Words.{clockOf};
 ghost use Rattle.device_holds.specs.Holds.{situationOf};
@@ -57,7 +58,7 @@ pub fn planned(d: &State, room: usize) -> Planned
     let n = count(d);
     if room < n {
         return Planned {
-            number: 15,
+            number: NO_SPACE,
             count: 0,
         };
     }

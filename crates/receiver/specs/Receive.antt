@@ -9,6 +9,7 @@ use Rattle.wire_bytes.specs.Bytes.{putWhole}
 use Rattle.wire_prefix.specs.Prefix.{mostFrame, endOf, badEnd}
 use Rattle.receiver.specs.declared.record.Record.{Record}
 use Rattle.receiver.specs.declared.record.Answer.{Answer}
+use Rattle.refusals.specs.Refusals.{BAD_LENGTH, NO_SPACE}
 
 -- the record of a new connection
 abbrev pub fresh : Record
@@ -71,7 +72,7 @@ accepted r room scrap e n = record {
 unfoldable pub received : Record → List ℕ → List ℕ → Done
 received r room scrap =
     let e = endFor r room scrap in
-    cond (ltb (length room) mostFrame) (refused 15 r room)
+    cond (ltb (length room) mostFrame) (refused NO_SPACE r room)
     (cond (isOpen r)
-    (cond (badEnd e) (refused 1 shut room) (accepted r room scrap e (min (length scrap) (e - r .have))))
-    (refused 1 r room))
+    (cond (badEnd e) (refused BAD_LENGTH shut room) (accepted r room scrap e (min (length scrap) (e - r .have))))
+    (refused BAD_LENGTH r room))

@@ -7,6 +7,8 @@ use crate::record::is_open;
 use crate::record::length_at;
 use crate::record::record_at;
 use crate::record::refuse;
+use refusals::BAD_LENGTH;
+use refusals::NO_SPACE;
 use wire_prefix::FRAME;
 use wire_prefix::is_bad_end;
 ghost use mathlib.Core.Path.{_≡_};
@@ -50,7 +52,7 @@ fn at_prefix(r: Record, room: &[u8], scrap: &[u8]) -> Decision
     let end = end_of(r.have, room, scrap);
     if is_bad_end(end) {
         return refuse(
-            1,
+            BAD_LENGTH,
             Record {
                 have: 0,
                 need: 0,
@@ -68,10 +70,10 @@ fn decide(r: Record, room: &[u8], scrap: &[u8]) -> Decision
     ensures { λ x. ⌜ x .after ≡ received r (now (room .entry)) (now (scrap .entry)) .after ⌝ }
 {
     if room.len() < FRAME {
-        return refuse(15, r);
+        return refuse(NO_SPACE, r);
     }
     if !is_open(r) {
-        return refuse(1, r);
+        return refuse(BAD_LENGTH, r);
     }
     if r.need == 0 {
         return at_prefix(r, room, scrap);

@@ -4,7 +4,7 @@ use mathlib.Core.Bool.{Bool, true, false, _&&_, _||_, cond}
 use mathlib.Core.List.{List, [], _∷_, _++_}
 use lib.Dec.{leb, eqb}
 use lib.ListN.{length, drop, getD, set}
-unfoldable pub use Rattle.wire_messages.specs.Refusals.{firstOf}
+unfoldable pub use Rattle.refusals.specs.Refusals.{firstOf}
 
 -- n stands in the list
 unfoldable pub member : ℕ → List ℕ → Bool

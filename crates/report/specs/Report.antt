@@ -12,6 +12,7 @@ use Rattle.report.specs.Rules.{breaches}
 use Rattle.report.specs.declared.Inputs.{Inputs}
 use Rattle.report.specs.declared.Answer.{Answer}
 use Rattle.report.specs.declared.breaches.Pair.{Pair}
+use Rattle.refusals.specs.Refusals.{NOT_ASCENDING, NO_SPACE, BAD_SETTINGS}
 
 -- endpoint type 0 to 10, an 11-bit feature map, phase count 1 to 3, directions 0 to 2
 unfoldable pub inRange : Inputs → Bool
@@ -22,9 +23,9 @@ inRange i =
 unfoldable pub numberOf : Inputs → List ℕ → ℕ → ℕ
 numberOf i attributes room =
     firstOf
-    ((not (inRange i), 16)
-    ∷ (not (ascends attributes), 17)
-    ∷ (ltb room (2 * length (breaches i attributes)), 15)
+    ((not (inRange i), BAD_SETTINGS)
+    ∷ (not (ascends attributes), NOT_ASCENDING)
+    ∷ (ltb room (2 * length (breaches i attributes)), NO_SPACE)
     ∷ [])
 
 -- the answer: the number, and how many pairs were written, 0 beside a refusal

@@ -9,6 +9,9 @@ use attributes::conditions;
 use attributes::mark_listed;
 use breaches::count;
 use breaches::write;
+use refusals::BAD_SETTINGS;
+use refusals::NO_SPACE;
+use refusals::NOT_ASCENDING;
 use report_tables::MAPS;
 use report_tables::TYPES;
 use sizes::DIRECTIONS;
@@ -73,13 +76,13 @@ pub fn report(inputs: Inputs, attributes: &[u16], pairs: &mut [u64]) -> Answer
 {
     if !in_range(inputs) {
         return Answer {
-            number: 16,
+            number: BAD_SETTINGS,
             count: 0,
         };
     }
     if !ascending(attributes) {
         return Answer {
-            number: 17,
+            number: NOT_ASCENDING,
             count: 0,
         };
     }
@@ -89,7 +92,7 @@ pub fn report(inputs: Inputs, attributes: &[u16], pairs: &mut [u64]) -> Answer
     let n = count(inputs, &holds, &listed);
     if pairs.len() < 2 * n {
         return Answer {
-            number: 15,
+            number: NO_SPACE,
             count: 0,
         };
     }

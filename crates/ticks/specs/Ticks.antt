@@ -5,6 +5,7 @@ use lib.Dec.{ltb}
 use lib.IntN.{pos, negsuc}
 use Rattle.ticks.specs.declared.front.Front.{Front}
 use Rattle.ticks.specs.declared.front.Reading.{Reading}
+use Rattle.refusals.specs.Refusals.{BAD_TIME}
 
 -- the last second of document 01's clock: the end of L10
 abbrev pub END : ℕ
@@ -20,7 +21,7 @@ stepOf last tick = (tick + (2 ^ 32 - last)) % 2 ^ 32
 
 -- "A refused reading changes nothing"; beside a refusal the seconds are -1
 unfoldable pub refused : Front → Reading
-refused f = record { number = 5; seconds = negsuc 0; front = f }
+refused f = record { number = BAD_TIME; seconds = negsuc 0; front = f }
 
 unfoldable pub accepted : ℕ → ℕ → ℕ → Reading
 accepted tick s rest = record {

@@ -1,4 +1,5 @@
 // The front by value, and what a reading makes of it.
+use refusals::BAD_TIME;
 ghost use mathlib.Core.Path.{_≡_};
 ghost use Prim.Native.Nat.{_≤_};
 ghost use Rattle.ticks.specs.Ticks.{END, noFront, refused, accepted, readingOf};
@@ -40,7 +41,7 @@ fn refuse(f: Front) -> Reading
     ensures { λ r. ⌜ r ≡ refused f ⌝ }
 {
     Reading {
-        number: 5,
+        number: BAD_TIME,
         seconds: -1,
         front: f,
     }

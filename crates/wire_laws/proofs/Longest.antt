@@ -25,7 +25,7 @@ use Rattle.wire_messages.specs.declared.Command.{Command}
 use Rattle.wire_messages.specs.declared.Outcome.{Outcome}
 use Rattle.wire_messages.specs.declared.Response.{Response}
 use Rattle.wire_messages.specs.Numbers.{wireNumber}
-use Rattle.wire_messages.specs.Refusals.{firstOf}
+use Rattle.refusals.specs.Refusals.{firstOf}
 use Rattle.wire_fields.specs.Fields.{mapItem, Fields, present, most32, valueItem, aimItem, amountItem, truthItem}
 use Rattle.wire_fields.specs.ByPhase.{phaseFields, phaseMap, phasesItem, currentsItem}
 use Rattle.wire_fields.specs.Puts.{fieldBytes}

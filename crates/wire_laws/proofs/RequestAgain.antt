@@ -10,7 +10,7 @@ use borrow.Author.Tests.{leb-true, eqb-true, eqb-false, ne-eqb, le-ltb}
 use Rattle.wire_cbor.specs.Item.{Item, Pairs, payloadOf, Ok, OkPairs, levels}
 use Rattle.wire_cbor.specs.Find.{valueOf}
 use Rattle.wire_messages.specs.Numbers.{wireNumber}
-use Rattle.wire_messages.specs.Refusals.{firstOf}
+use Rattle.refusals.specs.Refusals.{firstOf}
 use Rattle.wire_messages.specs.declared.Field.{Field}
 use Rattle.wire_messages.specs.declared.Aim.{Aim}
 use Rattle.wire_messages.specs.declared.Amount.{Amount}

@@ -11,7 +11,7 @@ use borrow.Author.Tests.{ltb-false, eqb-true, le-leb}
 use Rattle.wire_cbor.specs.Item.{Item, Ok, encode, levels}
 use Rattle.wire_heads.proofs.Widths.{head-length, head-short}
 use Rattle.wire_messages.specs.Numbers.{wireNumber}
-use Rattle.wire_messages.specs.Refusals.{firstOf}
+use Rattle.refusals.specs.Refusals.{firstOf}
 use Rattle.wire_messages.specs.declared.Field.{Field}
 use Rattle.wire_messages.specs.declared.Target.{Target}
 use Rattle.wire_messages.specs.declared.Amount.{Amount}

@@ -9,7 +9,7 @@ use lib.Dec.{leb, eqb}
 use borrow.Author.Tests.{leb-true, eqb-true, eqb-false, le-leb, eq-eqb}
 use Rattle.wire_cbor.specs.Item.{Item, Pairs, payloadOf, Ok, OkPairs, levels}
 use Rattle.wire_cbor.specs.Find.{valueOf}
-use Rattle.wire_messages.specs.Refusals.{firstOf}
+use Rattle.refusals.specs.Refusals.{firstOf}
 use Rattle.wire_messages.specs.declared.Amount.{Amount}
 use Rattle.wire_messages.specs.declared.LimitResult.{LimitResult}
 use Rattle.wire_messages.specs.declared.SetpointResult.{SetpointResult}

@@ -10,7 +10,7 @@ use lib.Dec.{leb, eqb}
 use borrow.Author.Tests.{leb-true, eqb-true}
 use Rattle.wire_cbor.specs.Item.{Item, Ok, encode, levels}
 use Rattle.wire_heads.proofs.Widths.{head-length, head-short}
-use Rattle.wire_messages.specs.Refusals.{firstOf}
+use Rattle.refusals.specs.Refusals.{firstOf}
 use Rattle.wire_messages.specs.declared.LimitResult.{LimitResult}
 use Rattle.wire_messages.specs.declared.SetpointResult.{SetpointResult}
 use Rattle.wire_messages.specs.declared.CurrentResult.{CurrentResult}

@@ -15,7 +15,7 @@ use Rattle.wire_bytes.proofs.NumberLaws.{bytes-length, number-of, number-there}
 use Rattle.wire_cbor.specs.Find.{valueOf}
 use Rattle.wire_cbor.proofs.Payload.{payload-exact}
 use Rattle.wire_cbor.proofs.Complete.{item-reads-back}
-use Rattle.wire_messages.specs.Refusals.{firstOf}
+use Rattle.refusals.specs.Refusals.{firstOf}
 use Rattle.wire_prefix.specs.Prefix.{frameOf, framed, payloadIn, mostPayload}
 use Rattle.wire_output.specs.Writing.{writingNumber, leftBy, itemFrame}
 use Rattle.wire_laws.specs.RoundTrips.{FramedExact, FrameStands}

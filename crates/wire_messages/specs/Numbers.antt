@@ -31,35 +31,3 @@ commands = 6
 
 unfoldable pub servedCommand : ℕ → Bool
 servedCommand c = leb 1 c && leb c commands
-
--- the control states
-abbrev pub AUTONOMOUS : ℕ
-AUTONOMOUS = 0
-
-abbrev pub CONTROLLED : ℕ
-CONTROLLED = 1
-
-abbrev pub LIMITED : ℕ
-LIMITED = 2
-
-abbrev pub FAILSAFE : ℕ
-FAILSAFE = 3
-
-abbrev pub OVERRIDE : ℕ
-OVERRIDE = 4
-
--- the reject reasons of SetLimit
-abbrev pub belowMinimum : ℕ
-belowMinimum = 0
-
-abbrev pub aboveContractual : ℕ
-aboveContractual = 1
-
-abbrev pub invalidValue : ℕ
-invalidValue = 2
-
-abbrev pub overrideSet : ℕ
-overrideSet = 3
-
-abbrev pub notSupported : ℕ
-notSupported = 4

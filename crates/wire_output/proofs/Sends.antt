@@ -14,7 +14,7 @@ use Rattle.wire_bytes.proofs.PutLaws.{put-whole, put-put, length-put}
 use Rattle.wire_cbor.specs.Item.{Item, encode}
 use Rattle.wire_fields.specs.Puts.{Adds, Puts}
 use Rattle.wire_fields.proofs.Added.{puts-fit}
-use Rattle.wire_messages.specs.Refusals.{firstOf}
+use Rattle.refusals.specs.Refusals.{firstOf}
 use Rattle.wire_prefix.specs.Prefix.{frameOf}
 use Rattle.wire_output.specs.Writing.{itemFrame, writingNumber, refusedWith, writtenOf, leftBy}
 use Rattle.wire_output.specs.declared.Written.{Written}

@@ -6,7 +6,7 @@ use lib.ListN.{length}
 use lib.Dec.{leb, eqb}
 use Rattle.wire_bytes.specs.Bytes.{put}
 use Rattle.wire_cbor.specs.Item.{Item, encode}
-use Rattle.wire_messages.specs.Refusals.{firstOf}
+use Rattle.refusals.specs.Refusals.{firstOf, NO_SPACE}
 use Rattle.wire_prefix.specs.Prefix.{frameOf}
 use Rattle.wire_output.specs.declared.Written.{Written}
 
@@ -16,7 +16,7 @@ itemFrame i = frameOf (encode i)
 
 -- the refusal n that comes before 15, or 15 where "the complete output is longer than the lent buffer", or 0
 unfoldable pub writingNumber : ℕ → List ℕ → ℕ → ℕ
-writingNumber n bytes room = cond (eqb n 0) (firstOf ((not (leb (length bytes) room), 15) ∷ [])) n
+writingNumber n bytes room = cond (eqb n 0) (firstOf ((not (leb (length bytes) room), NO_SPACE) ∷ [])) n
 
 -- refused: nothing is written
 abbrev pub refusedWith : ℕ → Written

@@ -1,4 +1,5 @@
 // What a writer of bytes answers, and a payload put at the front of a lent buffer, alone or behind its length.
+use refusals::NO_SPACE;
 use wire_bytes::has_room;
 use wire_prefix::PREFIX;
 ghost use mathlib.Core.Path.{_≡_};
@@ -36,7 +37,7 @@ pub fn deliver(out: &mut [u8], payload: &[u8]) -> Written
             length: n,
         };
     }
-    refused(15)
+    refused(NO_SPACE)
 }
 
 // Writes a payload behind its length, where all of it fits.
@@ -53,5 +54,5 @@ pub fn send(out: &mut [u8], payload: &[u8]) -> Written
             length: PREFIX + n,
         };
     }
-    refused(15)
+    refused(NO_SPACE)
 }

@@ -12,6 +12,7 @@ use Rattle.wire_prefix.specs.Prefix.{framed, payloadIn}
 use Rattle.wire_fields.specs.Fields.{upTo, mapIn, needed, most32, aimIn}
 use Rattle.wire_requests.specs.Settings.{settingIn, limitsFrom, setpointsFrom, currentLimitsIn}
 use Rattle.wire_requests.specs.declared.reading.Reading.{Reading}
+use Rattle.refusals.specs.Refusals.{BAD_CBOR, BAD_LENGTH, BAD_MESSAGE, NOT_SERVED}
 
 -- "{1: message id, 32 bits, 2: endpoint, 3: feature, 4: command, 5: parameters}"
 pub record Envelope : Type 0 where
@@ -43,7 +44,7 @@ commandIn c ps =
 
 abbrev pub withCommand : Envelope → Option Command → Reading
 withCommand e (some c) = Reading.Is (record { id = e .id; endpoint = e .endpoint; feature = e .feature; command = c })
-withCommand e none = Reading.Refused 3
+withCommand e none = Reading.Refused BAD_MESSAGE
 
 -- 4, then 3 for the parameters
 unfoldable pub fromEnvelope : Option Envelope → Reading
@@ -51,19 +52,19 @@ fromEnvelope (some e) =
     cond (servedAt (e .endpoint) (e .feature) && servedCommand (e .command))
     (withCommand e (commandIn (e .command) (e .parameters)))
     (Reading.Unserved (e .id))
-fromEnvelope none = Reading.Refused 3
+fromEnvelope none = Reading.Refused BAD_MESSAGE
 
 -- 2, then 3 for what is no map and for the envelope
 unfoldable pub fromPayload : Option Item → Reading
 fromPayload (some i) = fromEnvelope (bind (mapIn i) envelopeIn)
-fromPayload none = Reading.Refused 2
+fromPayload none = Reading.Refused BAD_CBOR
 
 -- "Order, for a frame: 1, 2, envelope 3, 4, parameters 3"
 unfoldable pub readRequest : List ℕ → Reading
-readRequest frame = cond (framed frame) (fromPayload (payloadOf (payloadIn frame))) (Reading.Refused 1)
+readRequest frame = cond (framed frame) (fromPayload (payloadOf (payloadIn frame))) (Reading.Refused BAD_LENGTH)
 
 -- document 01's number for each case
 abbrev pub readingNumber : Reading → ℕ
 readingNumber (Reading.Is r) = 0
-readingNumber (Reading.Unserved i) = 4
+readingNumber (Reading.Unserved i) = NOT_SERVED
 readingNumber (Reading.Refused n) = n

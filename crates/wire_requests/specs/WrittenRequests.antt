@@ -5,7 +5,7 @@ use mathlib.Core.List.{[], _∷_}
 use mathlib.Core.Option.{some}
 use lib.Dec.{ltb}
 use Rattle.wire_cbor.specs.Item.{Item}
-use Rattle.wire_messages.specs.Refusals.{firstOf}
+use Rattle.refusals.specs.Refusals.{firstOf, BAD_MESSAGE, NOT_SERVED}
 use Rattle.wire_messages.specs.Numbers.{wireNumber, servedAt}
 use Rattle.wire_messages.specs.declared.Aim.{Aim}
 use Rattle.wire_messages.specs.declared.Amount.{Amount}
@@ -70,4 +70,4 @@ requestUnserved r = not (servedAt (r .endpoint) (r .feature) && isServed (r .com
 
 -- "Request writers answer 3 for a value out of range, then 4 for what is not served, then 15"; 15 is in Writing
 unfoldable pub requestNumber : Request → ℕ
-requestNumber r = firstOf ((requestWide r, 3) ∷ (requestUnserved r, 4) ∷ [])
+requestNumber r = firstOf ((requestWide r, BAD_MESSAGE) ∷ (requestUnserved r, NOT_SERVED) ∷ [])

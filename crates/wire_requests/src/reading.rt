@@ -1,4 +1,7 @@
 // Requests, read.
+use refusals::BAD_CBOR;
+use refusals::BAD_LENGTH;
+use refusals::BAD_MESSAGE;
 use wire_cbor::Sight;
 use wire_cbor::Sights;
 use wire_cbor::sight_of;
@@ -216,12 +219,12 @@ fn read_message(sights: &Sights) -> Reading
                     feature: feature.arg,
                     command,
                 }),
-                Parameters::Wrong => Reading::Refused(3),
+                Parameters::Wrong => Reading::Refused(BAD_MESSAGE),
             };
         }
         return Reading::Unserved(id.arg);
     }
-    Reading::Refused(3)
+    Reading::Refused(BAD_MESSAGE)
 }
 
 // The request that a payload holds.
@@ -232,7 +235,7 @@ pub fn read_payload(payload: &[u8]) -> Reading
     if wire_cbor::scan(payload, PATH, &mut sights) {
         return read_message(&sights);
     }
-    Reading::Refused(2)
+    Reading::Refused(BAD_CBOR)
 }
 
 // The request that a frame holds.
@@ -242,5 +245,5 @@ pub fn read_request(frame: &[u8]) -> Reading
     if is_framed(frame) {
         return read_payload(&frame[PREFIX..]);
     }
-    Reading::Refused(1)
+    Reading::Refused(BAD_LENGTH)
 }

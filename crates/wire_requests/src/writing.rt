@@ -1,5 +1,7 @@
 // Requests, written.
 use crate::lengths::ROOM;
+use refusals::BAD_MESSAGE;
+use refusals::NOT_SERVED;
 use wire_fields::MOST32;
 use wire_fields::both;
 use wire_fields::count_amount;
@@ -221,12 +223,12 @@ fn request_number(r: Request) -> u64
 {
     let command = r.command;
     if request_wide(r) {
-        return 3;
+        return BAD_MESSAGE;
     }
     if both(is_served(r.endpoint, r.feature), has_parameters(command)) {
         return 0;
     }
-    4
+    NOT_SERVED
 }
 
 // Writes a request's frame to the front of `out`.

@@ -16,6 +16,7 @@ use Rattle.wire_fields.specs.Fields.{upTo, truth, mapIn, needed, most32, mostVa
 use Rattle.wire_fields.specs.ByPhase.{currentsIn}
 use Rattle.wire_messages.specs.Numbers.{servedCommand}
 use Rattle.wire_responses.specs.declared.reading.Answer.{Answer}
+use Rattle.refusals.specs.Refusals.{BAD_CBOR, BAD_LENGTH, BAD_MESSAGE, NOT_SERVED}
 
 -- "Status is 0 or a number the table gives as one": 0, 4, 5, 9 to 14
 unfoldable pub isStatus : ℕ → Bool
@@ -82,20 +83,20 @@ responseIn command ps =
 
 abbrev pub answerOf : Option Response → Answer
 answerOf (some r) = Answer.Is r
-answerOf none = Answer.Refused 3
+answerOf none = Answer.Refused BAD_MESSAGE
 
 -- 2, then 3
 unfoldable pub answerIn : ℕ → Option Item → Answer
 answerIn command (some i) = answerOf (bind (mapIn i) (responseIn command))
-answerIn command none = Answer.Refused 2
+answerIn command none = Answer.Refused BAD_CBOR
 
 -- 1, then the payload
 unfoldable pub answerFrom : ℕ → List ℕ → Answer
-answerFrom command frame = cond (framed frame) (answerIn command (payloadOf (payloadIn frame))) (Answer.Refused 1)
+answerFrom command frame = cond (framed frame) (answerIn command (payloadOf (payloadIn frame))) (Answer.Refused BAD_LENGTH)
 
 -- "Responses are read for a command that the caller names; an unserved one is 4, tested first"; then 1, 2, 3
 unfoldable pub readResponse : ℕ → List ℕ → Answer
-readResponse command frame = cond (servedCommand command) (answerFrom command frame) (Answer.Refused 4)
+readResponse command frame = cond (servedCommand command) (answerFrom command frame) (Answer.Refused NOT_SERVED)
 
 -- document 01's number for each case
 abbrev pub answerNumber : Answer → ℕ

@@ -6,7 +6,7 @@ use mathlib.Core.Option.{Option, some, none}
 use lib.Dec.{ltb, leb, eqb}
 use Rattle.wire_cbor.specs.Item.{Item}
 use Rattle.wire_messages.specs.Numbers.{servedCommand}
-use Rattle.wire_messages.specs.Refusals.{firstOf}
+use Rattle.refusals.specs.Refusals.{firstOf, BAD_MESSAGE, NOT_SERVED}
 use Rattle.wire_messages.specs.declared.Amount.{Amount}
 use Rattle.wire_messages.specs.declared.LimitResult.{LimitResult}
 use Rattle.wire_messages.specs.declared.SetpointResult.{SetpointResult}
@@ -85,7 +85,7 @@ responseFits command r = leb (r .id) most32 && (isStatus (r .status) && fits com
 
 -- 4, 3; 15 is in Writing
 unfoldable pub responseNumber : ℕ → Response → ℕ
-responseNumber command r = firstOf ((not (servedCommand command), 4) ∷ (not (responseFits command r), 3) ∷ [])
+responseNumber command r = firstOf ((not (servedCommand command), NOT_SERVED) ∷ (not (responseFits command r), BAD_MESSAGE) ∷ [])
 
 -- an answer with a status and no result, which names no command; status 0 has a result for every command
 abbrev pub statusAlone : ℕ → ℕ → Response
@@ -95,4 +95,4 @@ unfoldable pub statusFits : ℕ → ℕ → Bool
 statusFits i status = leb i most32 && (isStatus status && ltb 0 status)
 
 unfoldable pub statusNumber : ℕ → ℕ → ℕ
-statusNumber i status = firstOf ((not (statusFits i status), 3) ∷ [])
+statusNumber i status = firstOf ((not (statusFits i status), BAD_MESSAGE) ∷ [])

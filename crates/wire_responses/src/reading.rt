@@ -1,4 +1,8 @@
 // Responses, read.
+use refusals::BAD_CBOR;
+use refusals::BAD_LENGTH;
+use refusals::BAD_MESSAGE;
+use refusals::NOT_SERVED;
 use wire_cbor::Sight;
 use wire_cbor::Sights;
 use wire_cbor::sight_of;
@@ -213,10 +217,10 @@ fn read_body(sights: &Sights, command: u64) -> Answer
                 status: status.arg,
                 outcome,
             }),
-            Result::Wrong => Answer::Refused(3),
+            Result::Wrong => Answer::Refused(BAD_MESSAGE),
         };
     }
-    Answer::Refused(3)
+    Answer::Refused(BAD_MESSAGE)
 }
 
 // The response that a frame holds, to a command that the caller names.
@@ -226,7 +230,7 @@ pub fn read_response(command: u64, frame: &[u8]) -> Answer
     if is_command(command) {
         return read_answer(command, frame);
     }
-    Answer::Refused(4)
+    Answer::Refused(NOT_SERVED)
 }
 
 // The response to a served command.
@@ -239,7 +243,7 @@ fn read_answer(command: u64, frame: &[u8]) -> Answer
         if wire_cbor::scan(payload, PATH, &mut sights) {
             return read_body(&sights, command);
         }
-        return Answer::Refused(2);
+        return Answer::Refused(BAD_CBOR);
     }
-    Answer::Refused(1)
+    Answer::Refused(BAD_LENGTH)
 }

@@ -2,6 +2,8 @@
 use crate::lengths::ROOM;
 use crate::reading::has_result;
 use crate::reading::is_status;
+use refusals::BAD_MESSAGE;
+use refusals::NOT_SERVED;
 use wire_fields::MOST_VALUE;
 use wire_fields::MOST32;
 use wire_fields::all3;
@@ -227,9 +229,9 @@ fn response_number(command: u64, r: Response) -> u64
         ) {
             return 0;
         }
-        return 3;
+        return BAD_MESSAGE;
     }
-    4
+    NOT_SERVED
 }
 
 // Writes a frame that holds a response, whatever its numbers.

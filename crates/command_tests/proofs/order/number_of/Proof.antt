@@ -1,5 +1,5 @@
 -- The tests are those of the definition, in its order.
-use Rattle.wire_messages.specs.Refusals.{firstOf}
+use Rattle.refusals.specs.Refusals.{firstOf}
 use Rattle.device_store.proofs.Tests.{via}
 use borrow.Author.Needs.{needs}
 use Rattle.command_tests.proofs.order.number_of.Statement.{statement}

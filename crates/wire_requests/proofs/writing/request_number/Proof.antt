@@ -2,7 +2,7 @@
 use mathlib.Core.Path.{_∙_}
 use Rattle.wire_fields.proofs.Joined.{and-same}
 use Rattle.wire_fields.proofs.Joined.{via}
-use Rattle.wire_messages.specs.Refusals.{firstOf}
+use Rattle.refusals.specs.Refusals.{firstOf}
 use Rattle.wire_requests.specs.WrittenRequests.{requestNumber, requestUnserved}
 use borrow.Author.Needs.{needs}
 use Rattle.wire_requests.proofs.writing.request_number.Statement.{statement}
