@@ -1,10 +1,12 @@
 -- What a command is answered. Assumes nothing: these are definitions.
 use Prim.Native.Nat.{ℕ, _+_}
-use mathlib.Core.Bool.{Bool, cond, _&&_, _||_}
+use mathlib.Core.Bool.{Bool, cond}
 use mathlib.Core.List.{List}
-use lib.Dec.{leb, eqb}
+use lib.Dec.{eqb}
 use lib.ListN.{getD}
 use lib.IntN.{ℤ, pos}
+use Rattle.wire_messages.specs.Numbers.{SET_LIMIT}
+use Rattle.wire_messages.specs.Statuses.{stands}
 use Rattle.wire_messages.specs.declared.Command.{Command}
 use Rattle.wire_messages.specs.declared.Amount.{Amount}
 use Rattle.wire_messages.specs.declared.Outcome.{Outcome}
@@ -38,7 +40,7 @@ currentOutcome d vs = Outcome.Current (record { a = currentIn vs 0 d; b = curren
 
 -- "The result stands at status 0, and for SetLimit also at 11 to 14"
 unfoldable pub outcomeWith : Command → ℕ → Bool → List ℤ → Outcome
-outcomeWith (Command.SetLimit m) n capped vs = cond (eqb n 0 || (leb 11 n && leb n 14)) (limitOutcome n capped vs) Outcome.Nothing
+outcomeWith (Command.SetLimit m) n capped vs = cond (stands SET_LIMIT n) (limitOutcome n capped vs) Outcome.Nothing
 outcomeWith (Command.ClearLimit a) n capped vs = cond (eqb n 0) Outcome.Success Outcome.Nothing
 outcomeWith (Command.SetSetpoint m) n capped vs = cond (eqb n 0) (setpointOutcome vs) Outcome.Nothing
 outcomeWith (Command.ClearSetpoint a) n capped vs = cond (eqb n 0) Outcome.Success Outcome.Nothing

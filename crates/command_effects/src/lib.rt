@@ -11,6 +11,5 @@ pub use command_tests::is_capped;
 pub use command_tests::is_unserved;
 pub use obey::obeyed;
 pub use outcomes::current_outcome;
-pub use outcomes::has_result;
 pub use outcomes::limit_outcome;
 pub use outcomes::setpoint_outcome;

@@ -11,23 +11,8 @@ use wire_messages::Outcome;
 use wire_messages::SetpointResult;
 ghost use Prim.Native.Nat.{_<_};
 ghost use mathlib.Core.Path.{_≡_};
-ghost use mathlib.Core.Bool.{_&&_, _||_};
-ghost use lib.Dec.{leb, eqb};
 ghost use Rattle.device_store.specs.Quantities.{phases};
 ghost use Rattle.command_effects.specs.Outcomes.{limitOutcome, setpointOutcome, currentIn, currentOutcome};
-
-// SetLimit has a result where it is accepted and at refusals 11 to 14.
-pub fn has_result(n: u64) -> bool
-    ensures { λ r. ⌜ r ≡ eqb n 0 || (leb 11 n && leb n 14) ⌝ }
-{
-    if n == 0 {
-        return true;
-    }
-    if 11 <= n {
-        return n <= 14;
-    }
-    false
-}
 
 // SetLimit is answered with the state and the limits that hold.
 pub fn limit_outcome(n: u64, capped: bool, values: [i64; VALUES]) -> Outcome

@@ -7,6 +7,7 @@ use Rattle.refusals.specs.Reasons.{belowMinimum, aboveContractual, invalidValue
 use Rattle.wire_messages.specs.declared.Field.{Field}
 use Rattle.wire_messages.specs.declared.Amount.{Amount}
 use Rattle.wire_messages.specs.declared.Amount.the-variants.{Absent, Is}
+use Rattle.refusals.specs.Refusals.{NOT_SUPPORTED, OVERRIDDEN, BAD_VALUE, BELOW_MINIMUM}
 
 -- WHAT A FIELD SAYS
 abbrev pub negative : ℤ → Bool
@@ -47,10 +48,10 @@ fieldAbove top (Field.Value v) = ltb top (natural v)
 -- "below minimum 0 (status 14), above contractual 1 (status 0), invalid 2 (13), override 3 (12), not supported 4 (11)"
 unfoldable pub reasonOf : ℕ → Bool → Amount
 reasonOf n capped =
-    cond (eqb n 11) (Is notSupported)
-    (cond (eqb n 12) (Is overrideSet)
-    (cond (eqb n 13) (Is invalidValue)
-    (cond (eqb n 14) (Is belowMinimum)
+    cond (eqb n NOT_SUPPORTED) (Is notSupported)
+    (cond (eqb n OVERRIDDEN) (Is overrideSet)
+    (cond (eqb n BAD_VALUE) (Is invalidValue)
+    (cond (eqb n BELOW_MINIMUM) (Is belowMinimum)
     (cond (eqb n 0 && capped) (Is aboveContractual) Absent))))
 
 -- a value as a response has it: left out when absent

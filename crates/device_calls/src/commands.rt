@@ -6,6 +6,8 @@ use crate::State;
 use device_holds::values_with;
 use wire_messages::Command;
 use wire_messages::Outcome;
+use wire_messages::SET_LIMIT;
+use wire_messages::has_result;
 ghost use mathlib.Core.Path.{_≡_};
 ghost use mathlib.Core.Bool.{cond};
 ghost use lib.Dec.{eqb};
@@ -58,7 +60,7 @@ pub fn outcome_of(d: &State, t: u64, c: Command, x: Decision) -> Outcome
     let zone = x.zone;
     match c {
         Command::SetLimit(_) => {
-            if command_effects::has_result(n) {
+            if has_result(SET_LIMIT, n) {
                 let capped = command_effects::is_capped(device_store::settings_at(d), c);
                 return command_effects::limit_outcome(n, capped, values_with(d, x.slot, zone, t));
             }

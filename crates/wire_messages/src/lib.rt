@@ -1,5 +1,6 @@
 // Requests and responses as values: no bytes, no state.
 // Numbers are wider here than on the wire, so that what is out of range can be handed to a writer and refused by it.
+mod statuses; // statuses.rt: which numbers a response may carry, and where its result stands
 mod set_parameters; // set_parameters.rt: the parameters of a Set command as one shape, which SetLimit and SetSetpoint alike are read into and written from
 
 pub use set_parameters::Setting;
@@ -9,6 +10,8 @@ pub use set_parameters::limits_from;
 pub use set_parameters::setpoints_from;
 pub use set_parameters::setting_of_limits;
 pub use set_parameters::setting_of_setpoints;
+pub use statuses::has_result;
+pub use statuses::is_status;
 ghost use mathlib.Core.Path.{_≡_};
 ghost use Rattle.wire_messages.specs.Numbers.{wireNumber, servedCommand, servedAt};
 
@@ -17,8 +20,21 @@ pub const ENDPOINT: u64 = 1;
 
 pub const FEATURE: u64 = 5;
 
+// The commands by their numbers on the wire.
+pub const SET_LIMIT: u64 = 1;
+
+pub const CLEAR_LIMIT: u64 = 2;
+
+pub const SET_SETPOINT: u64 = 3;
+
+pub const CLEAR_SETPOINT: u64 = 4;
+
+pub const SET_CURRENT_LIMITS: u64 = 5;
+
+pub const CLEAR_CURRENT_LIMITS: u64 = 6;
+
 // The last of the commands that are served, from 1 on.
-pub const COMMANDS: u64 = 6;
+pub const COMMANDS: u64 = CLEAR_CURRENT_LIMITS;
 
 // Whether a command's number is served.
 pub fn is_command(c: u64) -> bool
@@ -150,12 +166,12 @@ pub fn wire_number(c: Command) -> u64
     ensures { λ r. ⌜ r ≡ wireNumber c ⌝ }
 {
     match c {
-        Command::SetLimit(_) => 1,
-        Command::ClearLimit(_) => 2,
-        Command::SetSetpoint(_) => 3,
-        Command::ClearSetpoint(_) => 4,
-        Command::SetCurrentLimits(_) => 5,
-        Command::ClearCurrentLimits(_) => 6,
+        Command::SetLimit(_) => SET_LIMIT,
+        Command::ClearLimit(_) => CLEAR_LIMIT,
+        Command::SetSetpoint(_) => SET_SETPOINT,
+        Command::ClearSetpoint(_) => CLEAR_SETPOINT,
+        Command::SetCurrentLimits(_) => SET_CURRENT_LIMITS,
+        Command::ClearCurrentLimits(_) => CLEAR_CURRENT_LIMITS,
         Command::Unserved(n) => n,
     }
 }

@@ -15,16 +15,9 @@ use Rattle.wire_prefix.specs.Prefix.{framed, payloadIn}
 use Rattle.wire_fields.specs.Fields.{upTo, truth, mapIn, needed, most32, mostValue, amountIn, successIn}
 use Rattle.wire_fields.specs.ByPhase.{currentsIn}
 use Rattle.wire_messages.specs.Numbers.{servedCommand}
+unfoldable pub use Rattle.wire_messages.specs.Statuses.{isStatus, stands}
 use Rattle.wire_responses.specs.declared.reading.Answer.{Answer}
 use Rattle.refusals.specs.Refusals.{BAD_CBOR, BAD_LENGTH, BAD_MESSAGE, NOT_SERVED}
-
--- "Status is 0 or a number the table gives as one": 0, 4, 5, 9 to 14
-unfoldable pub isStatus : ℕ → Bool
-isStatus n = eqb n 0 || eqb n 4 || eqb n 5 || (leb 9 n && leb n 14)
-
--- "The result stands at status 0, and for SetLimit also at 11 to 14"
-unfoldable pub stands : ℕ → ℕ → Bool
-stands command status = eqb status 0 || (eqb command 1 && (leb 11 status && leb status 14))
 
 abbrev pub onlyStatus : ℕ → Option ℕ
 onlyStatus n = cond (isStatus n) (some n) none

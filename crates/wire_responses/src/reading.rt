@@ -23,13 +23,15 @@ use wire_messages::LimitResult;
 use wire_messages::Outcome;
 use wire_messages::Response;
 use wire_messages::SetpointResult;
+use wire_messages::has_result;
 use wire_messages::is_command;
+use wire_messages::is_status;
 use wire_prefix::PREFIX;
 use wire_prefix::is_framed;
 ghost use mathlib.Core.Path.{_≡_};
 ghost use Rattle.wire_messages.specs.declared.Outcome.{Outcome};
 ghost use Rattle.wire_fields.specs.Sights.{Reads, Inside};
-ghost use Rattle.wire_responses.specs.Responses.{isStatus, stands, limitResultIn, setpointResultIn, currentResultIn, noResult, answerFrom, readResponse};
+ghost use Rattle.wire_responses.specs.Responses.{limitResultIn, setpointResultIn, currentResultIn, noResult, answerFrom, readResponse};
 ghost use Rattle.wire_responses.specs.Sights.{InResult, OutcomeReads, ResultReads, BodyReads};
 
 // A response, or a refusal number.
@@ -64,23 +66,6 @@ const RESULT: usize = 1;
 const PHASES: usize = 2;
 
 const PATH: u64 = 35;
-
-// Whether a status may be answered.
-pub fn is_status(n: u64) -> bool
-    ensures { λ r. ⌜ r ≡ isStatus n ⌝ }
-{
-    either(
-        either(either(n == 0, n == 4), n == 5),
-        both(9 <= n, n <= 14),
-    )
-}
-
-// Whether a result stands at a status.
-pub fn has_result(command: u64, status: u64) -> bool
-    ensures { λ r. ⌜ r ≡ stands command status ⌝ }
-{
-    either(status == 0, all3(command == 1, 11 <= status, status <= 14))
-}
 
 fn read_effect(sights: &Sights) -> Effect
     ensures { λ r. ⌜ Inside (now (sights .entry)) 1 limitResultIn (r .ok) (r .result) ⌝ }

@@ -1,7 +1,5 @@
 // Responses, written.
 use crate::lengths::ROOM;
-use crate::reading::has_result;
-use crate::reading::is_status;
 use refusals::BAD_MESSAGE;
 use refusals::NOT_SERVED;
 use wire_fields::MOST_VALUE;
@@ -24,7 +22,9 @@ use wire_messages::LimitResult;
 use wire_messages::Outcome;
 use wire_messages::Response;
 use wire_messages::SetpointResult;
+use wire_messages::has_result;
 use wire_messages::is_command;
+use wire_messages::is_status;
 use wire_output::Written;
 use wire_output::refused;
 use wire_output::send;
