@@ -13,25 +13,17 @@ use device_store::Held;
 use device_store::LIMITS;
 use device_store::Settings;
 use device_store::Zone;
+use device_store::least;
 use wire_messages::Aim;
 use wire_messages::Command;
 use wire_messages::CurrentLimits;
 use wire_messages::Field;
 use wire_messages::Phases;
-ghost use Prim.Native.Nat.{_+_, _<_, min};
+ghost use Prim.Native.Nat.{_+_, _<_};
 ghost use mathlib.Core.Path.{_≡_};
 ghost use Rattle.device_store.specs.Sizes.{helds};
 ghost use Rattle.command_effects.specs.Obeys.{fieldAction, done, obeyed};
 ghost use Rattle.command_effects.specs.Fields.{leftBy, withTwo, withPhases, allPhases, heldsAfter};
-
-fn smaller(a: u64, b: u64) -> u64
-    ensures { λ r. ⌜ r ≡ min a b ⌝ }
-{
-    if a < b {
-        return a;
-    }
-    b
-}
 
 // What is stored is never above the top.
 fn field_action(top: u64, f: Field) -> Action
@@ -40,7 +32,7 @@ fn field_action(top: u64, f: Field) -> Action
     match f {
         Field::Absent => Action::Keep,
         Field::Null => Action::Remove,
-        Field::Value(v) => Action::Put(smaller(top, natural_of(v))),
+        Field::Value(v) => Action::Put(least(top, natural_of(v))),
     }
 }
 

@@ -3,7 +3,7 @@ use Prim.Native.Nat.{ℕ}
 use mathlib.Core.Bool.{cond}
 use lib.Dec.{eqb}
 use Rattle.wire_messages.specs.declared.Field.{Field}
-use Rattle.wire_messages.specs.declared.Target.{Target}
+pub use Rattle.wire_messages.specs.Shapes.{targetField}
 use Rattle.wire_messages.specs.declared.Aim.{Aim}
 use Rattle.wire_messages.specs.declared.Limits.{Limits}
 use Rattle.wire_messages.specs.declared.Setpoints.{Setpoints}
@@ -13,10 +13,6 @@ abbrev pub limitField : Limits → ℕ → Field
 limitField m d = cond (eqb d 0) (m .consumption) (m .production)
 
 -- a setpoint's field has no null
-abbrev pub targetField : Target → Field
-targetField Target.Absent = Field.Absent
-targetField (Target.Value v) = Field.Value v
-
 abbrev pub setpointField : Setpoints → ℕ → Field
 setpointField m d = cond (eqb d 0) (targetField (m .consumption)) (targetField (m .production))
 

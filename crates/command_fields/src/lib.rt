@@ -20,9 +20,9 @@ use wire_messages::Field;
 use wire_messages::Limits;
 use wire_messages::Phases;
 use wire_messages::Setpoints;
-use wire_messages::Target;
+use wire_messages::target_field;
 ghost use mathlib.Core.Path.{_≡_};
-ghost use Rattle.command_fields.specs.Params.{limitField, targetField, setpointField, aimField, phaseField};
+ghost use Rattle.command_fields.specs.Params.{limitField, setpointField, aimField, phaseField};
 
 pub fn limit_field(m: Limits, d: u64) -> Field
     ensures { λ r. ⌜ r ≡ limitField m d ⌝ }
@@ -31,15 +31,6 @@ pub fn limit_field(m: Limits, d: u64) -> Field
         return m.consumption;
     }
     m.production
-}
-
-fn target_field(t: Target) -> Field
-    ensures { λ r. ⌜ r ≡ targetField t ⌝ }
-{
-    match t {
-        Target::Absent => Field::Absent,
-        Target::Value(v) => Field::Value(v),
-    }
 }
 
 pub fn setpoint_field(m: Setpoints, d: u64) -> Field

@@ -9,3 +9,4 @@ pub mod Winner
 pub mod Rows
 pub mod Lost
 pub mod Currents
+pub mod SameValues

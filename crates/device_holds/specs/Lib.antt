@@ -1,3 +1,4 @@
+pub mod Alike
 pub mod Holds
 pub mod Dues
 pub mod Links

@@ -1,7 +1,9 @@
 // What holds at a second: the table of links over what the zones claim, and the next second at which it can change.
 mod values; // values.rt: the table
+mod compare; // compare.rt: whether two rows have the same values
 mod links; // links.rt: which links are up, and since when none is
 
+pub use compare::alike;
 use device_store::VALUES;
 pub use device_table::shown;
 pub use links::since_without;

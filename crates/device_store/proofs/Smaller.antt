@@ -1,8 +1,9 @@
 -- The smaller of two numbers is that in either order. Assumes nothing.
-use Prim.Native.Nat.{ℕ, _<_, _≤_}
-use mathlib.Core.Path.{_≡_}
+use Prim.Native.Nat.{ℕ, _<_, _≤_, min}
+use mathlib.Core.Path.{_≡_, sym}
 use native.Mathlib.Decide.{decLt}
 use native.Mathlib.Omega.{arith}
+use native.Mathlib.Nat.{min-eq-left, min-eq-right}
 use borrow.Author.Tests.{lt-ltb, le-ltb}
 use Rattle.device_store.specs.Smaller.{lesser}
 
@@ -16,4 +17,13 @@ lesser-swap a b =
         | yes k ↦ rw (lt-ltb b a k, le-ltb a b (omega arith))
         | no k ↦ let e : a ≡ b = omega arith in rw e
       ]
+    ]
+
+-- it is the library's minimum
+pub lesser-min : (a b : ℕ) → lesser a b ≡ min a b
+unfolding lesser
+lesser-min a b =
+    elim (decLt a b) [
+      | yes h ↦ rw (lt-ltb a b h, min-eq-left {a} {b} (omega arith))
+      | no h ↦ rw (le-ltb a b (omega arith), min-eq-right {a} {b} (omega arith))
     ]

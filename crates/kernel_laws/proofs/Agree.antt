@@ -22,11 +22,11 @@ use Rattle.plan.specs.Rows.{last, rowsOf, plan, Changes, Ascending, IsPlan}
 use Rattle.plan.specs.Plan.{planOf, rowSize, numbersOf, rowsFrom, planNumber, planAnswer}
 use Rattle.plan.proofs.IsPlan.{planOf-only}
 use Rattle.plan.proofs.Answers.{numbers-length}
-use Rattle.plan_plain.specs.Same.{same}
+use Rattle.device_holds.specs.Alike.{alike}
 use Rattle.plan_plain.specs.Candidates.{candidatesOf}
 use Rattle.plan_plain.specs.Plain.{isOneOf, stands, secondsOf, plainSeconds, rowsAt, plainRows}
 use Rattle.plan_plain.specs.Records.{rowOf, recordsOf, rowsNow, plainNumber, plainAnswer}
-use Rattle.plan_plain.proofs.Equal.{equal-self, equal-is}
+use Rattle.device_holds.proofs.SameValues.{alike-same, same-alike}
 use Rattle.kernel_laws.specs.Agree.{SameRows, fieldsOf, allFields, SameFields, SameAnswer}
 use Rattle.kernel_laws.proofs.Due.{due-one}
 
@@ -84,7 +84,7 @@ module _ (s : Situation) (few : length (s .zones) ≤ slots) where
   stands-changes (suc t) h e =
       λ q.
       let a : suc t - 1 ≡ t = omega arith in
-      let k : same (valuesAt s (suc t)) (valuesAt s t) ≡ true = subst (λ (v : List ℤ). same (valuesAt s (suc t)) v ≡ true) q (equal-self (valuesAt s (suc t))) in
+      let k : alike (valuesAt s (suc t)) (valuesAt s t) ≡ true = subst (λ (v : List ℤ). alike (valuesAt s (suc t)) v ≡ true) q (alike-alike (valuesAt s (suc t))) in
       go (isOneOf (suc t) (candidatesOf s)) (rw (a, k) at e)
     where
       go : (b : Bool) → (b && false) ≡ true → ⊥
@@ -94,10 +94,10 @@ module _ (s : Situation) (few : length (s .zones) ≤ slots) where
   changes-stands : (t : ℕ) → t < end → Changes (valuesAt s) t → stands s t ≡ true
   unfolding stands Changes
   changes-stands zero h c = absurd c
-  changes-stands (suc t) h c = let a : suc t - 1 ≡ t = omega arith in rw (a, differ (same (valuesAt s (suc t)) (valuesAt s t)) refl, one (isOneOf (suc t) (candidatesOf s)) refl)
+  changes-stands (suc t) h c = let a : suc t - 1 ≡ t = omega arith in rw (a, differ (alike (valuesAt s (suc t)) (valuesAt s t)) refl, one (isOneOf (suc t) (candidatesOf s)) refl)
     where
-      differ : (b : Bool) → same (valuesAt s (suc t)) (valuesAt s t) ≡ b → b ≡ false
-      differ true e = absurd (c (equal-is (valuesAt s (suc t)) (valuesAt s t) e))
+      differ : (b : Bool) → alike (valuesAt s (suc t)) (valuesAt s t) ≡ b → b ≡ false
+      differ true e = absurd (c (same-alike (valuesAt s (suc t)) (valuesAt s t) e))
       differ false e = refl
 
       one : (b : Bool) → isOneOf (suc t) (candidatesOf s) ≡ b → b ≡ true

@@ -14,7 +14,8 @@ use Rattle.device_holds.specs.Holds.{Situation, situationOf, valueAt, shown, va
 use Rattle.device_store.proofs.Runs.{length-upTo}
 use Rattle.device_holds.specs.Dues.{dues, viewAt}
 use Rattle.plan.specs.Plan.{planOf, rowSize, numbersOf}
-use Rattle.plan.specs.Walk.{alike, step}
+use Rattle.device_holds.specs.Alike.{alike}
+use Rattle.plan.specs.Walk.{step}
 use Rattle.device_holds.specs.declared.View.{View}
 use Rattle.plan.proofs.Due.{nearest-later}
 use Rattle.plan.proofs.Walk.{planOf-step, planOf-few}

@@ -8,8 +8,8 @@ use native.Mathlib.Nat.{suc-add, zero-add, add-suc, add-zero}
 use native.Mathlib.Omega.{arith}
 use lib.IntN.{ℤ}
 use Rattle.plan.specs.Rows.{last, rowsOf, plan}
-use Rattle.plan.specs.Walk.{alike}
-use Rattle.plan.proofs.Alike.{alike-same, by-test}
+use Rattle.device_holds.specs.Alike.{alike}
+use Rattle.device_holds.proofs.SameValues.{alike-same, by-test}
 
 module _ (f : ℕ → List ℤ) where
   rows-step : (now n : ℕ) → rowsOf f now (suc n) ≡ cond (alike (f (suc now)) (f now)) (rowsOf f (suc now) n) ((suc now, f (suc now)) ∷ rowsOf f (suc now) n)

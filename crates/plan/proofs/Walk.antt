@@ -18,7 +18,8 @@ use Rattle.device_holds.specs.Dues.{dues, nearest}
 use Rattle.device_holds.proofs.Steady.{Idle, values-steady, dues-few, dues-few-down}
 use Rattle.plan.specs.Rows.{plan}
 use Rattle.plan.specs.Plan.{planOf}
-use Rattle.plan.specs.Walk.{alike, step, walk}
+use Rattle.device_holds.specs.Alike.{alike}
+use Rattle.plan.specs.Walk.{step, walk}
 use Rattle.plan.proofs.Due.{Least, nearest-is, above, above-all, above-less}
 use Rattle.plan.proofs.Quiet.{plan-over, plan-next}
 

@@ -1,23 +1,12 @@
 -- How the plan is found: from one due second to the next. It computes, and proofs/Walk.antt shows that it is the plan.
 use Prim.Native.Nat.{ℕ, zero, suc}
-use mathlib.Core.Bool.{Bool, true, false, cond, _&&_}
+use mathlib.Core.Bool.{cond}
 use mathlib.Core.List.{List, [], _∷_}
-use lib.Dec.{ltb, eqb}
-use lib.IntN.{ℤ, pos, negsuc}
+use lib.Dec.{ltb}
+use lib.IntN.{ℤ}
 use Rattle.device_store.specs.Sizes.{end}
+use Rattle.device_holds.specs.Alike.{alike}
 use Rattle.device_holds.specs.Dues.{nearest}
-
-unfoldable pub sameNumber : ℤ → ℤ → Bool
-sameNumber (pos a) (pos b) = eqb a b
-sameNumber (pos a) (negsuc b) = false
-sameNumber (negsuc a) (pos b) = false
-sameNumber (negsuc a) (negsuc b) = eqb a b
-
-unfoldable pub alike : List ℤ → List ℤ → Bool
-alike [] [] = true
-alike [] (b ∷ k) = false
-alike (a ∷ l) [] = false
-alike (a ∷ l) (b ∷ k) = sameNumber a b && alike l k
 
 -- the rows from second n on, the next due one, where `old` held before it and `rows` are those after it
 unfoldable pub step : (ℕ → List ℤ) → List ℤ → ℕ → List (ℕ × List ℤ) → List (ℕ × List ℤ)

@@ -1,5 +1,5 @@
 // How many rows a plan has, before any is written.
-use crate::rows::alike;
+use device_holds::alike;
 use device_holds::view_at;
 use device_store::END;
 use device_store::State;

@@ -1,4 +1,5 @@
 // The rows: a second, the control state, then each quantity.
+use device_holds::alike;
 use device_holds::view_at;
 use device_store::END;
 use device_store::HELDS;
@@ -14,7 +15,6 @@ ghost use lib.Seq.{sets};
 ghost use Rattle.device_store.specs.Sizes.{end};
 ghost use Rattle.device_holds.specs.Holds.{situationOf};
 ghost use Rattle.plan.specs.Plan.{planOf, rowSize, numbersOf};
-ghost use Rattle.plan.specs.Walk.{sameNumber, alike};
 
 // The numbers of a row, the most rows that a plan can have, and the numbers of the longest plan.
 pub const ROW: usize = 1 + VALUES;
@@ -22,27 +22,6 @@ pub const ROW: usize = 1 + VALUES;
 pub const ROWS: usize = SLOTS * HELDS;
 
 pub const PLAN: usize = ROWS * ROW;
-
-fn same_number(a: i64, b: i64) -> bool
-    ensures { λ r. ⌜ r ≡ sameNumber a b ⌝ }
-{
-    a == b
-}
-
-// Whether two rows have the same values.
-pub fn alike(a: [i64; VALUES], b: [i64; VALUES]) -> bool
-    ensures { λ r. ⌜ r ≡ alike a b ⌝ }
-{
-    let mut i = 0;
-    while i < VALUES {
-        if same_number(a[i], b[i]) {
-            i += 1;
-        } else {
-            return false;
-        }
-    }
-    true
-}
 
 fn put_row(out: &mut [i64], at: usize, t: u64, values: [i64; VALUES])
     requires { ⌜ at + rowSize ≤ length (now out) ⌝ }

@@ -1,5 +1,5 @@
 -- What the proofs of several functions use, and the laws that callers cite.
-pub mod Equal
+pub mod ReadBack
 pub mod Next
 pub mod Onward
 pub mod Fill

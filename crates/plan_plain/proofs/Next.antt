@@ -15,7 +15,7 @@ use Rattle.device_store.specs.Zones.{any}
 use Rattle.device_holds.specs.Holds.{Situation, valuesAt}
 use Rattle.device_holds.specs.Dues.{nearer, nearest}
 use Rattle.plan_plain.specs.Candidates.{candidatesOf}
-use Rattle.plan_plain.specs.Same.{same}
+use Rattle.device_holds.specs.Alike.{alike}
 use Rattle.plan_plain.specs.Plain.{isOneOf, stands, secondsOf, plainSeconds, firstOr, nextRow}
 
 -- x is r, or the least of the list past t
@@ -162,15 +162,15 @@ module _ (s : Situation) where
     unfolding nextRow firstOr
     looking-end h = rw (so-far .left, seconds-over (n - 1) (omega arith)) (omega (arith, so-far .within))
 
-    pub looking-found : n < end → same (valuesAt s n) (valuesAt s (n - 1)) ≡ false → n ≡ nextRow s t
+    pub looking-found : n < end → alike (valuesAt s n) (valuesAt s (n - 1)) ≡ false → n ≡ nextRow s t
     unfolding nextRow firstOr stands
     looking-found h e = rw (so-far .left, seconds-at n (so-far .past) h, so-far .one h, e)
 
-    still : n < end → same (valuesAt s n) (valuesAt s (n - 1)) ≡ true → cond (stands s n) (n ∷ plainSeconds s n) (plainSeconds s n) ≡ plainSeconds s n
+    still : n < end → alike (valuesAt s n) (valuesAt s (n - 1)) ≡ true → cond (stands s n) (n ∷ plainSeconds s n) (plainSeconds s n) ≡ plainSeconds s n
     unfolding stands
     still h e = rw (so-far .one h, e)
 
-    pub looking-on : n < end → same (valuesAt s n) (valuesAt s (n - 1)) ≡ true → (m : ℕ) → m ≡ nearest n (candidatesOf s) → Looking t m
+    pub looking-on : n < end → alike (valuesAt s n) (valuesAt s (n - 1)) ≡ true → (m : ℕ) → m ≡ nearest n (candidatesOf s) → Looking t m
     looking-on h e m q =
         let k : plainSeconds s (n - 1) ≡ plainSeconds s n = seconds-at n (so-far .past) h ∙ still h e in
         record {

@@ -1,4 +1,3 @@
-pub mod Same
 pub mod Plain
 pub mod Records
 pub mod Candidates

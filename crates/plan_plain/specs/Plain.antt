@@ -8,7 +8,7 @@ use Rattle.device_store.specs.Sizes.{end}
 use Rattle.device_store.specs.Zones.{any}
 use Rattle.device_holds.specs.Holds.{Situation, valuesAt}
 use Rattle.plan_plain.specs.Candidates.{candidatesOf}
-use Rattle.plan_plain.specs.Same.{same}
+use Rattle.device_holds.specs.Alike.{alike}
 
 -- n is one of some seconds
 unfoldable pub isOneOf : ℕ → List ℕ → Bool
@@ -16,7 +16,7 @@ isOneOf n cs = any (λ c. eqb n c) cs
 
 -- a row stands at a candidate whose values differ from those of the second before
 unfoldable pub stands : Situation → ℕ → Bool
-stands s n = isOneOf n (candidatesOf s) && not (same (valuesAt s n) (valuesAt s (n - 1)))
+stands s n = isOneOf n (candidatesOf s) && not (alike (valuesAt s n) (valuesAt s (n - 1)))
 
 -- of the n seconds after `now` those that pass the test p, in order and each once
 unfoldable pub secondsOf : (ℕ → Bool) → ℕ → ℕ → List ℕ

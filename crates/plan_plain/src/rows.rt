@@ -1,9 +1,9 @@
 // The seconds of the rows: a candidate at which the values are not those of the second before.
 use crate::candidates::next_after;
+use device_holds::alike;
 use device_holds::values_at;
 use device_store::END;
 use device_store::State;
-use device_store::VALUES;
 use device_store::clock;
 ghost use mathlib.Core.Path.{_≡_};
 ghost use mathlib.Core.Bool.{not};
@@ -11,35 +11,15 @@ ghost use Prim.Native.Nat.{_-_, _<_};
 ghost use lib.ListN.{length};
 ghost use Rattle.device_store.specs.Words.{clockOf};
 ghost use Rattle.device_holds.specs.Holds.{situationOf, valuesAt};
-ghost use Rattle.plan_plain.specs.Same.{sameNumber, same};
+ghost use Rattle.device_holds.specs.Alike.{alike};
 ghost use Rattle.plan_plain.specs.Plain.{plainSeconds, nextRow};
-
-fn same_number(a: i64, b: i64) -> bool
-    ensures { λ r. ⌜ r ≡ sameNumber a b ⌝ }
-{
-    a == b
-}
-
-fn same(a: [i64; VALUES], b: [i64; VALUES]) -> bool
-    ensures { λ r. ⌜ r ≡ same a b ⌝ }
-{
-    let mut i = 0;
-    while i < VALUES {
-        if same_number(a[i], b[i]) {
-            i += 1;
-        } else {
-            return false;
-        }
-    }
-    true
-}
 
 // Whether every value at n is that of the second before.
 fn unchanged(d: &State, n: u64) -> bool
     requires { ⌜ 0 < n ⌝ }
-    ensures { λ r. ⌜ r ≡ same (valuesAt (situationOf (now (d .entry))) n) (valuesAt (situationOf (now (d .entry))) (n - 1)) ⌝ }
+    ensures { λ r. ⌜ r ≡ alike (valuesAt (situationOf (now (d .entry))) n) (valuesAt (situationOf (now (d .entry))) (n - 1)) ⌝ }
 {
-    same(values_at(d, n), values_at(d, n - 1))
+    alike(values_at(d, n), values_at(d, n - 1))
 }
 
 // The second of the next row after t, END where there is none.

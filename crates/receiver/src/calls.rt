@@ -9,23 +9,15 @@ use crate::record::record_at;
 use crate::record::refuse;
 use refusals::BAD_LENGTH;
 use refusals::NO_SPACE;
+use wire_bytes::smaller;
 use wire_prefix::FRAME;
 use wire_prefix::is_bad_end;
 ghost use mathlib.Core.Path.{_≡_};
 ghost use mathlib.Core.Bool.{true};
-ghost use Prim.Native.Nat.{_+_, _<_, _≤_, _^_, min};
+ghost use Prim.Native.Nat.{_+_, _<_, _≤_, _^_};
 ghost use lib.ListN.{length};
 ghost use lib.Seq.{paste};
 ghost use Rattle.receiver.specs.Receive.{isOpen, taking, recordAt, received, Does};
-
-fn smaller(a: usize, b: usize) -> usize
-    ensures { λ n. ⌜ n ≡ min a b ⌝ }
-{
-    if a < b {
-        return a;
-    }
-    b
-}
 
 // Takes n bytes behind `have`, of a frame that ends at `end`.
 fn accept(have: usize, end: usize, n: usize) -> Decision

@@ -34,7 +34,7 @@ use Rattle.wire_fields.proofs.Joined.{no-both, and-left, and-right}
 use Rattle.wire_prefix.specs.Prefix.{frameOf}
 use Rattle.wire_output.specs.Writing.{itemFrame}
 use Rattle.wire_responses.specs.Sizes.{longestResponse}
-use Rattle.wire_requests.specs.WrittenSettings.{fieldOf, durationAmount, settingOfLimits, settingOfSetpoints, settingFields, currentLimitFields}
+use Rattle.wire_requests.specs.WrittenSettings.{targetField, durationAmount, settingOfLimits, settingOfSetpoints, settingFields, currentLimitFields}
 use Rattle.wire_requests.specs.WrittenRequests.{commandFields, requestFields, requestItem, requestNumber, requestWide, requestUnserved, commandWide, aimWide, isServed}
 use Rattle.wire_messages.specs.Numbers.{servedAt, servedCommand}
 use Rattle.wire_responses.specs.WrittenResponses.{limitFields, setpointFields, currentFields, clearFields, outcomeItem, responseFields, responseItem, responseNumber, responseFits, fits, goesWith, limitInRange, currentInRange, amountUpTo, isNothing, statusAlone, statusFits, statusNumber}
@@ -158,7 +158,7 @@ command-long (Command.SetLimit l) w =
 command-long (Command.ClearLimit a) w = one-aim a w
 command-long (Command.SetSetpoint l) w =
     let x = wide-setpoints (l .duration) (l .cause) w in
-    omega (arith, setting-long (fieldOf (l .consumption)) (fieldOf (l .production)) (l .duration) (l .cause) (x .0) (x .1))
+    omega (arith, setting-long (targetField (l .consumption)) (targetField (l .production)) (l .duration) (l .cause) (x .0) (x .1))
 command-long (Command.ClearSetpoint a) w = one-aim a w
 command-long (Command.SetCurrentLimits l) w = current-long l (wide-currents (l .direction) (l .duration) (l .cause) w)
 command-long (Command.ClearCurrentLimits a) w = one-aim a w

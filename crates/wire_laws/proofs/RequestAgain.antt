@@ -22,7 +22,7 @@ use Rattle.wire_prefix.specs.Prefix.{framed, payloadIn}
 use Rattle.wire_fields.specs.Fields.{present, upTo, mapIn, needed, most32, valueIn, aimIn, amountIn, aimItem, amountItem}
 use Rattle.wire_fields.specs.ByPhase.{phasesIn}
 use Rattle.wire_requests.specs.Settings.{settingIn, durationOf, targetOf, limitsFrom, setpointsFrom}
-use Rattle.wire_requests.specs.WrittenSettings.{durationAmount, fieldOf, settingOfLimits, settingOfSetpoints, settingFields}
+use Rattle.wire_requests.specs.WrittenSettings.{durationAmount, targetField, settingOfLimits, settingOfSetpoints, settingFields}
 use Rattle.wire_requests.specs.Settings.{currentLimitsIn}
 use Rattle.wire_requests.specs.WrittenSettings.{currentLimitFields}
 use Rattle.wire_messages.specs.declared.set_parameters.Setting.{Setting}
@@ -121,7 +121,7 @@ target-64 Field.Null h = tt
 target-64 (Field.Value z) h = h
 
 -- without null a field is its target's
-same-field : (f : Field) → Allowed false f → fieldOf (targetOf f) ≡ f
+same-field : (f : Field) → Allowed false f → targetField (targetOf f) ≡ f
 same-field Field.Absent h = refl
 same-field Field.Null h = absurd (no-both (sym h))
 same-field (Field.Value z) h = refl

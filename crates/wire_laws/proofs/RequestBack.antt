@@ -22,7 +22,7 @@ use Rattle.wire_messages.specs.declared.Command.{Command}
 use Rattle.wire_messages.specs.declared.Request.{Request}
 use Rattle.wire_fields.specs.Fields.{present, mapIn, needed, most32, aimItem}
 use Rattle.wire_requests.specs.Settings.{settingIn, durationOf, targetOf, limitsFrom, setpointsFrom}
-use Rattle.wire_requests.specs.WrittenSettings.{durationAmount, fieldOf, settingOfLimits, settingOfSetpoints, settingFields}
+use Rattle.wire_requests.specs.WrittenSettings.{durationAmount, targetField, settingOfLimits, settingOfSetpoints, settingFields}
 use Rattle.wire_requests.specs.Settings.{currentLimitsIn}
 use Rattle.wire_requests.specs.WrittenSettings.{currentLimitFields}
 use Rattle.wire_messages.specs.declared.set_parameters.Setting.{Setting}
@@ -89,15 +89,15 @@ same-limits : (l : Limits) → limitsFrom (settingOfLimits l) ≡ l
 unfolding limitsFrom settingOfLimits
 same-limits l = rw (same-duration (l .duration))
 
-allowed-target : (t : Target) → Allowed false (fieldOf t)
+allowed-target : (t : Target) → Allowed false (targetField t)
 allowed-target Target.Absent = tt
 allowed-target (Target.Value z) = tt
 
-pub field-64 : (t : Target) → Target64 t → Field64 (fieldOf t)
+pub field-64 : (t : Target) → Target64 t → Field64 (targetField t)
 field-64 Target.Absent h = tt
 field-64 (Target.Value z) h = h
 
-same-target : (t : Target) → targetOf (fieldOf t) ≡ t
+same-target : (t : Target) → targetOf (targetField t) ≡ t
 same-target Target.Absent = refl
 same-target (Target.Value z) = refl
 

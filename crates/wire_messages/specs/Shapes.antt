@@ -36,11 +36,11 @@ durationAmount d = cond (eqb d 0) Amount.Absent (Amount.Is d)
 unfoldable pub settingOfLimits : Limits → Setting
 settingOfLimits l = record { consumption = l .consumption; production = l .production; duration = durationAmount (l .duration); cause = l .cause }
 
-abbrev pub fieldOf : Target → Field
-fieldOf Target.Absent = Field.Absent
-fieldOf (Target.Value z) = Field.Value z
+abbrev pub targetField : Target → Field
+targetField Target.Absent = Field.Absent
+targetField (Target.Value z) = Field.Value z
 
 -- L8: "for setpoints it must now write the 0": the duration is written as it stands
 unfoldable pub settingOfSetpoints : Setpoints → Setting
 settingOfSetpoints l =
-    record { consumption = fieldOf (l .consumption); production = fieldOf (l .production); duration = l .duration; cause = l .cause }
+    record { consumption = targetField (l .consumption); production = targetField (l .production); duration = l .duration; cause = l .cause }

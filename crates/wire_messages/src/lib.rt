@@ -10,6 +10,7 @@ pub use set_parameters::limits_from;
 pub use set_parameters::setpoints_from;
 pub use set_parameters::setting_of_limits;
 pub use set_parameters::setting_of_setpoints;
+pub use set_parameters::target_field;
 pub use statuses::has_result;
 pub use statuses::is_status;
 ghost use mathlib.Core.Path.{_≡_};

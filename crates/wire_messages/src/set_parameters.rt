@@ -6,7 +6,7 @@ use crate::Setpoints;
 use crate::Target;
 ghost use mathlib.Core.Path.{_≡_};
 ghost use Rattle.wire_messages.specs.Shapes.{durationOf, targetOf, limitsFrom, setpointsFrom};
-ghost use Rattle.wire_messages.specs.Shapes.{durationAmount, fieldOf, settingOfLimits, settingOfSetpoints};
+ghost use Rattle.wire_messages.specs.Shapes.{durationAmount, targetField, settingOfLimits, settingOfSetpoints};
 
 // The values, and apart from them the duration as it stands on the wire: what an omitted one means is the command's to say.
 pub struct Setting {
@@ -76,8 +76,9 @@ pub fn duration_amount(d: u64) -> Amount
     Amount::Is(d)
 }
 
-fn field_of(t: Target) -> Field
-    ensures { λ r. ⌜ r ≡ fieldOf t ⌝ }
+// A setpoint field as a limit field: absent or a value, never null.
+pub fn target_field(t: Target) -> Field
+    ensures { λ r. ⌜ r ≡ targetField t ⌝ }
 {
     match t {
         Target::Absent => Field::Absent,
@@ -107,8 +108,8 @@ pub fn setting_of_setpoints(l: Setpoints) -> Setting
     let p = l.production;
     let lasts = l.duration;
     Setting {
-        consumption: field_of(c),
-        production: field_of(p),
+        consumption: target_field(c),
+        production: target_field(p),
         duration: lasts,
         cause: l.cause,
     }

@@ -7,7 +7,7 @@ use Rattle.wire_fields.specs.Fields.{valueItem, amountItem, Fields}
 use Rattle.wire_fields.specs.ByPhase.{phasesItem}
 use Rattle.wire_messages.specs.declared.set_parameters.Setting.{Setting}
 unfoldable pub use Rattle.wire_messages.specs.Shapes.{settingOfLimits, settingOfSetpoints}
-pub use Rattle.wire_messages.specs.Shapes.{durationAmount, fieldOf}
+pub use Rattle.wire_messages.specs.Shapes.{durationAmount, targetField}
 
 unfoldable pub settingFields : Setting → Fields
 settingFields s =

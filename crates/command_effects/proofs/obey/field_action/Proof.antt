@@ -4,6 +4,7 @@ use mir.Syntax.{w64}
 use mir.Facts.{toZ-ofZ}
 use Rattle.command_effects.specs.Obeys.{fieldAction}
 use borrow.Author.Needs.{needs}
+use Rattle.device_store.proofs.Smaller.{lesser-min}
 use Rattle.command_effects.proofs.obey.field_action.Statement.{statement}
 use Rattle.command_effects.proofs.obey.field_action.Tie as tie
 
@@ -17,4 +18,4 @@ field-action-spec =
     (λ c.
     let at-f = c .before .before .before .f in
     let fits : SFits w64 (at-f .given .0 .0) = search needs in
-    rw (at-f .given .1, c .smaller .ensures, c .before .natural-of .ensures, toZ-ofZ fits)))
+    rw (at-f .given .1, c .least .ensures, lesser-min, c .before .natural-of .ensures, toZ-ofZ fits)))

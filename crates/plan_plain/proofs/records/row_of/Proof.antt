@@ -1,7 +1,7 @@
 -- Each field is one value of the array, which fits a word.
 use borrow.Author.Needs.{needs}
 use Rattle.plan_plain.specs.Records.{rowOf}
-use Rattle.plan_plain.proofs.Equal.{read-whole}
+use Rattle.plan_plain.proofs.ReadBack.{read-whole}
 use Rattle.plan_plain.proofs.records.row_of.Statement.{statement}
 use Rattle.plan_plain.proofs.records.row_of.Tie as tie
 

@@ -9,4 +9,4 @@ unchanged-spec =
     tie.close
     (tie.spec
     (λ c κs. search needs) (λ c. search needs) (λ c κs. search needs) (λ c κs. search needs)
-    (λ c. c .same .ensures ∙ rw (c .before .values-at2 .ensures, c .before .before .values-at .ensures)))
+    (λ c. c .alike .ensures ∙ rw (c .before .values-at2 .ensures, c .before .before .values-at .ensures)))

@@ -10,4 +10,4 @@ setting-of-setpoints-spec =
     tie.close
     (tie.spec
     (λ c κs. search needs) (λ c κs. search needs)
-    (λ c. rw (c .before .field-of .ensures, c .field-of2 .ensures)))
+    (λ c. rw (c .before .target-field .ensures, c .target-field2 .ensures)))

@@ -1,4 +1,4 @@
--- Whether the values of two seconds are the same.
+-- Whether the values of two seconds are the same, as a test that computes.
 use mathlib.Core.Bool.{Bool, true, false, _&&_}
 use mathlib.Core.List.{List, [], _∷_}
 use lib.Dec.{eqb}
@@ -10,8 +10,8 @@ sameNumber (pos a) (negsuc b) = false
 sameNumber (negsuc a) (pos b) = false
 sameNumber (negsuc a) (negsuc b) = eqb a b
 
-unfoldable pub same : List ℤ → List ℤ → Bool
-same [] [] = true
-same [] (b ∷ k) = false
-same (a ∷ l) [] = false
-same (a ∷ l) (b ∷ k) = sameNumber a b && same l k
+unfoldable pub alike : List ℤ → List ℤ → Bool
+alike [] [] = true
+alike [] (b ∷ k) = false
+alike (a ∷ l) [] = false
+alike (a ∷ l) (b ∷ k) = sameNumber a b && alike l k

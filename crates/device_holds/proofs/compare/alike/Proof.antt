@@ -9,10 +9,10 @@ use mir.ValLaws.{toZ-ofZ}
 use mir.Syntax.{w64}
 use lib.ListN.{getD, drop}
 use Rattle.device_store.specs.Sizes.{helds}
-use Rattle.plan.specs.Walk.{alike}
-use Rattle.plan.proofs.Alike.{alike-turn, alike-stop, alike-end}
-use Rattle.plan.proofs.rows.alike.Statement.{statement}
-use Rattle.plan.proofs.rows.alike.Tie as tie
+use Rattle.device_holds.specs.Alike.{alike}
+use Rattle.device_holds.proofs.SameValues.{alike-turn, alike-stop, alike-end}
+use Rattle.device_holds.proofs.compare.alike.Statement.{statement}
+use Rattle.device_holds.proofs.compare.alike.Tie as tie
 
 abbrev Inv-loop : tie.InvT-loop
 Inv-loop a b i₀ i = (i ≤ 1 + helds) × (alike (drop i a) (drop i b) ≡ alike a b)

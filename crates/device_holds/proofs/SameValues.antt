@@ -14,7 +14,7 @@ use mir.Val.{toZ, ofZ, SFits}
 use mir.ValLaws.{toZ-ofZ}
 use mir.Syntax.{w64}
 use borrow.Author.Tests.{eqb-true, eq-eqb, ne-eqb}
-use Rattle.plan.specs.Walk.{sameNumber, alike}
+use Rattle.device_holds.specs.Alike.{sameNumber, alike}
 
 number-same : (a : ℤ) → sameNumber a a ≡ true
 unfolding sameNumber
@@ -33,7 +33,7 @@ unfolding alike
 alike-same [] = refl
 alike-same (a ∷ l) = rw (number-same a, alike-same l)
 
-same-alike : (l k : List ℤ) → alike l k ≡ true → l ≡ k
+pub same-alike : (l k : List ℤ) → alike l k ≡ true → l ≡ k
 unfolding alike
 same-alike [] [] h = refl
 same-alike [] (b ∷ k) h = absurd (let z : _≡_ {A = ℕ} 0 1 = cc in omega arith)

@@ -3,11 +3,11 @@ use mir.Syntax.{w64}
 use mir.Val.{SFits}
 use mir.ValLaws.{toZ-ofZ}
 use borrow.Author.Needs.{needs}
-use Rattle.wire_messages.proofs.set_parameters.field_of.Statement.{statement}
-use Rattle.wire_messages.proofs.set_parameters.field_of.Tie as tie
+use Rattle.wire_messages.proofs.set_parameters.target_field.Statement.{statement}
+use Rattle.wire_messages.proofs.set_parameters.target_field.Tie as tie
 
-pub field-of-spec : {M : Type 1} → statement M
-field-of-spec =
+pub target-field-spec : {M : Type 1} → statement M
+target-field-spec =
     tie.close
     (tie.spec
     (λ c. search needs) (λ c. search needs) (λ c. search needs)
