@@ -24,6 +24,6 @@ pub lesser-min : (a b : ℕ) → lesser a b ≡ min a b
 unfolding lesser
 lesser-min a b =
     elim (decLt a b) [
-      | yes h ↦ rw (lt-ltb a b h, min-eq-left {a} {b} (omega arith))
-      | no h ↦ rw (le-ltb a b (omega arith), min-eq-right {a} {b} (omega arith))
+      | yes h ↦ let k : a ≤ b = omega arith in rw (lt-ltb a b h, min-eq-left k)
+      | no h ↦ let k : b ≤ a = omega arith in rw (le-ltb a b k, min-eq-right k)
     ]
