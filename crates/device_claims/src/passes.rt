@@ -20,7 +20,7 @@ ghost use Prim.Native.Nat.{_<_, _≤_};
 ghost use mathlib.Core.List.{foldl};
 ghost use lib.ListN.{getD, set};
 ghost use Rattle.device_store.specs.Quantities.{lows, leads, lowAt, leadAt};
-ghost use Rattle.device_store.specs.Sizes.{slots, most};
+ghost use Rattle.device_store.specs.Sizes.{slots, most, end};
 ghost use Rattle.device_store.specs.Zones.{freeZone};
 ghost use Rattle.device_store.specs.Words.{zonesOf};
 ghost use Rattle.device_claims.specs.Claim.{noClaim, winner};
@@ -243,6 +243,7 @@ fn lead_place(d: &State, slot: usize, zone: Zone, i: usize, t: u64, g: Leads) ->
 // The pass over the limits with the given record in its slot's place.
 pub fn lows_with(d: &State, slot: usize, zone: Zone, t: u64) -> Lows
     ensures { λ r. ⌜ LowsMet r (λ q. winner t q (set (zonesOf (now (d .entry))) slot zone)) ⌝ }
+    ensures { λ r. ⌜ r .next ≡ foldl (nearer t) end (lowDues (set (zonesOf (now (d .entry))) slot zone)) ⌝ }
 {
     let mut g = no_lows(END);
     let mut i = 0;
@@ -256,6 +257,7 @@ pub fn lows_with(d: &State, slot: usize, zone: Zone, t: u64) -> Lows
 // The pass over the setpoints with it.
 pub fn leads_with(d: &State, slot: usize, zone: Zone, t: u64) -> Leads
     ensures { λ r. ⌜ LeadsMet r (λ q. winner t q (set (zonesOf (now (d .entry))) slot zone)) ⌝ }
+    ensures { λ r. ⌜ r .next ≡ foldl (nearer t) end (leadDues (set (zonesOf (now (d .entry))) slot zone)) ⌝ }
 {
     let mut g = no_leads(END);
     let mut i = 0;

@@ -16,6 +16,7 @@ use Rattle.wire_messages.specs.declared.Amount.{Amount}
 use Rattle.wire_fields.specs.Fields.{upTo, inRange, signed, optional, valueIn, amountIn}
 use Rattle.wire_fields.specs.Ranges.{within, whenWithin, signedBits, numberIn, isNull, numeric}
 use Rattle.wire_fields.specs.Sights.{found, Reads, Tells, numberSeen, fieldOf, amountOf}
+use Rattle.wire_fields.specs.Seen.{numericSeen}
 use Rattle.wire_fields.specs.Laws.{UpToByRange, SignedByRange, ValuesByRange, AmountsByRange}
 use Rattle.wire_fields.specs.declared.ranges.Range.{Range}
 
@@ -131,9 +132,6 @@ inside g z null = go (within g z) null
     go false false = refl
 
 -- a field, by its head
-abbrev numericSeen : Range → Bool → Sight → Bool
-numericSeen g null k = cond (ltb (k .major) 2) (numberSeen g k) (eqb (k .major) 8 || (null && (eqb (k .major) 7 && eqb (k .arg) 22)))
-
 plain-within : (g : Range) (n : ℕ) → within g (pos n) ≡ leb n (g .high)
 unfolding within
 plain-within g n = refl

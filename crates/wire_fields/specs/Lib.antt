@@ -5,3 +5,4 @@ pub mod Sights
 pub mod ByPhase
 pub mod Laws
 pub mod Values
+pub mod Seen

@@ -16,6 +16,7 @@ ghost use Prim.Native.Nat.{_+_};
 ghost use mathlib.Core.Bool.{_&&_};
 ghost use lib.Dec.{eqb};
 ghost use Rattle.wire_fields.specs.ByPhase.{seenOf, phasesFit, phasesIn, currentsIn, PhasesTell, PhasesRead, PutsPhases};
+ghost use Rattle.wire_fields.specs.Seen.{phasesSeen, fieldsSeen, amountsSeen};
 
 // A field for each phase; not `ok` is refusal 3.
 pub struct Fields {
@@ -57,6 +58,7 @@ fn only_phases(k: Sight, a: Sight, b: Sight, c: Sight) -> bool
 // Whether a map of phases is there, each a number of a range, or null where that is allowed, or absent.
 pub fn is_phases(k: Sight, a: Sight, b: Sight, c: Sight, range: Range, null: bool) -> bool
     ensures { λ r. ⌜ PhasesTell k a b c (phasesFit range null) r ⌝ }
+    ensures { λ r. ⌜ r ≡ phasesSeen range null k a b c ⌝ }
 {
     all4(
         only_phases(k, a, b, c),
@@ -69,6 +71,7 @@ pub fn is_phases(k: Sight, a: Sight, b: Sight, c: Sight, range: Range, null: boo
 // A map of phases to signed numbers, or null where that is allowed, as fields.
 pub fn read_phases(k: Sight, a: Sight, b: Sight, c: Sight, null: bool) -> Fields
     ensures { λ r. ⌜ PhasesRead k a b c (phasesIn null) (r .ok) (r .phases) ⌝ }
+    ensures { λ r. ⌜ r ≡ fieldsSeen null k a b c ⌝ }
 {
     let phases = Phases {
         a: field_of(a),
@@ -84,6 +87,7 @@ pub fn read_phases(k: Sight, a: Sight, b: Sight, c: Sight, null: bool) -> Fields
 // A map of phases to unsigned numbers of at most `most`, as amounts.
 pub fn read_currents(k: Sight, a: Sight, b: Sight, c: Sight, most: u64) -> Amounts
     ensures { λ r. ⌜ PhasesRead k a b c (currentsIn most) (r .ok) (r .result) ⌝ }
+    ensures { λ r. ⌜ r ≡ amountsSeen most k a b c ⌝ }
 {
     let result = CurrentResult {
         a: amount_of(a),

@@ -6,6 +6,7 @@ use wire_cbor::Sight;
 ghost use mathlib.Core.Path.{_≡_};
 ghost use Rattle.wire_fields.specs.Ranges.{upToMost, numeric};
 ghost use Rattle.wire_fields.specs.Sights.{numberSeen, Tells};
+ghost use Rattle.wire_fields.specs.Seen.{numericSeen};
 
 // Whole numbers: n is one of them where it is at most `high`, -1 - n where n is below `below`.
 pub struct Range {
@@ -42,6 +43,7 @@ pub fn is_in(k: Sight, range: Range) -> bool
 // The same, or nothing, or null where that is allowed.
 pub fn is_number(k: Sight, range: Range, null: bool) -> bool
     ensures { λ r. ⌜ Tells k (numeric range null) r ⌝ }
+    ensures { λ r. ⌜ r ≡ numericSeen range null k ⌝ }
 {
     if k.major < 2 {
         return is_in(k, range);

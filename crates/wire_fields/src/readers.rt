@@ -9,9 +9,11 @@ use crate::values::field_of;
 use wire_cbor::Sight;
 use wire_messages::Field;
 ghost use lib.Dec.{eqb};
+ghost use mathlib.Core.Path.{_≡_};
 ghost use mathlib.Core.Bool.{true};
 ghost use Rattle.wire_fields.specs.Fields.{truth, needed, valueIn, successIn};
 ghost use Rattle.wire_fields.specs.Sights.{Reads, UintReads, MapReads};
+ghost use Rattle.wire_fields.specs.Seen.{uintSeen, valueSeen, truthSeen, successSeen, mapSeen};
 
 // A signed number, null or nothing; not `ok` is refusal 3.
 pub struct Value {
@@ -22,6 +24,7 @@ pub struct Value {
 // Whether an unsigned number of at most `most` is there, or nothing where it need not be.
 pub fn is_uint(k: Sight, must: bool, most: u64) -> bool
     ensures { λ r. ⌜ UintReads k must most r ⌝ }
+    ensures { λ r. ⌜ r ≡ uintSeen must most k ⌝ }
 {
     either(both(!must, k.major == 8), is_in(k, up_to(most)))
 }
@@ -29,6 +32,7 @@ pub fn is_uint(k: Sight, must: bool, most: u64) -> bool
 // A signed number, or null where that is allowed, or nothing.
 pub fn read_value(k: Sight, null: bool) -> Value
     ensures { λ r. ⌜ Reads k (valueIn null) (r .ok) (r .field) ⌝ }
+    ensures { λ r. ⌜ r ≡ valueSeen null k ⌝ }
 {
     Value {
         ok: is_number(k, INT64, null),
@@ -39,6 +43,7 @@ pub fn read_value(k: Sight, null: bool) -> Value
 // Whether false or true is there.
 pub fn is_truth(k: Sight) -> bool
     ensures { λ r. ⌜ Reads k (needed truth) r (eqb (k .arg) 21) ⌝ }
+    ensures { λ r. ⌜ r ≡ truthSeen k ⌝ }
 {
     both(k.major == 7, either(k.arg == 20, k.arg == 21))
 }
@@ -46,6 +51,7 @@ pub fn is_truth(k: Sight) -> bool
 // Whether true is there.
 pub fn is_success(k: Sight) -> bool
     ensures { λ r. ⌜ Reads k successIn r true ⌝ }
+    ensures { λ r. ⌜ r ≡ successSeen k ⌝ }
 {
     both(k.major == 7, k.arg == 21)
 }
@@ -53,6 +59,7 @@ pub fn is_success(k: Sight) -> bool
 // Whether a map is there.
 pub fn is_map(k: Sight) -> bool
     ensures { λ r. ⌜ MapReads k r ⌝ }
+    ensures { λ r. ⌜ r ≡ mapSeen k ⌝ }
 {
     k.major == 5
 }

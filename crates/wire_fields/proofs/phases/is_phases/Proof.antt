@@ -13,7 +13,8 @@ is-phases-spec =
     let at-is-number2 = c .before .before .is-number2 in
     let at-is-number = c .before .before .before .is-number in
     let at-only-phases = c .before .before .before .before .only-phases in
-    let at-args = c .before .before .before .before .before .args in
-    phases-tell (at-args .range) (at-args .null) (at-args .k) (at-args .a) (at-args .b) (at-args .c) _ _ _ (at-is-number .ensures)
-    (at-is-number2 .ensures)
-    (c .before .is-number3 .ensures) _ (at-only-phases .ensures) _ (c .all4 .ensures)))
+    let at-args = c .before .before .before .before .before .args in (
+      phases-tell (at-args .range) (at-args .null) (at-args .k) (at-args .a) (at-args .b) (at-args .c) _ _ _ (at-is-number .ensures .0)
+          (at-is-number2 .ensures .0) (c .before .is-number3 .ensures .0) _ (at-only-phases .ensures) _ (c .all4 .ensures),
+      rw (c .all4 .ensures, at-only-phases .ensures, at-is-number .ensures .1, at-is-number2 .ensures .1, c .before .is-number3 .ensures .1),
+    )))

@@ -19,7 +19,9 @@ read-currents-spec =
     let at-amount-of3 = c .before .before .amount-of3 in
     let at-amount-of2 = c .before .before .before .amount-of2 in
     let at-amount-of = c .before .before .before .before .amount-of in
-    let at-args = c .before .before .before .before .before .args in
-    phases-read (upToMost (at-args .most)) _ (amountIn (at-args .most)) amountOf currentsFrom (amounts-by-range (at-args .most)) (at-args .k)
-    (at-args .a) (at-args .b) (at-args .c) _
-    (rw (c .before .up-to .ensures) at (c .is-phases .ensures)) _ _ _ (at-amount-of .ensures) (at-amount-of2 .ensures) (at-amount-of3 .ensures)))
+    let at-args = c .before .before .before .before .before .args in (
+      phases-read (upToMost (at-args .most)) _ (amountIn (at-args .most)) amountOf currentsFrom (amounts-by-range (at-args .most)) (at-args .k)
+          (at-args .a) (at-args .b) (at-args .c) _
+          (rw (c .before .up-to .ensures) at (c .is-phases .ensures .0)) _ _ _ (at-amount-of .ensures) (at-amount-of2 .ensures) (at-amount-of3 .ensures),
+      rw (c .is-phases .ensures .1, c .before .up-to .ensures, at-amount-of .ensures, at-amount-of2 .ensures, at-amount-of3 .ensures),
+    )))

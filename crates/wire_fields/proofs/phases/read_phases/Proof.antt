@@ -18,7 +18,9 @@ read-phases-spec =
     (λ c.
     let at-field-of2 = c .before .before .field-of2 in
     let at-field-of = c .before .before .before .field-of in
-    let at-args = c .before .before .before .before .args in
-    phases-read (signedBits 64) (at-args .null) (valueIn (at-args .null)) fieldOf phasesFrom (values-by-range (at-args .null)) (at-args .k)
-    (at-args .a) (at-args .b) (at-args .c) _
-    (c .is-phases .ensures) _ _ _ (at-field-of .ensures) (at-field-of2 .ensures) (c .before .field-of3 .ensures)))
+    let at-args = c .before .before .before .before .args in (
+      phases-read (signedBits 64) (at-args .null) (valueIn (at-args .null)) fieldOf phasesFrom (values-by-range (at-args .null)) (at-args .k)
+          (at-args .a) (at-args .b) (at-args .c) _
+          (c .is-phases .ensures .0) _ _ _ (at-field-of .ensures) (at-field-of2 .ensures) (c .before .field-of3 .ensures),
+      rw (c .is-phases .ensures .1, at-field-of .ensures, at-field-of2 .ensures, c .before .field-of3 .ensures),
+    )))

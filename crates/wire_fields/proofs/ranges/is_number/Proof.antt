@@ -10,8 +10,13 @@ is-number-spec =
     tie.close
     (tie.spec
     (λ c κs. search needs)
-    (λ c. number-tells _ _ _ _ (rw (lt-ltb _ 2 (c .before .if1 .taken)) (c .is-in .ensures)))
+    (λ c. (
+      number-tells _ _ _ _ (rw (lt-ltb _ 2 (c .before .if1 .taken)) (c .is-in .ensures)),
+      rw (lt-ltb _ 2 (c .before .if1 .taken)) (c .is-in .ensures),
+    ))
     (λ c κs. search needs) (λ c κs. search needs)
     (λ c.
-    let at-if1 = c .before .before .before .before .before .if1 in
-    number-tells _ _ _ _ (rw (le-ltb _ 2 (at-if1 .left), c .either .ensures, c .before .all3 .ensures))))
+    let at-if1 = c .before .before .before .before .before .if1 in (
+      number-tells _ _ _ _ (rw (le-ltb _ 2 (at-if1 .left), c .either .ensures, c .before .all3 .ensures)),
+      rw (le-ltb _ 2 (at-if1 .left), c .either .ensures, c .before .all3 .ensures),
+    )))

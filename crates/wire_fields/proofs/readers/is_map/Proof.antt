@@ -1,4 +1,5 @@
 -- What is seen says which kind of item it is.
+use mathlib.Core.Path.{refl}
 use Rattle.wire_fields.proofs.BySight.{map-reads}
 use Rattle.wire_fields.proofs.readers.is_map.Statement.{statement}
 use Rattle.wire_fields.proofs.readers.is_map.Tie as tie
@@ -7,4 +8,4 @@ pub is-map-spec : {M : Type 1} → statement M
 is-map-spec =
     tie.close
     (tie.spec
-    (λ c. map-reads _))
+    (λ c. (map-reads _, refl)))

@@ -8,4 +8,4 @@ pub is-success-spec : {M : Type 1} → statement M
 is-success-spec =
     tie.close
     (tie.spec
-    (λ c κs. search needs) (λ c. success-reads _ _ (c .both .ensures)))
+    (λ c κs. search needs) (λ c. (success-reads _ _ (c .both .ensures), c .both .ensures)))

@@ -9,4 +9,4 @@ is-truth-spec =
     tie.close
     (tie.spec
     (λ c κs. search needs) (λ c κs. search needs)
-    (λ c. truth-reads _ _ (rw (c .both .ensures, c .before .either .ensures))))
+    (λ c. (truth-reads _ _ (rw (c .both .ensures, c .before .either .ensures)), rw (c .both .ensures, c .before .either .ensures))))

@@ -11,5 +11,7 @@ is-uint-spec =
     (λ c κs. search needs) (λ c κs. search needs) (λ c κs. search needs) (λ c κs. search needs)
     (λ c.
     let at-up-to = c .before .before .up-to in
-    let at-both = c .before .before .before .both in
-    uint-reads _ _ _ _ (rw (c .either .ensures, c .before .is-in .ensures, at-up-to .ensures, at-both .ensures))))
+    let at-both = c .before .before .before .both in (
+      uint-reads _ _ _ _ (rw (c .either .ensures, c .before .is-in .ensures, at-up-to .ensures, at-both .ensures)),
+      rw (c .either .ensures, c .before .is-in .ensures, at-up-to .ensures, at-both .ensures),
+    )))

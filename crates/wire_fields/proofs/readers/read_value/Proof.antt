@@ -10,5 +10,7 @@ read-value-spec =
     (tie.spec
     (λ c κs. search needs) (λ c κs. search needs)
     (λ c.
-    let at-args = c .before .before .args in
-    value-reads (at-args .null) (at-args .k) _ (c .before .is-number .ensures) _ (c .field-of .ensures)))
+    let at-args = c .before .before .args in (
+      value-reads (at-args .null) (at-args .k) _ (c .before .is-number .ensures .0) _ (c .field-of .ensures),
+      rw (c .before .is-number .ensures .1, c .field-of .ensures),
+    )))

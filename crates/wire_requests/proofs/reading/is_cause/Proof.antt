@@ -7,4 +7,4 @@ pub is-cause-spec : {M : Type 1} → statement M
 is-cause-spec =
     tie.close
     (tie.spec
-    (λ c κs. search needs) (λ c. c .is-uint .ensures))
+    (λ c κs. search needs) (λ c. c .is-uint .ensures .0))

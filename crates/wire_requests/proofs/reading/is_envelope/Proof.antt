@@ -24,5 +24,5 @@ is-envelope-spec =
     let at-sight-of = back-8 .before .before .sight-of in
     let at-args = back-8 .before .before .before .args in
     envelope-reads (at-args .sights .now) _ _ _ _ _ (at-sight-of .ensures) (at-sight-of2 .ensures) (at-sight-of3 .ensures) (at-sight-of4 .ensures)
-    (at-sight-of5 .ensures) _ _ _ _ _ (at-is-uint .ensures) (at-is-uint2 .ensures) (at-is-uint3 .ensures) (at-is-uint4 .ensures)
-    (c .before .is-map .ensures) _ (c .all5 .ensures)))
+    (at-sight-of5 .ensures) _ _ _ _ _ (at-is-uint .ensures .0) (at-is-uint2 .ensures .0) (at-is-uint3 .ensures .0) (at-is-uint4 .ensures .0)
+    (c .before .is-map .ensures .0) _ (c .all5 .ensures)))

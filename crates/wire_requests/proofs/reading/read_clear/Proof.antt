@@ -15,7 +15,7 @@ read-clear-spec =
     let at-is-uint = c .before .before .before .before .is-uint in
     let at-sight-of = c .before .before .before .before .before .sight-of in
     let at-args = c .before .before .before .before .before .before .args in
-    clear-limit (at-args .sights .now) (at-args .command) _ (at-sight-of .ensures) _ (at-is-uint .ensures) (at-if1 .taken) _
+    clear-limit (at-args .sights .now) (at-args .command) _ (at-sight-of .ensures) _ (at-is-uint .ensures .0) (at-if1 .taken) _
     (at-amount-of .ensures) _ (c .before .aim-of .ensures) (c .if2 .taken))
     (λ c.
     let at-aim-of = c .before .before .aim-of in
@@ -24,7 +24,7 @@ read-clear-spec =
     let at-is-uint = c .before .before .before .before .before .is-uint in
     let at-sight-of = c .before .before .before .before .before .before .sight-of in
     let at-args = c .before .before .before .before .before .before .before .args in
-    clear-setpoint (at-args .sights .now) (at-args .command) _ (at-sight-of .ensures) _ (at-is-uint .ensures) (at-if1 .taken) _
+    clear-setpoint (at-args .sights .now) (at-args .command) _ (at-sight-of .ensures) _ (at-is-uint .ensures .0) (at-if1 .taken) _
     (at-amount-of .ensures) _ (at-aim-of .ensures) (c .if3 .taken))
     (λ c.
     let at-aim-of = c .before .before .aim-of in
@@ -33,9 +33,9 @@ read-clear-spec =
     let at-is-uint = c .before .before .before .before .before .is-uint in
     let at-sight-of = c .before .before .before .before .before .before .sight-of in
     let at-args = c .before .before .before .before .before .before .before .args in
-    clear-currents (at-args .sights .now) (at-args .command) _ (at-sight-of .ensures) _ (at-is-uint .ensures) (at-if1 .taken) _
+    clear-currents (at-args .sights .now) (at-args .command) _ (at-sight-of .ensures) _ (at-is-uint .ensures .0) (at-if1 .taken) _
     (at-amount-of .ensures) _ (at-aim-of .ensures) (c .before .if2 .left) (c .if3 .left))
     (λ c.
     let at-sight-of = c .before .before .sight-of in
     let at-args = c .before .before .before .args in
-    clear-wrong (at-args .sights .now) (at-args .command) _ (at-sight-of .ensures) _ (c .before .is-uint .ensures) (c .if1 .left)))
+    clear-wrong (at-args .sights .now) (at-args .command) _ (at-sight-of .ensures) _ (c .before .is-uint .ensures .0) (c .if1 .left)))

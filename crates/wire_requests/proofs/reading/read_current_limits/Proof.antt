@@ -30,6 +30,6 @@ read-current-limits-spec =
     let at-args = back-8 .before .before .before .before .before .before .before .args in
     current-limits-read (at-args .sights .now) _ _ _ _ _ _ _ (at-sight-of .ensures) (at-sight-of2 .ensures) (at-sight-of3 .ensures)
     (at-sight-of4 .ensures)
-    (at-sight-of5 .ensures) (at-sight-of6 .ensures) (at-sight-of7 .ensures) _ _ _ _ (at-read-phases .ensures) (at-is-uint .ensures)
-    (at-is-uint2 .ensures)
+    (at-sight-of5 .ensures) (at-sight-of6 .ensures) (at-sight-of7 .ensures) _ _ _ _ (at-read-phases .ensures .0) (at-is-uint .ensures .0)
+    (at-is-uint2 .ensures .0)
     (at-is-cause .ensures) _ (at-all4 .ensures) _ (c .duration-of .ensures ∙ ap durationOf (c .before .amount-of .ensures))))

@@ -22,5 +22,5 @@ read-setting-spec =
     let at-sight-of = back-8 .before .sight-of in
     let at-args = back-8 .before .before .args in
     setting-read (at-args .sights .now) (at-args .null) _ _ _ _ (at-sight-of .ensures) (at-sight-of2 .ensures) (at-sight-of3 .ensures)
-    (at-sight-of4 .ensures) _ _ _ _ (at-read-value .ensures) (at-read-value2 .ensures) (at-is-uint .ensures) (at-is-cause .ensures) _
+    (at-sight-of4 .ensures) _ _ _ _ (at-read-value .ensures .0) (at-read-value2 .ensures .0) (at-is-uint .ensures .0) (at-is-cause .ensures) _
     (c .before .all4 .ensures) _ (c .amount-of .ensures)))

@@ -21,8 +21,8 @@ read-body-spec =
     let at-sight-of2 = back-8 .before .sight-of2 in
     let at-sight-of = back-8 .before .before .sight-of in
     let at-args = back-8 .before .before .before .args in
-    body-is (at-args .sights .now) (at-args .command) _ _ (at-sight-of .ensures) (at-sight-of2 .ensures) _ _ _ (at-is-uint .ensures)
-    (at-is-uint2 .ensures) (at-is-status .ensures) _ (at-all3 .ensures) (at-if1 .taken) _ (at-read-result .ensures) _ (c .before .outcome .given .1))
+    body-is (at-args .sights .now) (at-args .command) _ _ (at-sight-of .ensures) (at-sight-of2 .ensures) _ _ _ (at-is-uint .ensures .0)
+    (at-is-uint2 .ensures .0) (at-is-status .ensures) _ (at-all3 .ensures) (at-if1 .taken) _ (at-read-result .ensures) _ (c .before .outcome .given .1))
     (λ c.
     let at-read-result = c .before .before .read-result in
     let at-if1 = c .before .before .before .if1 in
@@ -34,8 +34,8 @@ read-body-spec =
     let back-8 = c .before .before .before .before .before .before .before .before in
     let at-sight-of = back-8 .before .sight-of in
     let at-args = back-8 .before .before .args in
-    body-no-result (at-args .sights .now) (at-args .command) _ _ (at-sight-of .ensures) (at-sight-of2 .ensures) _ _ _ (at-is-uint .ensures)
-    (at-is-uint2 .ensures) (at-is-status .ensures) _ (at-all3 .ensures) (at-if1 .taken) _ (at-read-result .ensures) (c .enum-told .given .1))
+    body-no-result (at-args .sights .now) (at-args .command) _ _ (at-sight-of .ensures) (at-sight-of2 .ensures) _ _ _ (at-is-uint .ensures .0)
+    (at-is-uint2 .ensures .0) (at-is-status .ensures) _ (at-all3 .ensures) (at-if1 .taken) _ (at-read-result .ensures) (c .enum-told .given .1))
     (λ c.
     let at-is-status = c .before .before .is-status in
     let at-is-uint2 = c .before .before .before .is-uint2 in
@@ -43,5 +43,5 @@ read-body-spec =
     let at-sight-of2 = c .before .before .before .before .before .sight-of2 in
     let at-sight-of = c .before .before .before .before .before .before .sight-of in
     let at-args = c .before .before .before .before .before .before .before .args in
-    body-wrong (at-args .sights .now) (at-args .command) _ _ (at-sight-of .ensures) (at-sight-of2 .ensures) _ _ _ (at-is-uint .ensures)
-    (at-is-uint2 .ensures) (at-is-status .ensures) _ (c .before .all3 .ensures) (c .if1 .left)))
+    body-wrong (at-args .sights .now) (at-args .command) _ _ (at-sight-of .ensures) (at-sight-of2 .ensures) _ _ _ (at-is-uint .ensures .0)
+    (at-is-uint2 .ensures .0) (at-is-status .ensures) _ (c .before .all3 .ensures) (c .if1 .left)))

@@ -20,4 +20,4 @@ read-current-spec =
     let back-8 = c .before .before .before .before .before .before .before .before in
     let at-args = back-8 .before .args in
     current-reads (at-args .sights .now) _ _ _ _ _ (at-sight-of5 .ensures) (at-sight-of .ensures) (at-sight-of2 .ensures) (at-sight-of3 .ensures)
-    (at-sight-of4 .ensures) _ _ _ (c .before .is-success .ensures) (at-read-currents .ensures) _ (c .both .ensures)))
+    (at-sight-of4 .ensures) _ _ _ (c .before .is-success .ensures .0) (at-read-currents .ensures .0) _ (c .both .ensures)))

@@ -27,5 +27,5 @@ read-effect-spec =
     let at-sight-of = back-8 .before .before .before .before .before .before .sight-of in
     let at-args = back-8 .before .before .before .before .before .before .before .args in
     effect-reads (at-args .sights .now) _ _ _ _ _ (at-sight-of .ensures) (at-sight-of2 .ensures) (at-sight-of3 .ensures) (at-sight-of4 .ensures)
-    (at-sight-of5 .ensures) _ _ _ _ _ (at-is-truth .ensures) (at-is-uint .ensures) (at-is-uint2 .ensures) (at-is-uint3 .ensures)
-    (at-is-uint4 .ensures) _ (at-all5 .ensures) _ _ _ (at-amount-of .ensures) (c .before .amount-of2 .ensures) (c .amount-of3 .ensures)))
+    (at-sight-of5 .ensures) _ _ _ _ _ (at-is-truth .ensures .0) (at-is-uint .ensures .0) (at-is-uint2 .ensures .0) (at-is-uint3 .ensures .0)
+    (at-is-uint4 .ensures .0) _ (at-all5 .ensures) _ _ _ (at-amount-of .ensures) (c .before .amount-of2 .ensures) (c .amount-of3 .ensures)))

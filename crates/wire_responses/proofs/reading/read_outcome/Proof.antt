@@ -45,7 +45,7 @@ read-outcome-spec =
     let at-if3 = c .before .before .before .before .if3 in
     let at-if1 = c .before .before .before .before .before .if1 in
     let at-args = c .before .before .before .before .before .before .args in
-    success-is (at-args .sights .now) (at-args .command) _ (at-sight-of .ensures) _ (c .before .is-success .ensures) (at-if1 .left) (at-if3 .left)
+    success-is (at-args .sights .now) (at-args .command) _ (at-sight-of .ensures) _ (c .before .is-success .ensures .0) (at-if1 .left) (at-if3 .left)
     (at-if5 .left) (c .if7 .taken))
     (λ c.
     let at-sight-of = c .before .before .sight-of in
@@ -53,5 +53,5 @@ read-outcome-spec =
     let at-if3 = c .before .before .before .before .if3 in
     let at-if1 = c .before .before .before .before .before .if1 in
     let at-args = c .before .before .before .before .before .before .args in
-    success-wrong (at-args .sights .now) (at-args .command) _ (at-sight-of .ensures) _ (c .before .is-success .ensures) (at-if1 .left) (at-if3 .left)
+    success-wrong (at-args .sights .now) (at-args .command) _ (at-sight-of .ensures) _ (c .before .is-success .ensures .0) (at-if1 .left) (at-if3 .left)
     (at-if5 .left) (c .if7 .left)))

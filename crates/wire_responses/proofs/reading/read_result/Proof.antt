@@ -16,14 +16,14 @@ read-result-spec =
     let at-sight-of = c .before .before .before .before .before .sight-of in
     let at-args = c .before .before .before .before .before .before .args in
     result-is (at-args .sights .now) (at-args .command) (at-args .status) _ (at-sight-of .ensures) _ (at-has-result .ensures) (at-if1 .taken) _
-    (at-is-map .ensures) (c .before .if2 .taken) _ (c .read-outcome .ensures))
+    (at-is-map .ensures .0) (c .before .if2 .taken) _ (c .read-outcome .ensures))
     (λ c.
     let at-if1 = c .before .before .if1 in
     let at-has-result = c .before .before .before .has-result in
     let at-sight-of = c .before .before .before .before .sight-of in
     let at-args = c .before .before .before .before .before .args in
     result-no-map (at-args .sights .now) (at-args .command) (at-args .status) _ (at-sight-of .ensures) _ (at-has-result .ensures) (at-if1 .taken) _
-    (c .before .is-map .ensures) (c .if2 .left))
+    (c .before .is-map .ensures .0) (c .if2 .left))
     (λ c κs. search needs)
     (λ c.
     let at-if1 = c .before .before .if1 in

@@ -20,5 +20,5 @@ read-targets-spec =
     let at-sight-of = c .before .before .before .before .before .before .before .before .sight-of in
     let back-8 = c .before .before .before .before .before .before .before .before in
     let at-args = back-8 .before .args in
-    targets-read (at-args .sights .now) _ _ _ (at-sight-of3 .ensures) (at-sight-of .ensures) (at-sight-of2 .ensures) _ _ _ (at-is-success .ensures)
-    (at-is-uint .ensures) (at-is-uint2 .ensures) _ (at-all3 .ensures) _ _ (c .before .amount-of .ensures) (c .amount-of2 .ensures)))
+    targets-read (at-args .sights .now) _ _ _ (at-sight-of3 .ensures) (at-sight-of .ensures) (at-sight-of2 .ensures) _ _ _ (at-is-success .ensures .0)
+    (at-is-uint .ensures .0) (at-is-uint2 .ensures .0) _ (at-all3 .ensures) _ _ (c .before .amount-of .ensures) (c .amount-of2 .ensures)))
