@@ -4,6 +4,7 @@ use console_words::place;
 use console_words::span;
 ghost use mathlib.Core.Path.{_≡_};
 ghost use lib.ListN.{getD};
+ghost use Rattle.console_line.specs.Fields.{numbersGood, numbersStored};
 ghost use Rattle.console_line.specs.Commands.{unknown, table, linesOf, found, lineOf};
 
 pub enum Command {
@@ -91,17 +92,28 @@ pub fn line_of(line: &[u8], ends: &[usize]) -> Line
     unknown()
 }
 
-// The numbers of a command: n a number, f a flag, m a maximum, r a room.
-pub fn read_numbers(line: &[u8], ends: &[usize], c: Command, fields: &mut [u64]) -> bool {
+// The numbers of a command: n a number, f a flag, m a maximum, r a count of what is lent.
+pub fn read_numbers(line: &[u8], ends: &[usize], c: Command, fields: &mut [u64]) -> bool
+    ensures { λ r. ⌜ r ≡ numbersGood (now (line .entry)) (now (ends .entry)) c ⌝ }
+    ensures { λ _. ⌜ now (fields .exit) ≡ numbersStored (now (line .entry)) (now (ends .entry)) c (now (fields .entry)) ⌝ }
+{
     match c {
         Command::Unknown => false,
         Command::Start => read(line, ends, b"nffnmmnnnfnf", fields),
-        Command::Join | Command::Override => read(line, ends, b"nnn", fields),
-        Command::Leave | Command::Lost | Command::Back => read(line, ends, b"nn", fields),
-        Command::Clear | Command::Move | Command::Response => read(line, ends, b"n", fields),
-        Command::Plan | Command::Rows => read(line, ends, b"r", fields),
+        Command::Join => read(line, ends, b"nnn", fields),
+        Command::Leave => read(line, ends, b"nn", fields),
+        Command::Lost => read(line, ends, b"nn", fields),
+        Command::Back => read(line, ends, b"nn", fields),
+        Command::Override => read(line, ends, b"nnn", fields),
+        Command::Clear => read(line, ends, b"n", fields),
+        Command::Move => read(line, ends, b"n", fields),
+        Command::Ask => true,
+        Command::Plan => read(line, ends, b"r", fields),
+        Command::Rows => read(line, ends, b"r", fields),
         Command::Frame => read(line, ends, b"nnr", fields),
-        Command::Ask | Command::Request | Command::Meas => true,
+        Command::Request => true,
+        Command::Response => read(line, ends, b"n", fields),
         Command::Conf => read(line, ends, b"nnnnffffr", fields),
+        Command::Meas => true,
     }
 }
