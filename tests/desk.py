@@ -92,12 +92,12 @@ class Ran:
 
 
 # The python3 that runs the tests comes first, as one that is found by a chain of scripts takes long to start.
-PATH = os.pathsep.join([os.path.dirname(sys.executable), os.environ["PATH"]])
+PATH = [os.path.dirname(sys.executable), *os.environ["PATH"].split(os.pathsep)]
 
 
 def environment(**more):
     found = {key: value for key, value in os.environ.items() if key not in ("RATTLE_HOME", "SMALL")}
-    return {**found, "PATH": PATH, **{key: str(value) for key, value in more.items()}}
+    return {**found, "PATH": os.pathsep.join(PATH), **{key: str(value) for key, value in more.items()}}
 
 
 def start(*words, **more):
@@ -186,13 +186,18 @@ def stand_in(name, script, identity=None):
             (made / part.name).symlink_to(part)
     written(made / "KIT-ID", identity or (kit() / "KIT-ID").read_bytes())
     executable(made / "bin" / "rt", "#!/bin/sh\n" + script)
-    return f"{made / 'bin'}{os.pathsep}{PATH}"
+    return os.pathsep.join([str(made / "bin"), *PATH])
+
+
+def forbid_proofs():
+    """From here on `rt` proves nothing, so that no tool that is broken can begin a proof of minutes."""
+    PATH[:] = stand_in("forbidding kit", 'echo "rt: $*: no proof in these tests"\nexit 1\n').split(os.pathsep)
 
 
 def path_without(name, *missing):
     """A PATH that has every command but some."""
     made = folder(name)
-    for place in PATH.split(os.pathsep):
+    for place in PATH:
         for entry in sorted(Path(place).iterdir()) if Path(place).is_dir() else []:
             if not any(re.fullmatch(one, entry.name) for one in missing) and not (made / entry.name).exists():
                 (made / entry.name).symlink_to(entry)

@@ -125,13 +125,12 @@ names_of() { crates_of "$1" | cut -d: -f1; } # NAME
 # ---- work that takes a while
 # What is stopped and removed when the tool ends, however it ends. Long work runs in a process group of its own and is waited
 # for, so that a signal ends it at once and leaves nothing behind.
-declare -A busy=() running=()
 rooms=()
 
-# Ends a group: asked first, and made to where that does not help within two seconds.
-end_group() { # GROUP
+# Ends a job of this shell: its whole group where it has one, asked first, and made to where that does not help within two seconds.
+end_job() { # PID
     local tries=40
-    kill -TERM -- "-$1" || return 0
+    kill -TERM -- "-$1" || { kill -TERM "$1" || true; return 0; }
     while [ "$tries" -gt 0 ] && kill -0 -- "-$1"; do
         sleep 0.05
         tries=$((tries - 1))
@@ -139,12 +138,12 @@ end_group() { # GROUP
     kill -KILL -- "-$1" || true
 }
 
+# Only jobs that still run are ended: the number of one that is gone may be another's by now.
 cleanup() {
     local one
     trap - EXIT
     trap '' HUP INT TERM
-    for one in "${!running[@]}"; do kill -TERM "$one" || true; done 2>/dev/null
-    for one in "${!busy[@]}"; do end_group "$one"; done 2>/dev/null
+    for one in $(jobs -rp); do end_job "$one"; done 2>/dev/null
     for one in "${rooms[@]}"; do rm -rf "$one"; done
 }
 trap cleanup EXIT
@@ -169,20 +168,12 @@ begin() { # COMMAND...
     "$@" </dev/null &
     group=$!
     set +m
-    busy[$group]=yes
 }
 
-# Waits for a group that was begun and gives its status.
-ended() { # GROUP
-    local status=0
-    wait "$1" || status=$?
-    unset "busy[$1]"
-    return "$status"
-}
-
+# Runs a command in a group of its own and gives its status; a signal ends the waiting at once.
 await() { # COMMAND...
     begin "$@"
-    ended "$group"
+    wait "$group"
 }
 
 logged() { # LOG COMMAND...

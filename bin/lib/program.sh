@@ -22,8 +22,9 @@ open_input() { # NAME
 # The copy is written before the program is handed a piece, so that it has all that the program has read.
 keep_copy() {
     copy=$room/input
-    exec 3< <(exec tee /dev/fd/4 <&3 4>&1 >"$copy" 2>/dev/null)
-    running[$!]=yes
+    mkfifo "$room/feed"
+    tee "$room/feed" <&3 >"$copy" 2>/dev/null &
+    exec 3<"$room/feed"
 }
 
 # ---- the run
@@ -37,10 +38,8 @@ run_program() { # PROGRAM LOOK
     looker=$!
     "${loader[@]}" "$1" <&3 >"$room/answers" 2>"$room/said" 3>&- 7>&- &
     pid=$!
-    running[$pid]=yes
     ending=0
     wait "$pid" || ending=$?
-    unset "running[$pid]"
     wait "$looker" || true
     sink=$(cat "$room/sink") seen=$(cat "$room/seen")
     cat "$room/said" >&2
