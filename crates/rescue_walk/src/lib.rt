@@ -2,9 +2,9 @@
 mod scripts; // scripts.rt: a whole script
 mod steps; // steps.rt: from piece to piece
 mod writes; // writes.rt: the pieces written
-mod report; // report.rt: what the program `rescue` says on the error output
+mod report_lines; // report_lines.rt: what the program `rescue` says on the error output
 
-pub use report::put_text;
+pub use report_lines::put_text;
 pub use scripts::MOST;
 pub use scripts::REPORT;
 pub use scripts::Rescued;

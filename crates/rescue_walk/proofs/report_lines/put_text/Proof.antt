@@ -4,8 +4,8 @@ use lib.Seq.{length-take-le}
 use native.Mathlib.Omega.{arith}
 use Rattle.rescue_walk.proofs.Pairs.{says-refused, says-lines, says-all}
 use borrow.Author.Needs.{needs}
-use Rattle.rescue_walk.proofs.report.put_text.Statement.{statement}
-use Rattle.rescue_walk.proofs.report.put_text.Tie as tie
+use Rattle.rescue_walk.proofs.report_lines.put_text.Statement.{statement}
+use Rattle.rescue_walk.proofs.report_lines.put_text.Tie as tie
 
 pub put-text-spec : {M : Type 1} → statement M
 put-text-spec =

@@ -7,8 +7,8 @@ use Rattle.text.proofs.Pieces.{ToDo, all-to-do, run-done, all-done}
 use Rattle.rescue_walk.specs.Lines.{linesIn}
 use Rattle.rescue_walk.proofs.Pairs.{lines-next, lines-over}
 use borrow.Author.Needs.{needs}
-use Rattle.rescue_walk.proofs.report.put_lines.Statement.{statement}
-use Rattle.rescue_walk.proofs.report.put_lines.Tie as tie
+use Rattle.rescue_walk.proofs.report_lines.put_lines.Statement.{statement}
+use Rattle.rescue_walk.proofs.report_lines.put_lines.Tie as tie
 
 abbrev Inv-loop : tie.InvT-loop
 Inv-loop out₀ at report half p₀ i₀ out p i = ToDo out₀ at (linesIn report) out p (linesIn (drop (2 * i) report)) × (i ≤ half)

@@ -3,8 +3,8 @@ use mathlib.Core.Path.{refl}
 use Rattle.text.proofs.Pieces.{all-to-do, one-done, two-done, all-done}
 use Rattle.rescue_walk.specs.Lines.{refusalPieces}
 use borrow.Author.Needs.{needs}
-use Rattle.rescue_walk.proofs.report.put_refusal.Statement.{statement}
-use Rattle.rescue_walk.proofs.report.put_refusal.Tie as tie
+use Rattle.rescue_walk.proofs.report_lines.put_refusal.Statement.{statement}
+use Rattle.rescue_walk.proofs.report_lines.put_refusal.Tie as tie
 
 pub put-refusal-spec : {M : Type 1} → statement M
 unfolding refusalPieces

@@ -3,8 +3,8 @@ use mathlib.Core.Path.{refl}
 use Rattle.text.proofs.Pieces.{all-to-do, two-done, all-done}
 use Rattle.rescue_walk.specs.Lines.{linePieces}
 use borrow.Author.Needs.{needs}
-use Rattle.rescue_walk.proofs.report.put_line.Statement.{statement}
-use Rattle.rescue_walk.proofs.report.put_line.Tie as tie
+use Rattle.rescue_walk.proofs.report_lines.put_line.Statement.{statement}
+use Rattle.rescue_walk.proofs.report_lines.put_line.Tie as tie
 
 pub put-line-spec : {M : Type 1} → statement M
 unfolding linePieces
