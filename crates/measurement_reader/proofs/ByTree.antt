@@ -95,24 +95,28 @@ module _ (s before : List ℕ) (b : Bool) (be : b ≡ lengthFits s) where
     unfolding readNumber firstOf
     read-item g = stays 2 (rw (sym be ∙ f, sym te ∙ g) refl) (λ z. omega arith)
 
-    module _ (g : t ≡ true) (ok : Bytes s) (ws ws′ : List ℕ) (r : Bool) (h : Filled (payloadAt s (headAt s 0)) 0 ws r ws′) where
+    module _ (g : t ≡ true) (ok : Bytes s) (ws ws′ : List ℕ) (r : Bool) (h : Filled (payloadAt s (headAt s 0)) 0 ws r ws′)
+        (after : List ℕ) (ae : after ≡ cond r ws′ before) where
       the-walk : payloadAt s (headAt s 0) ≡ cellsOf s
       the-walk = let x = is-some (payloadOf s) (sym te ∙ g) in payload-walk s ok (x .0) (x .1)
 
-      pub read-whole : length ws ≡ 72 → r ≡ true → (0 ≡ readNumber s) × (ws′ ≡ readAfter s before)
+      pub read-whole : length ws ≡ 72 → r ≡ true → (0 ≡ readNumber s) × (after ≡ readAfter s before)
       unfolding readNumber firstOf readAfter flatOr
       read-whole m z =
           let x = filled-some (payloadAt s (headAt s 0)) 0 ws ws′ r z h in
           let c : cellsOf s ≡ some (x .0) = sym the-walk ∙ x .1 in
           let l = payload-long s (headAt s 0) (x .0) (x .1) in
           let y : ws′ ≡ flat (x .0) = x .2 ∙ sets-whole ws (flat (x .0)) (omega (arith, flat-long (x .0))) in
-          rw (sym be ∙ f, sym te ∙ g, c) (refl, y)
+          let stored : after ≡ ws′ = rw z at ae in
+          rw (sym be ∙ f, sym te ∙ g, c) (refl, stored ∙ y)
 
-      pub read-rows : r ≡ false → (3 ≡ readNumber s) × (before ≡ readAfter s before)
+      pub read-rows : r ≡ false → (3 ≡ readNumber s) × (after ≡ readAfter s before)
       unfolding readNumber firstOf
       read-rows z =
           let c : cellsOf s ≡ none = sym the-walk ∙ filled-none (payloadAt s (headAt s 0)) 0 ws ws′ r z h in
-          stays 3 (rw (sym be ∙ f, sym te ∙ g, c) refl) (λ y. omega arith)
+          let kept : after ≡ before = rw z at ae in
+          let y = stays 3 (rw (sym be ∙ f, sym te ∙ g, c) refl) (λ y. omega arith) in
+          (y .0, kept ∙ y .1)
 
 module _ (s : List ℕ) (ws ws′ : List ℕ) (i : ℕ) (h : Head) (he : h ≡ headAt s 0) where
   pub payload-no-head : h ≡ Head.Bad → Filled (payloadAt s (headAt s 0)) i ws false ws′

@@ -4,7 +4,7 @@ use measurement_table::WORDS;
 use measurement_table::Words;
 use wire_heads::Head;
 ghost use mathlib.Core.Path.{_≡_};
-ghost use mathlib.Core.Bool.{_&&_};
+ghost use mathlib.Core.Bool.{cond, _&&_};
 ghost use lib.Dec.{leb};
 ghost use Rattle.wire_heads.specs.Head.{headAt};
 ghost use Rattle.wire_cbor.specs.Item.{payloadOf, isSome};
@@ -46,7 +46,16 @@ fn payload_into(s: &[u8], words: &mut Words) -> bool
     }
 }
 
-// Reads a payload: 0, or the refusal 1, 2 or 3, which leaves the words as they were. They are stored at once, when all is read.
+// Stores what was read, where all of it is good: else the words stay as they were.
+fn store(words: &mut Words, found: &Words, good: bool)
+    ensures { λ _. ⌜ now (words .exit) ≡ cond good (now (found .entry)) (now (words .entry)) ⌝ }
+{
+    if good {
+        *words = *found;
+    }
+}
+
+// Reads a payload: 0, or the refusal 1, 2 or 3, which leaves the words as they were.
 pub fn read_measurement(s: &[u8], words: &mut Words) -> u64
     ensures { λ r. ⌜ r ≡ readNumber (now (s .entry)) ⌝ }
     ensures { λ _. ⌜ now (words .exit) ≡ readAfter (now (s .entry)) (now (words .entry)) ⌝ }
@@ -58,8 +67,9 @@ pub fn read_measurement(s: &[u8], words: &mut Words) -> u64
         return 2;
     }
     let mut found = [0u64; WORDS];
-    if payload_into(s, &mut found) {
-        *words = found;
+    let good = payload_into(s, &mut found);
+    store(words, &found, good);
+    if good {
         return 0;
     }
     3

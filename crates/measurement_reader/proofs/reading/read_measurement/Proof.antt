@@ -17,26 +17,33 @@ returns-2 c =
 
 returns-3 : tie.Need-returns-3
 returns-3 c =
-    let at-if2 = c .before .before .before .if2 in
-    let at-is-item = c .before .before .before .before .is-item in
-    let at-if1 = c .before .before .before .before .before .if1 in
-    let at-has-length = c .before .before .before .before .before .before .has-length in
-    let at-shared-slice-known = c .before .before .before .before .before .before .before .shared-slice-known in
+    let at-payload-into = c .before .before .before .before .payload-into in
+    let at-if2 = c .before .before .before .before .before .before .if2 in
+    let at-is-item = c .before .before .before .before .before .before .before .is-item in
+    let at-if1 = c .before .before .before .before .before .before .before .before .if1 in
+    let at-has-length = c .before .before .before .before .before .before .before .before .before .has-length in
+    let at-shared-slice-known = c .before .before .before .before .before .before .before .before .before .before .shared-slice-known in
     read-whole _ _ _ (at-has-length .ensures) (not-false _ (at-if1 .left)) _ (at-is-item .ensures) (not-false _ (at-if2 .left))
-    (all-bytes _ (at-shared-slice-known .given)) _ _ _ (c .before .payload-into .ensures) (search needs) (c .if3 .taken)
+    (all-bytes _ (at-shared-slice-known .given)) _ _ _ (at-payload-into .ensures) _ (c .before .store .ensures) (search needs) (c .if3 .taken)
 
 returns-4 : tie.Need-returns-4
 returns-4 c =
-    let at-if2 = c .before .before .before .if2 in
-    let at-is-item = c .before .before .before .before .is-item in
-    let at-if1 = c .before .before .before .before .before .if1 in
-    let at-has-length = c .before .before .before .before .before .before .has-length in
-    let at-shared-slice-known = c .before .before .before .before .before .before .before .shared-slice-known in
+    let at-payload-into = c .before .before .before .before .payload-into in
+    let at-if2 = c .before .before .before .before .before .before .if2 in
+    let at-is-item = c .before .before .before .before .before .before .before .is-item in
+    let at-if1 = c .before .before .before .before .before .before .before .before .if1 in
+    let at-has-length = c .before .before .before .before .before .before .before .before .before .has-length in
+    let at-shared-slice-known = c .before .before .before .before .before .before .before .before .before .before .shared-slice-known in
     read-rows _ _ _ (at-has-length .ensures) (not-false _ (at-if1 .left)) _ (at-is-item .ensures) (not-false _ (at-if2 .left))
-    (all-bytes _ (at-shared-slice-known .given)) _ _ _ (c .before .payload-into .ensures) (c .if3 .left)
+    (all-bytes _ (at-shared-slice-known .given)) _ _ _ (at-payload-into .ensures) _ (c .before .store .ensures) (c .if3 .left)
 
 pub read-measurement-spec : {M : Type 1} → statement M
 read-measurement-spec =
     tie.close
     (tie.spec
-    (λ c κs. search needs) returns (λ c κs. search needs) returns-2 (λ c κs. search needs) returns-3 returns-4)  -- has-length-requires, is-item-requires, payload-into-requires
+    (λ c κs. search needs)  -- has-length-requires
+    returns
+    (λ c κs. search needs)  -- is-item-requires
+    returns-2
+    (λ c κs. search needs) (λ c κs. search needs)  -- payload-into-requires, store-requires
+    returns-3 returns-4)
