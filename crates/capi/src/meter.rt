@@ -3,15 +3,14 @@ use measurement::Words;
 use measurement::flow_number;
 ghost use mathlib.Core.Path.{_≡_};
 ghost use lib.ListN.{length};
-ghost use Rattle.measurement_table.specs.Words.{flat};
-ghost use Rattle.measurement_table.specs.Payload.{readNumber, cellsRead};
+ghost use Rattle.measurement_table.specs.Payload.{readNumber, readAfter};
 ghost use Rattle.measurement.specs.Flow.{acActivePower, acActivePowerPerPhase, dcPower};
 ghost use Rattle.capi.specs.Meter.{measurementWritten, measurementLeft, flowIn};
 
 #[no_mangle]
 pub extern "C" fn cekarum_raw_read_measurement(payload: &[u8], words: &mut Words) -> u64
     ensures { λ r. ⌜ r ≡ readNumber (now (payload .entry)) ⌝ }
-    ensures { λ _. ⌜ now (words .exit) ≡ flat (cellsRead (now (payload .entry))) ⌝ }
+    ensures { λ _. ⌜ now (words .exit) ≡ readAfter (now (payload .entry)) (now (words .entry)) ⌝ }
 {
     measurement::read_measurement(payload, words)
 }

@@ -16,11 +16,12 @@ use Rattle.text.proofs.Pieces.{all-to-do, one-done, two-done, run-done, all-don
 use Rattle.console_words.specs.Answers.{hexOrNone, badLine}
 use Rattle.console_words.specs.Hex.{isNone, isPairs, hexBytes, hexRead, hexAfter}
 use Rattle.console_words.specs.declared.hex.Read.{Read}
-use Rattle.measurement_table.specs.Words.{flat, rangeNumber}
-use Rattle.measurement_table.specs.Payload.{readNumber, cellsRead}
-use Rattle.measurement.specs.Flow.{acActivePower, dcPower}
+use Rattle.measurement_table.specs.Words.{cellOf, heldAt, heldFrom, held, rangeNumber}
+use Rattle.measurement_table.specs.Rows.{rows}
+use Rattle.measurement_table.specs.Payload.{readNumber, readAfter}
+use Rattle.measurement.specs.Flow.{flowOf, cellFor, acActivePower, dcPower}
 use Rattle.measurement.specs.declared.flow.Flow.{Flow}
-use Rattle.console_other_lines.specs.Meas.{flowPieces, flowIn, phaseIn, someFlow, allFlows, flowsPieces, room, payloadIn, againText, payloadPieces, measPieces}
+use Rattle.console_other_lines.specs.Meas.{isThere, flowPieces, flowIn, phaseIn, someFlow, allFlows, flowsPieces, room, payloadIn, againText, unread, payloadPieces, RefusedShows, measPieces}
 
 -- one piece, and pieces, written
 abbrev pub One : List ℕ → ℕ → List ℕ → ℕ → List ℕ → Type 0
@@ -73,7 +74,7 @@ unfolding againText
 again-refused n ws h = rw (ne-eqb n 0 h) refl
 
 -- the whole answer for a payload
-module _ (s out : List ℕ) (at n : ℕ) (ws : List ℕ) (number : n ≡ readNumber s) (words : ws ≡ flat (cellsRead s)) where
+module _ (s out : List ℕ) (at n : ℕ) (ws : List ℕ) (number : n ≡ readNumber s) (words : ws ≡ readAfter s unread) where
   pub answered : (q q₂ q₃ q₄ q₅ : ℕ) (t t₂ t₃ t₄ t₅ : List ℕ)
       → One out at (decimal n) q t → One t q (32 ∷ []) q₂ t₂ → One t₂ q₂ (againText n ws) q₃ t₃ → All t₃ q₃ (flowsPieces ws) q₄ t₄ → One t₄ q₄ (10 ∷ []) q₅ t₅
       → All out at (payloadPieces s) q₅ t₅
@@ -84,6 +85,16 @@ module _ (s out : List ℕ) (at n : ℕ) (ws : List ℕ) (number : n ≡ readNum
       let w₄ = run-done _ _ _ _ _ _ _ _ _ w₃ (rw words at h₄) in
       all-done _ _ _ _ _ _ (one-done _ _ _ _ _ _ _ _ _ w₄ h₅) refl
 
+-- nothing is measured in words of zeros
+unread-flows : flowsPieces unread ≡ (32 ∷ 45 ∷ []) ∷ []
+unfolding flowsPieces someFlow isThere flowOf cellFor rows held heldFrom heldAt cellOf
+unread-flows = refl
+
+pub refused-shows : RefusedShows
+unfolding payloadPieces readAfter
+refused-shows s h =
+    rw (ne-eqb (readNumber s) 0 h, again-refused (readNumber s) unread h, unread-flows) refl
+
 -- the line, by what was read of its word
 kept : (w bytes : List ℕ) → length (hexAfter w bytes) ≡ length bytes
 unfolding hexAfter
@@ -93,15 +104,22 @@ kept w bytes = go (isNone w || isPairs w (length bytes))
     go true = length-put bytes (hexBytes w) 0
     go false = refl
 
+-- what a line answers and leaves
+abbrev Line : List ℕ → List ℕ → List ℕ → List ℕ → ℕ → ℕ → List ℕ → Type 0
+Line w bytes x out at q t = (q ≡ pastAll out at (measPieces w bytes)) × ((t ≡ putAll out at (measPieces w bytes)) × (x ≡ hexAfter w bytes))
+
 module _ (w bytes x : List ℕ) (r : Read) (e : r ≡ hexRead w (length bytes)) (f : x ≡ hexAfter w bytes) (out t : List ℕ) (at q : ℕ) where
-  pub line-bad : r .good ≡ false → One out at badLine q t → All out at (measPieces w bytes) q t
-  unfolding measPieces
-  line-bad b h = rw (← e, b) (alone out at badLine t q h)
+  with-bytes : All out at (measPieces w bytes) q t → Line w bytes x out at q t
+  with-bytes a = (a .0, (a .1, f))
 
-  pub line-past : r .good ≡ true → length x < r .count → One out at badLine q t → All out at (measPieces w bytes) q t
+  pub line-bad : r .good ≡ false → One out at badLine q t → Line w bytes x out at q t
   unfolding measPieces
-  line-past b h i = rw (← e, b, lt-leb (r .count) (length bytes) (rw (f, kept w bytes) at h)) (alone out at badLine t q i)
+  line-bad b h = with-bytes (rw (← e, b) (alone out at badLine t q h))
 
-  pub line-good : r .good ≡ true → r .count ≤ length x → All out at (payloadPieces (take (r .count) x)) q t → All out at (measPieces w bytes) q t
+  pub line-past : r .good ≡ true → length x < r .count → One out at badLine q t → Line w bytes x out at q t
   unfolding measPieces
-  line-good b h i = rw (← e, b, le-leb (r .count) (length bytes) (rw (f, kept w bytes) at h)) (rw f at i)
+  line-past b h i = with-bytes (rw (← e, b, lt-leb (r .count) (length bytes) (rw (f, kept w bytes) at h)) (alone out at badLine t q i))
+
+  pub line-good : r .good ≡ true → r .count ≤ length x → All out at (payloadPieces (take (r .count) x)) q t → Line w bytes x out at q t
+  unfolding measPieces
+  line-good b h i = with-bytes (rw (← e, b, le-leb (r .count) (length bytes) (rw (f, kept w bytes) at h)) (rw f at i))

@@ -1,5 +1,6 @@
 -- What a line `meas BYTES` answers. Assumes nothing: these are definitions.
 use Prim.Native.Nat.{ℕ}
+use mathlib.Core.Path.{_≡_}
 use mathlib.Core.Bool.{Bool, true, false, cond, _&&_, _||_}
 use mathlib.Core.List.{List, [], _∷_, _++_}
 use lib.ListN.{length, take, replicate}
@@ -10,8 +11,8 @@ use Rattle.text.specs.Text.{decimal}
 use Rattle.console_words.specs.Answers.{hexOrNone, badLine}
 use Rattle.console_words.specs.Hex.{hexRead, hexAfter}
 use Rattle.measurement_table.specs.Table.{rows}
-use Rattle.measurement_table.specs.Words.{flat, held, rangeNumber}
-use Rattle.measurement_table.specs.Payload.{readNumber, cellsRead, itemOf}
+use Rattle.measurement_table.specs.Words.{held, rangeNumber}
+use Rattle.measurement_table.specs.Payload.{readNumber, readAfter, itemOf}
 use Rattle.measurement.specs.Flow.{flowOf, cellFor, acActivePower, acActivePowerPerPhase, dcPower}
 use Rattle.measurement.specs.declared.flow.Flow.{Flow}
 
@@ -66,10 +67,19 @@ unfoldable pub againText : ℕ → List ℕ → List ℕ
 againText n ws =
     cond (eqb n 0) (hexOrNone (leftBy (rangeNumber ws) (payloadIn ws) room) (writtenOf (rangeNumber ws) (payloadIn ws) (length room) .length)) (45 ∷ [])
 
+-- the words that a line reads into: nothing is measured in them
+abbrev pub unread : List ℕ
+unread = replicate 72 0
+
 -- the number, the payload, the flows
 unfoldable pub payloadPieces : List ℕ → List (List ℕ)
 payloadPieces s =
-    decimal (readNumber s) ∷ (32 ∷ []) ∷ againText (readNumber s) (flat (cellsRead s)) ∷ (flowsPieces (flat (cellsRead s)) ++ ((10 ∷ []) ∷ []))
+    decimal (readNumber s) ∷ (32 ∷ []) ∷ againText (readNumber s) (readAfter s unread) ∷ (flowsPieces (readAfter s unread) ++ ((10 ∷ []) ∷ []))
+
+-- beside a refusal the line shows neither payload nor flows: ` - -`
+abbrev pub RefusedShows : Type 0
+RefusedShows =
+    (s : List ℕ) → (readNumber s ≡ 0 → ⊥) → payloadPieces s ≡ decimal (readNumber s) ∷ (32 ∷ []) ∷ (45 ∷ []) ∷ (32 ∷ 45 ∷ []) ∷ (10 ∷ []) ∷ []
 
 -- the answer for a word, whose bytes have so much room
 unfoldable pub measPieces : List ℕ → List ℕ → List (List ℕ)

@@ -15,6 +15,7 @@ ghost use mathlib.Core.Path.{_≡_};
 ghost use mathlib.Core.List.{[], _∷_};
 ghost use Rattle.wire_bytes.specs.Bytes.{putWhole, pastWhole};
 ghost use Rattle.text.specs.Pieces.{putAll, pastAll};
+ghost use Rattle.console_words.specs.Hex.{hexAfter};
 ghost use Rattle.console_other_lines.specs.Meas.{isThere, flowPieces, someFlow, flowsPieces, againText, payloadPieces, measPieces};
 
 // Bytes of the longest payload that is written.
@@ -106,10 +107,11 @@ fn payload(s: &[u8], out: &mut [u8], at: usize) -> usize
     put_end(out, t)
 }
 
-// Reads the bytes of the line's last word, and answers for them.
+// Reads the bytes of the line's last word into `bytes`, and answers for them.
 pub fn meas(word: &[u8], bytes: &mut [u8], out: &mut [u8], at: usize) -> usize
     ensures { λ r. ⌜ r ≡ pastAll (now (out .entry)) at (measPieces (now (word .entry)) (now (bytes .entry))) ⌝ }
     ensures { λ _. ⌜ now (out .exit) ≡ putAll (now (out .entry)) at (measPieces (now (word .entry)) (now (bytes .entry))) ⌝ }
+    ensures { λ _. ⌜ now (bytes .exit) ≡ hexAfter (now (word .entry)) (now (bytes .entry)) ⌝ }
 {
     let read = read_hex(word, bytes);
     let n = read.count;

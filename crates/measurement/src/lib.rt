@@ -10,7 +10,6 @@ pub use measurement_reader::read_measurement;
 pub use measurement_table::Place;
 pub use measurement_table::WORDS;
 pub use measurement_table::Words;
-pub use measurement_table::clear;
 pub use measurement_table::place_at;
 pub use measurement_table::put_place;
 pub use measurement_writer::write_measurement;

@@ -13,11 +13,12 @@ use Rattle.wire_fields.specs.ByPhase.{keysBelow}
 use Rattle.measurement_table.specs.Rows.{bounds, boundsOf}
 use Rattle.measurement_table.specs.Table.{rows, rangeOf}
 use Rattle.measurement_table.specs.Cells.{cellIn, cellsFrom, phasesIn, blanks, rowIn, rowsIn, cellItem, phaseFields, someMap, firstItem, rowItem, fieldsOf}
-use Rattle.measurement_table.specs.Payload.{cellsOf, readNumber, orBlank, cellsRead, itemOf}
-use Rattle.measurement_laws.specs.Examples.{plain, others, found, written, Worked}
+use Rattle.measurement_table.specs.Words.{placeOf, cellOf, flat, heldAt, heldFrom, held}
+use Rattle.measurement_table.specs.Payload.{cellsOf, readNumber, flatOr, readAfter, itemOf}
+use Rattle.measurement_laws.specs.Examples.{plain, ends, beyond, others, found, written, Worked}
 
 pub worked : Worked
-unfolding plain others found written readNumber firstOf cellsOf orBlank cellsRead payloadOf itemAt fromHead pairsAt itemsAt keyAt headAt argAt numberAt widthOf
+unfolding plain ends beyond others found written readNumber firstOf cellsOf flatOr readAfter flat placeOf held heldFrom heldAt cellOf payloadOf itemAt fromHead pairsAt itemsAt keyAt headAt argAt numberAt widthOf
     infoOf mapIn bind valueOf rows bounds boundsOf rangeOf within numberIn cellIn cellsFrom keysBelow phasesIn blanks rowIn rowsIn itemOf encode encodePairs headBytes
     bytesOf countPairs present cellItem phaseFields someMap firstItem rowItem fieldsOf
 worked = (refl, refl)

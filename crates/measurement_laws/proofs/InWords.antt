@@ -1,4 +1,4 @@
--- Both round trips of words. Assumes nothing.
+-- Both round trips of words, and what a read leaves in them. Assumes nothing.
 use Prim.Native.Nat.{ℕ, zero, suc, _+_, _*_}
 use mathlib.Core.Path.{_≡_, refl, sym, ap, _∙_}
 use mathlib.Core.Bool.{Bool, true, false, not}
@@ -9,14 +9,14 @@ use lib.ListN.{length, getD, drop}
 use lib.Seq.{getD-drop, drop-drop}
 use lib.Dec.{leb}
 use lib.IntN.{pos, negsuc}
-use borrow.Author.Tests.{eq-eqb}
+use borrow.Author.Tests.{eq-eqb, ne-eqb}
 use Rattle.wire_cbor.specs.Item.{encode, payloadOf, isSome}
 use Rattle.wire_fields.proofs.Joined.{and-same}
 use Rattle.refusals.specs.Refusals.{firstOf}
 use Rattle.measurement_table.specs.Cells.{Cell}
 use Rattle.measurement_table.specs.Words.{placeOf, cellOf, flat, heldAt, heldFrom, held, marksFit, rangeNumber}
-use Rattle.measurement_table.specs.Payload.{lengthFits, cellsOf, readNumber, orBlank, cellsRead, itemOf}
-use Rattle.measurement_laws.specs.RoundTrips.{WordsExact, WordsReadBack, WordsWritable, WordsWriteAgain}
+use Rattle.measurement_table.specs.Payload.{lengthFits, cellsOf, readNumber, flatOr, readAfter, itemOf}
+use Rattle.measurement_laws.specs.RoundTrips.{WordsExact, WordsReadBack, WordsWritable, WordsWriteAgain, RefusedKeeps, ReadLeaves}
 use Rattle.measurement_laws.proofs.Inside.{never-read, never-written}
 use Rattle.measurement_laws.proofs.Payloads.{reads-back, writes-again}
 
@@ -61,18 +61,22 @@ held-long : (ws : List ℕ) → length (held ws) ≡ 36
 unfolding held
 held-long ws = from-long ws 36 0
 
-read-cells : (s : List ℕ) (cs : List Cell) → readNumber s ≡ 0 → cellsOf s ≡ some cs → cellsRead s ≡ cs
-unfolding cellsRead orBlank
-read-cells s cs e f = rw (f, eq-eqb (readNumber s) 0 e)
+read-words : (s before : List ℕ) (cs : List Cell) → readNumber s ≡ 0 → cellsOf s ≡ some cs → readAfter s before ≡ flat cs
+unfolding readAfter flatOr
+read-words s before cs e f = rw (f, eq-eqb (readNumber s) 0 e)
 
 pub words-read-back : WordsReadBack
-words-read-back ws e =
+words-read-back ws before e =
     let l = held-long ws in
     let r = reads-back (held ws) l (never-written ws e) in
-    let c = read-cells (encode (itemOf (held ws))) (held ws) (r .0) (r .1) in
-    (r .0, c, ap (λ (x : List Cell). held (flat x)) c ∙ words-exact (held ws) l)
+    let c = read-words (encode (itemOf (held ws))) before (held ws) (r .0) (r .1) in
+    (r .0, c, ap held c ∙ words-exact (held ws) l)
 
--- READ AND WRITTEN AGAIN
+-- WHAT A READ LEAVES
+pub refused-keeps : RefusedKeeps
+unfolding readAfter
+refused-keeps s before h = rw (ne-eqb (readNumber s) 0 h) refl
+
 -- where nothing is refused there are cells
 cells-there : (a b : Bool) (o : Option (List Cell)) → firstOf ((not a, 1) ∷ (not b, 2) ∷ (not (isSome o), 3) ∷ []) ≡ 0 → (cs : List Cell) × (o ≡ some cs)
 unfolding firstOf
@@ -85,17 +89,21 @@ cells-found : (s : List ℕ) → readNumber s ≡ 0 → (cs : List Cell) × (cel
 unfolding readNumber
 cells-found s e = cells-there (lengthFits s) (isSome (payloadOf s)) (cellsOf s) e
 
-held-again : (s : List ℕ) (cs : List Cell) → readNumber s ≡ 0 → cellsOf s ≡ some cs → held (flat (cellsRead s)) ≡ cs
-held-again s cs e f = ap (λ (x : List Cell). held (flat x)) (read-cells s cs e f) ∙ words-exact cs (never-read s cs f .1)
+pub read-leaves : ReadLeaves
+read-leaves s before e = let f = cells-found s e in (f .0, f .1, read-words s before (f .0) e (f .1))
+
+-- READ AND WRITTEN AGAIN
+held-again : (s before : List ℕ) (cs : List Cell) → readNumber s ≡ 0 → cellsOf s ≡ some cs → held (readAfter s before) ≡ cs
+held-again s before cs e f = ap held (read-words s before cs e f) ∙ words-exact cs (never-read s cs f .1)
 
 pub words-writable : WordsWritable
 unfolding rangeNumber
-words-writable s e =
+words-writable s before e =
     let f = cells-found s e in
     let i = never-read s (f .0) (f .1) in
-    rw (held-again s (f .0) e (f .1), read-cells s (f .0) e (f .1), i .0, marks-flat (f .0) (i .1)) refl
+    rw (held-again s before (f .0) e (f .1), read-words s before (f .0) e (f .1), i .0, marks-flat (f .0) (i .1)) refl
 
 pub words-write-again : WordsWriteAgain
-words-write-again s ok ps p u e =
+words-write-again s before ok ps p u e =
     let f = cells-found s e in
-    ap (λ (x : List Cell). encode (itemOf x)) (held-again s (f .0) e (f .1)) ∙ writes-again s ok (f .0) ps p u (f .1)
+    ap (λ (x : List Cell). encode (itemOf x)) (held-again s before (f .0) e (f .1)) ∙ writes-again s ok (f .0) ps p u (f .1)

@@ -20,13 +20,14 @@ use Rattle.wire_fields.specs.ByPhase.{keysBelow}
 use Rattle.wire_fields.specs.declared.ranges.Range.{Range}
 use Rattle.wire_fields.proofs.Joined.{and-same, and-right}
 use Rattle.wire_laws.proofs.FieldsAgain.{no-value, same-inside, bind-parts, map-part}
+use Rattle.measurement_table.specs.Rows.{bounds, boundsOf}
 use Rattle.measurement_table.specs.Table.{rows, rangeOf, places}
 use Rattle.measurement_table.specs.Cells.{Cell, cellIn, cellsFrom, phasesIn, blanks, rowIn, rowsIn, cellFits, cellsFit, rowsFit}
 use Rattle.measurement_table.specs.Words.{held, marksFit, rangeNumber}
 use Rattle.measurement_table.specs.Payload.{cellsOf}
 use Rattle.measurement_table.specs.declared.attributes.Row.{Row}
 use Rattle.measurement_table.proofs.Order.{table-long}
-use Rattle.measurement_laws.specs.Outside.{RowsInside, NeverRead, NeverWritten, NumberExact, RangeExact, SignedExact, SignedKinds}
+use Rattle.measurement_laws.specs.Outside.{RowsInside, NeverRead, NeverWritten, NumberExact, RangeExact, SignedExact, UnsignedExact, SignedKinds, UnsignedKinds, KindsByWidth, KindsExact}
 
 -- ONE NUMBER
 tested : {X : Type 0} (b : Bool) (x y : X) → cond b (some x) none ≡ some y → (b ≡ true) × (x ≡ y)
@@ -159,14 +160,35 @@ half : (n : ℕ) → 1 ≤ 2 ^ n
 half zero = omega arith
 half (suc n) = let h = half n in rw pow-suc (omega arith)
 
-most-signed : (h : ℕ) (z : ℤ) → 1 ≤ h → leZ z (pos (h - 1)) ≡ ltZ z (pos h)
-most-signed h (pos n) l = most-below n (h - 1) h (omega arith)
-most-signed h (negsuc n) l = refl
+most-next : (h : ℕ) (z : ℤ) → 1 ≤ h → leZ z (pos (h - 1)) ≡ ltZ z (pos h)
+most-next h (pos n) l = most-below n (h - 1) h (omega arith)
+most-next h (negsuc n) l = refl
 
 pub signed-exact : SignedExact
 signed-exact w z =
     range-by (2 ^ (w - 1)) (2 ^ (w - 1) - 1) z
-    ∙ ap (λ (b : Bool). leZ (negℤ (pos (2 ^ (w - 1)))) z && b) (most-signed (2 ^ (w - 1)) z (half (w - 1)))
+    ∙ ap (λ (b : Bool). leZ (negℤ (pos (2 ^ (w - 1)))) z && b) (most-next (2 ^ (w - 1)) z (half (w - 1)))
+
+pub unsigned-exact : UnsignedExact
+unsigned-exact w z = range-by 0 (2 ^ w - 1) z ∙ ap (λ (b : Bool). leZ (pos 0) z && b) (most-next (2 ^ w) z (half w))
 
 pub signed-kinds : SignedKinds
 signed-kinds w = refl
+
+pub unsigned-kinds : UnsignedKinds
+unsigned-kinds w = refl
+
+pub kinds-by-width : KindsByWidth
+unfolding rangeOf boundsOf bounds
+kinds-by-width = (refl, refl, refl, refl, refl, refl)
+
+pub kinds-exact : KindsExact
+kinds-exact z =
+    let k = kinds-by-width in (
+      ap (λ (g : Range). within g z) (k .0) ∙ signed-exact 64 z,
+      ap (λ (g : Range). within g z) (k .1) ∙ unsigned-exact 64 z,
+      ap (λ (g : Range). within g z) (k .2) ∙ unsigned-exact 32 z,
+      ap (λ (g : Range). within g z) (k .3) ∙ signed-exact 16 z,
+      ap (λ (g : Range). within g z) (k .4) ∙ range-by 1000 1000 z,
+      ap (λ (g : Range). within g z) (k .5) ∙ range-by 0 100 z,
+    )

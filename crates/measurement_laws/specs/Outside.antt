@@ -2,7 +2,7 @@
 -- for the others. Assumes nothing: these are statements.
 use Prim.Native.Nat.{ℕ, _-_, _^_}
 use mathlib.Core.Path.{_≡_}
-use mathlib.Core.Bool.{true, _&&_}
+use mathlib.Core.Bool.{Bool, true, _&&_}
 use mathlib.Core.Logic.{_↔_}
 use mathlib.Core.List.{List}
 use mathlib.Core.Option.{some}
@@ -11,14 +11,18 @@ use lib.IntN.{ℤ, pos, negℤ}
 use lib.Signed.{ltZ, leZ}
 use Rattle.wire_cbor.specs.Item.{Item, Pairs}
 use Rattle.wire_fields.specs.Fields.{intItem}
-use Rattle.wire_fields.specs.Ranges.{within, signedBits, numberIn}
+use Rattle.wire_fields.specs.Ranges.{within, range, signedBits, upToMost, numberIn}
 use Rattle.wire_fields.specs.declared.ranges.Range.{Range}
-use Rattle.measurement_table.specs.Rows.{signed}
-use Rattle.measurement_table.specs.Table.{rows, places, rangeBy}
+use Rattle.measurement_table.specs.Rows.{signed, unsigned, int64, uint64, uint32, int16, factor, percent}
+use Rattle.measurement_table.specs.Table.{rows, places, rangeBy, rangeOf}
 use Rattle.measurement_table.specs.Cells.{Cell, rowsIn, rowsFit}
 use Rattle.measurement_table.specs.Words.{held, rangeNumber}
 use Rattle.measurement_table.specs.Payload.{cellsOf}
 use Rattle.measurement_table.specs.declared.attributes.Row.{Row}
+
+-- those of w bits
+abbrev pub unsignedBits : ℕ → Range
+unsignedBits w = upToMost (2 ^ w - 1)
 
 -- over any table: what is read has a cell for each place, and each number in the range of its row
 abbrev pub RowsInside : Type 0
@@ -38,10 +42,38 @@ NumberExact = (g : Range) (i : Item) (z : ℤ) → (numberIn g i ≡ some z) ↔
 abbrev pub RangeExact : Type 0
 RangeExact = (g : Range) (z : ℤ) → within g z ≡ (leZ (negℤ (pos (g .below))) z && leZ z (pos (g .high)))
 
--- those of w signed bits, for every width: -2^(w - 1) ≤ z < 2^(w - 1)
-abbrev pub SignedExact : Type 0
-SignedExact = (w : ℕ) (z : ℤ) → within (signedBits w) z ≡ (leZ (negℤ (pos (2 ^ (w - 1)))) z && ltZ z (pos (2 ^ (w - 1))))
+-- -2^(w - 1) ≤ z < 2^(w - 1), and 0 ≤ z < 2^w
+abbrev pub inSigned : ℕ → ℤ → Bool
+inSigned w z = leZ (negℤ (pos (2 ^ (w - 1)))) z && ltZ z (pos (2 ^ (w - 1)))
 
--- and the kinds of w signed bits have those
+abbrev pub inUnsigned : ℕ → ℤ → Bool
+inUnsigned w z = leZ (pos 0) z && ltZ z (pos (2 ^ w))
+
+-- the ranges of w signed bits and of w bits, for every width
+abbrev pub SignedExact : Type 0
+SignedExact = (w : ℕ) (z : ℤ) → within (signedBits w) z ≡ inSigned w z
+
+abbrev pub UnsignedExact : Type 0
+UnsignedExact = (w : ℕ) (z : ℤ) → within (unsignedBits w) z ≡ inUnsigned w z
+
+-- and the kinds of w bits have those
 abbrev pub SignedKinds : Type 0
 SignedKinds = (w : ℕ) → rangeBy (signed w) ≡ signedBits w
+
+abbrev pub UnsignedKinds : Type 0
+UnsignedKinds = (w : ℕ) → rangeBy (unsigned w) ≡ unsignedBits w
+
+-- which width each kind of the table has; two have a range of their own
+abbrev pub KindsByWidth : Type 0
+KindsByWidth =
+    (rangeOf int64 ≡ signedBits 64) × (rangeOf uint64 ≡ unsignedBits 64) × (rangeOf uint32 ≡ unsignedBits 32) × (rangeOf int16 ≡ signedBits 16)
+    × (rangeOf factor ≡ range 1000 1000) × (rangeOf percent ≡ upToMost 100)
+
+-- so that an attribute of a kind is read and written exactly where the number lies in these
+abbrev pub KindsExact : Type 0
+KindsExact =
+    (z : ℤ)
+    → (within (rangeOf int64) z ≡ inSigned 64 z) × (within (rangeOf uint64) z ≡ inUnsigned 64 z)
+    × (within (rangeOf uint32) z ≡ inUnsigned 32 z) × (within (rangeOf int16) z ≡ inSigned 16 z)
+    × (within (rangeOf factor) z ≡ (leZ (negℤ (pos 1000)) z && leZ z (pos 1000)))
+    × (within (rangeOf percent) z ≡ (leZ (pos 0) z && leZ z (pos 100)))

@@ -13,7 +13,7 @@ use Rattle.wire_fields.specs.Fields.{present}
 use Rattle.measurement_table.specs.Table.{rows, places}
 use Rattle.measurement_table.specs.Cells.{Cell, rowsIn, fieldsOf, rowsFit}
 use Rattle.measurement_table.specs.Words.{flat, held, rangeNumber}
-use Rattle.measurement_table.specs.Payload.{cellsOf, readNumber, cellsRead, itemOf}
+use Rattle.measurement_table.specs.Payload.{cellsOf, readNumber, readAfter, itemOf}
 use Rattle.measurement_table.specs.declared.attributes.Row.{Row}
 use Rattle.measurement_table.proofs.Order.{Rising}
 
@@ -65,18 +65,28 @@ OneMeasurement =
 abbrev pub WordsExact : Type 0
 WordsExact = (cs : List Cell) → length cs ≡ 36 → held (flat cs) ≡ cs
 
--- words that may be written, written and read back, hold what they held
+-- words that may be written, written and read back, hold what they held, whatever stood before in the words that they are read into
 abbrev pub WordsReadBack : Type 0
 WordsReadBack =
-    (ws : List ℕ) → rangeNumber ws ≡ 0
-    → (readNumber (encode (itemOf (held ws))) ≡ 0) × (cellsRead (encode (itemOf (held ws))) ≡ held ws) × (held (flat (cellsRead (encode (itemOf (held ws))))) ≡ held ws)
+    (ws before : List ℕ) → rangeNumber ws ≡ 0
+    → (readNumber (encode (itemOf (held ws))) ≡ 0) × (readAfter (encode (itemOf (held ws))) before ≡ flat (held ws))
+    × (held (readAfter (encode (itemOf (held ws))) before) ≡ held ws)
 
 -- what is read can be written
 abbrev pub WordsWritable : Type 0
-WordsWritable = (s : List ℕ) → readNumber s ≡ 0 → rangeNumber (flat (cellsRead s)) ≡ 0
+WordsWritable = (s before : List ℕ) → readNumber s ≡ 0 → rangeNumber (readAfter s before) ≡ 0
 
 -- and is the same bytes again, where the payload has no unknown keys
 abbrev pub WordsWriteAgain : Type 0
 WordsWriteAgain =
-    (s : List ℕ) → Bytes s → (ps : Pairs) → payloadOf s ≡ some (Item.map ps) → Known rows ps → readNumber s ≡ 0
-    → encode (itemOf (held (flat (cellsRead s)))) ≡ s
+    (s before : List ℕ) → Bytes s → (ps : Pairs) → payloadOf s ≡ some (Item.map ps) → Known rows ps → readNumber s ≡ 0
+    → encode (itemOf (held (readAfter s before))) ≡ s
+
+-- WHAT A READ LEAVES
+-- "lent buffers stay unchanged at every refusal"
+abbrev pub RefusedKeeps : Type 0
+RefusedKeeps = (s before : List ℕ) → (readNumber s ≡ 0 → ⊥) → readAfter s before ≡ before
+
+-- a payload that is read leaves the words of its cells and nothing of what stood there
+abbrev pub ReadLeaves : Type 0
+ReadLeaves = (s before : List ℕ) → readNumber s ≡ 0 → (cs : List Cell) × (cellsOf s ≡ some cs) × (readAfter s before ≡ flat cs)

@@ -23,8 +23,8 @@ use Rattle.wire_fields.specs.Fields.{mapIn}
 use Rattle.wire_fields.proofs.Joined.{is-some}
 use Rattle.measurement_reader.proofs.Options.{no-value, same-inside, bind-parts, map-part}
 use Rattle.measurement_table.specs.Table.{rows, places}
-use Rattle.measurement_table.specs.Cells.{Cell, blanks, rowsIn}
-use Rattle.measurement_table.specs.Payload.{lengthFits, cellsOf, readNumber, orBlank, cellsRead}
+use Rattle.measurement_table.specs.Cells.{Cell, rowsIn}
+use Rattle.measurement_table.specs.Payload.{lengthFits, cellsOf, readNumber, flatOr, readAfter}
 use Rattle.measurement_table.specs.Words.{flat}
 use Rattle.measurement_reader.specs.Walk.{Filled, rowAt, nextAt, rowsAt, payloadAt}
 use Rattle.measurement_table.specs.declared.attributes.Row.{Row}
@@ -59,10 +59,6 @@ sets-whole ws vs e =
     let z : 0 + length vs ≡ length ws = omega arith in
     sets-eq vs ws 0 (omega arith) ∙ rw (z, drop-length) (append-nil vs)
 
-blanks-long : length (flat (blanks 36)) ≡ 72
-unfolding flat blanks
-blanks-long = refl
-
 module _ (s : List ℕ) (ok : Bytes s) where
   item-whole : (i : Item) → payloadOf s ≡ some i → itemAt s levels 0 ≡ got i (0 + length (encode i))
   item-whole i p = let x = payload-exact s ok i .0 p in item-reads-back s [] levels 0 i (x .0) (sym (append-nil (encode i) ∙ x .1))
@@ -84,43 +80,43 @@ module _ (s : List ℕ) (ok : Bytes s) where
   unfolding cellsOf bind
   payload-walk i p = rw p (tree i (0 + length (encode i)) (item-whole i p))
 
-or-blank : (n : ℕ) (o : Option (List Cell)) → (n ≡ 0 → ⊥) → orBlank n o ≡ blanks 36
-unfolding orBlank
-or-blank n (some cs) h = rw (ne-eqb n 0 h)
-or-blank n none h = refl
+-- REFUSED OR READ, with the words before
+module _ (s before : List ℕ) (b : Bool) (be : b ≡ lengthFits s) where
+  stays : (n : ℕ) → n ≡ readNumber s → (n ≡ 0 → ⊥) → (n ≡ readNumber s) × (before ≡ readAfter s before)
+  unfolding readAfter
+  stays n e h = (e, rw (ne-eqb (readNumber s) 0 (λ z. h (e ∙ z))) refl)
 
-module _ (s ws : List ℕ) (we : ws ≡ flat (blanks 36)) (b : Bool) (be : b ≡ lengthFits s) where
-  left-blank : (n : ℕ) → n ≡ readNumber s → (n ≡ 0 → ⊥) → (n ≡ readNumber s) × (ws ≡ flat (cellsRead s))
-  unfolding cellsRead
-  left-blank n e h = (e, we ∙ ap flat (sym (or-blank (readNumber s) (cellsOf s) (λ z. h (e ∙ z)))))
-
-  pub read-length : b ≡ false → (1 ≡ readNumber s) × (ws ≡ flat (cellsRead s))
+  pub read-length : b ≡ false → (1 ≡ readNumber s) × (before ≡ readAfter s before)
   unfolding readNumber firstOf
-  read-length f = left-blank 1 (rw (sym be ∙ f) refl) (λ z. omega arith)
+  read-length f = stays 1 (rw (sym be ∙ f) refl) (λ z. omega arith)
 
   module _ (f : b ≡ true) (t : Bool) (te : t ≡ isSome (payloadOf s)) where
-    pub read-item : t ≡ false → (2 ≡ readNumber s) × (ws ≡ flat (cellsRead s))
+    pub read-item : t ≡ false → (2 ≡ readNumber s) × (before ≡ readAfter s before)
     unfolding readNumber firstOf
-    read-item g = left-blank 2 (rw (sym be ∙ f, sym te ∙ g) refl) (λ z. omega arith)
+    read-item g = stays 2 (rw (sym be ∙ f, sym te ∙ g) refl) (λ z. omega arith)
 
-    module _ (g : t ≡ true) (ok : Bytes s) (ws₁ ws₂ : List ℕ) (we₁ : ws₁ ≡ flat (blanks 36)) (r : Bool) (h : Filled (payloadAt s (headAt s 0)) 0 ws₁ r ws₂) where
+    module _ (g : t ≡ true) (ok : Bytes s) (ws ws′ : List ℕ) (r : Bool) (h : Filled (payloadAt s (headAt s 0)) 0 ws r ws′)
+        (after : List ℕ) (ae : after ≡ cond r ws′ before) where
       the-walk : payloadAt s (headAt s 0) ≡ cellsOf s
       the-walk = let x = is-some (payloadOf s) (sym te ∙ g) in payload-walk s ok (x .0) (x .1)
 
-      pub read-whole : r ≡ true → (0 ≡ readNumber s) × (ws₂ ≡ flat (cellsRead s))
-      unfolding readNumber firstOf cellsRead orBlank
-      read-whole z =
-          let x = filled-some (payloadAt s (headAt s 0)) 0 ws₁ ws₂ r z h in
+      pub read-whole : length ws ≡ 72 → r ≡ true → (0 ≡ readNumber s) × (after ≡ readAfter s before)
+      unfolding readNumber firstOf readAfter flatOr
+      read-whole m z =
+          let x = filled-some (payloadAt s (headAt s 0)) 0 ws ws′ r z h in
           let c : cellsOf s ≡ some (x .0) = sym the-walk ∙ x .1 in
           let l = payload-long s (headAt s 0) (x .0) (x .1) in
-          let y : ws₂ ≡ flat (x .0) = x .2 ∙ sets-whole ws₁ (flat (x .0)) (omega (arith, flat-long (x .0), ap length we₁, blanks-long)) in
-          rw (sym be ∙ f, sym te ∙ g, c) (refl, y)
+          let y : ws′ ≡ flat (x .0) = x .2 ∙ sets-whole ws (flat (x .0)) (omega (arith, flat-long (x .0))) in
+          let stored : after ≡ ws′ = rw z at ae in
+          rw (sym be ∙ f, sym te ∙ g, c) (refl, stored ∙ y)
 
-      pub read-rows : r ≡ false → (3 ≡ readNumber s) × (ws ≡ flat (cellsRead s))
+      pub read-rows : r ≡ false → (3 ≡ readNumber s) × (after ≡ readAfter s before)
       unfolding readNumber firstOf
       read-rows z =
-          let c : cellsOf s ≡ none = sym the-walk ∙ filled-none (payloadAt s (headAt s 0)) 0 ws₁ ws₂ r z h in
-          left-blank 3 (rw (sym be ∙ f, sym te ∙ g, c) refl) (λ y. omega arith)
+          let c : cellsOf s ≡ none = sym the-walk ∙ filled-none (payloadAt s (headAt s 0)) 0 ws ws′ r z h in
+          let kept : after ≡ before = rw z at ae in
+          let y = stays 3 (rw (sym be ∙ f, sym te ∙ g, c) refl) (λ y. omega arith) in
+          (y .0, kept ∙ y .1)
 
 module _ (s : List ℕ) (ws ws′ : List ℕ) (i : ℕ) (h : Head) (he : h ≡ headAt s 0) where
   pub payload-no-head : h ≡ Head.Bad → Filled (payloadAt s (headAt s 0)) i ws false ws′

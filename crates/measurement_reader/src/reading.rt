@@ -1,15 +1,14 @@
 // A payload of Measurement, read.
 use crate::walk::rows_into;
+use measurement_table::WORDS;
 use measurement_table::Words;
-use measurement_table::clear;
 use wire_heads::Head;
 ghost use mathlib.Core.Path.{_≡_};
-ghost use mathlib.Core.Bool.{_&&_};
+ghost use mathlib.Core.Bool.{cond, _&&_};
 ghost use lib.Dec.{leb};
 ghost use Rattle.wire_heads.specs.Head.{headAt};
 ghost use Rattle.wire_cbor.specs.Item.{payloadOf, isSome};
-ghost use Rattle.measurement_table.specs.Payload.{readNumber, cellsRead};
-ghost use Rattle.measurement_table.specs.Words.{flat};
+ghost use Rattle.measurement_table.specs.Payload.{readNumber, readAfter};
 ghost use Rattle.measurement_reader.specs.Walk.{Filled, payloadAt};
 
 const LONGEST: usize = 2048;
@@ -47,21 +46,31 @@ fn payload_into(s: &[u8], words: &mut Words) -> bool
     }
 }
 
-// Reads a payload into cells: 0, or the refusal 1, 2 or 3, which leaves nothing in all cells.
+// Stores what was read, where all of it is good: else the words stay as they were.
+fn store(words: &mut Words, found: &Words, good: bool)
+    ensures { λ _. ⌜ now (words .exit) ≡ cond good (now (found .entry)) (now (words .entry)) ⌝ }
+{
+    if good {
+        *words = *found;
+    }
+}
+
+// Reads a payload: 0, or the refusal 1, 2 or 3, which leaves the words as they were.
 pub fn read_measurement(s: &[u8], words: &mut Words) -> u64
     ensures { λ r. ⌜ r ≡ readNumber (now (s .entry)) ⌝ }
-    ensures { λ _. ⌜ now (words .exit) ≡ flat (cellsRead (now (s .entry))) ⌝ }
+    ensures { λ _. ⌜ now (words .exit) ≡ readAfter (now (s .entry)) (now (words .entry)) ⌝ }
 {
-    clear(words);
     if !has_length(s.len()) {
         return 1;
     }
     if !is_item(s) {
         return 2;
     }
-    if payload_into(s, words) {
+    let mut found = [0u64; WORDS];
+    let good = payload_into(s, &mut found);
+    store(words, &found, good);
+    if good {
         return 0;
     }
-    clear(words);
     3
 }

@@ -9,7 +9,8 @@ use Rattle.wire_cbor.specs.Item.{Item, payloadOf, isSome}
 use Rattle.refusals.specs.Refusals.{firstOf, BAD_CBOR, BAD_LENGTH, BAD_MESSAGE}
 use Rattle.wire_fields.specs.Fields.{mapIn, present}
 use Rattle.measurement_table.specs.Table.{rows}
-use Rattle.measurement_table.specs.Cells.{Cell, blanks, rowsIn, fieldsOf}
+use Rattle.measurement_table.specs.Cells.{Cell, rowsIn, fieldsOf}
+use Rattle.measurement_table.specs.Words.{flat}
 
 -- "a payload length outside 1 to 2,048" is 1
 abbrev pub lengthFits : List ℕ → Bool
@@ -23,13 +24,14 @@ cellsOf s = bind (payloadOf s) (λ i. bind (mapIn i) (rowsIn rows))
 unfoldable pub readNumber : List ℕ → ℕ
 readNumber s = firstOf ((not (lengthFits s), BAD_LENGTH) ∷ (not (isSome (payloadOf s)), BAD_CBOR) ∷ (not (isSome (cellsOf s)), BAD_MESSAGE) ∷ [])
 
--- what a reader leaves: nothing in all cells where it refuses
-unfoldable pub orBlank : ℕ → Option (List Cell) → List Cell
-orBlank n (some cs) = cond (eqb n 0) cs (blanks 36)
-orBlank n none = blanks 36
+-- the words of cells; without them the words as they were
+unfoldable pub flatOr : List ℕ → Option (List Cell) → List ℕ
+flatOr ws (some cs) = flat cs
+flatOr ws none = ws
 
-unfoldable pub cellsRead : List ℕ → List Cell
-cellsRead s = orBlank (readNumber s) (cellsOf s)
+-- what a reader leaves in the words: "lent buffers stay unchanged at every refusal"
+unfoldable pub readAfter : List ℕ → List ℕ → List ℕ
+readAfter s ws = cond (eqb (readNumber s) 0) (flatOr ws (cellsOf s)) ws
 
 -- the payload that is written for cells
 unfoldable pub itemOf : List Cell → Item

@@ -14,6 +14,5 @@ pub use words::PLACES;
 pub use words::Place;
 pub use words::WORDS;
 pub use words::Words;
-pub use words::clear;
 pub use words::place_at;
 pub use words::put_place;

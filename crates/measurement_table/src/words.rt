@@ -3,8 +3,7 @@ ghost use mathlib.Core.Path.{_≡_};
 ghost use Prim.Native.Nat.{_*_};
 ghost use mathlib.Core.List.{[], _∷_};
 ghost use lib.Seq.{sets};
-ghost use Rattle.measurement_table.specs.Cells.{blanks};
-ghost use Rattle.measurement_table.specs.Words.{flat, placeOf, heldAt};
+ghost use Rattle.measurement_table.specs.Words.{placeOf, heldAt};
 
 // The places of all rows.
 pub const PLACES: usize = 36;
@@ -17,13 +16,6 @@ pub type Words = [u64; WORDS];
 pub struct Place {
     pub mark: u64,
     pub size: u64,
-}
-
-// Nothing in all places.
-pub fn clear(words: &mut Words)
-    ensures { λ _. ⌜ now (words .exit) ≡ flat (blanks 36) ⌝ }
-{
-    *words = [0; WORDS];
 }
 
 // The words whole, for the proof of what lies past them; no code is left of it.
