@@ -11,3 +11,4 @@ pub mod ResponseAgain
 pub mod Longest
 pub mod Shorter
 pub mod PassedOver
+pub mod PlainLeft

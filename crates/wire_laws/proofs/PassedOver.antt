@@ -9,27 +9,25 @@ use lib.ListN.{length, length-drop}
 use lib.Dec.{leb, eqb}
 use borrow.Author.Tests.{eqb-true}
 use Rattle.wire_bytes.specs.Bytes.{Bytes}
-use Rattle.wire_cbor.specs.Item.{Item, Pairs, payloadOf, encode, isSome}
+use Rattle.wire_cbor.specs.Item.{Item, Pairs, isSome}
 use Rattle.wire_cbor.specs.Find.{valueOf}
 use Rattle.wire_messages.specs.Numbers.{servedAt, servedCommand}
-use Rattle.wire_messages.specs.declared.Amount.{Amount}
 use Rattle.wire_messages.specs.declared.Command.{Command}
 use Rattle.wire_messages.specs.declared.Response.{Response}
 use Rattle.wire_messages.specs.declared.set_parameters.Setting.{Setting}
-use Rattle.wire_prefix.specs.Prefix.{framed, payloadIn}
-use Rattle.wire_fields.specs.Fields.{upTo, mapIn, needed, optional, most32, valueIn, amountIn, aimIn}
-use Rattle.wire_fields.specs.ByPhase.{phasesIn}
-use Rattle.wire_fields.proofs.Joined.{no-both, is-some, or-left, or-right}
+use Rattle.wire_fields.specs.Fields.{upTo, mapIn, needed, optional, most32, valueIn, amountIn}
+use Rattle.wire_fields.proofs.Joined.{no-both, is-some}
 use Rattle.wire_requests.specs.Settings.{settingIn, limitsFrom, currentLimitsIn}
-use Rattle.wire_requests.specs.Requests.{Envelope, envelopeIn, commandIn, withCommand, fromEnvelope, fromPayload, readRequest}
+use Rattle.wire_requests.specs.Requests.{Envelope, envelopeIn, commandIn, withCommand, fromEnvelope, readRequest}
 use Rattle.wire_requests.specs.declared.reading.Reading.{Reading}
 use Rattle.wire_requests.proofs.Requested.{read-map-of}
-use Rattle.wire_responses.specs.Responses.{limitResultIn, setpointResultIn, currentResultIn, outcomeIn, noResult, stands, statusIn, resultIn, responseIn, answerOf, answerIn, answerFrom, readResponse}
+use Rattle.wire_responses.specs.Responses.{limitResultIn, setpointResultIn, currentResultIn, outcomeIn, noResult, stands, statusIn, resultIn, responseIn, answerOf, readResponse}
 use Rattle.wire_responses.specs.declared.reading.Answer.{Answer}
 use Rattle.wire_responses.proofs.Answered.{answer-map-of}
 use Rattle.wire_output.specs.Writing.{itemFrame}
 use Rattle.wire_laws.specs.RoundTrips.{parameterKeys, resultKeys, omitsZero}
-use Rattle.wire_laws.specs.PassedOver.{kept, inMap, under, known, orZero, commandOf, requestKnown, responseKnown, zeroOmitted, durationOmitted, Holds, Fits, PassedOver, RequestUnknownPassed, ResponseUnknownPassed, ZeroDurationPassed, KnownExact}
+use Rattle.wire_laws.specs.PassedOver.{kept, inMap, under, known, orZero, commandOf, requestKnown, responseKnown, zeroOmitted, durationOmitted}
+use Rattle.wire_laws.specs.PassedOver.{Carries, Fits, PassedOver, RequestUnknownPassed, ResponseUnknownPassed, ZeroDurationPassed}
 use Rattle.wire_laws.proofs.FieldsAgain.{uint-again}
 use Rattle.wire_laws.proofs.Trips.{framed-parts, frame-framed, frame-payload, item-in}
 use Rattle.wire_laws.proofs.Shorter.{Less, same-less, less-less, less-kept, less-under, map-some, less-fits}
@@ -55,7 +53,7 @@ kept-value those (Pairs.pair j i ps) k = go (those j) (eqb j k) refl refl (kept-
     go false true x y r = r ∙ rw (here y x) refl
     go false false x y r = r
 
-pub known-exact : KnownExact
+pub known-exact : (n : ℕ) (ps : Pairs) (k : ℕ) → valueOf (known n ps) k ≡ cond (leb 1 k && leb k n) (valueOf ps k) none
 known-exact n ps k = kept-value (λ j. leb 1 j && leb j n) ps k
 
 module _ (key : ℕ) (f : Pairs → Pairs) where
@@ -254,37 +252,37 @@ response-known c ps =
     (chain (λ o. o) (needed (upTo most32) (valueOf ps 1)) _ _ (λ i x. chain (λ o. o) (statusIn (valueOf ps 2)) _ _ (λ s y. rw (result-known c s (valueOf ps 3)) refl)))
 
 -- FRAMES
-pub fits-holds : (ps : Pairs) → Fits ps → Holds (itemFrame (Item.map ps)) ps
-fits-holds ps f = record { prefix = frame-framed (Item.map ps) (map-some ps) (f .short); payload = frame-payload (Item.map ps) (f .formed) }
+pub fits-carries : (ps : Pairs) → Fits ps → Carries (itemFrame (Item.map ps)) ps
+fits-carries ps f = record { prefix = frame-framed (Item.map ps) (map-some ps) (f .short); payload = frame-payload (Item.map ps) (f .formed) }
 
-pub holds-fits : (frame : List ℕ) → Bytes frame → (ps : Pairs) → Holds frame ps → Fits ps
-holds-fits frame ok ps h =
+pub carries-fits : (frame : List ℕ) → Bytes frame → (ps : Pairs) → Carries frame ps → Fits ps
+carries-fits frame ok ps h =
     let x = item-in frame ok (Item.map ps) (h .payload) in
     record { formed = x .0; short = omega (arith, framed-parts frame (h .prefix) .1, length-drop 4 frame, ap length (x .1)) }
 
 -- what is read of a map is all that a reader of frames goes by: then what makes no difference to that is passed over
-module _ {X : Type 0} (read : List ℕ → X) (of : Pairs → X) (reads : (frame : List ℕ) (ps : Pairs) → Holds frame ps → read frame ≡ of ps)
+module _ {X : Type 0} (read : List ℕ → X) (of : Pairs → X) (reads : (frame : List ℕ) (ps : Pairs) → Carries frame ps → read frame ≡ of ps)
     (less : Pairs → Pairs) (same : (ps : Pairs) → of (less ps) ≡ of ps) (shrinks : (ps : Pairs) → Less ps (less ps)) where
-  alike : (frame other : List ℕ) (ps qs : Pairs) → Holds frame ps → Holds other qs → less ps ≡ less qs → read frame ≡ read other
+  alike : (frame other : List ℕ) (ps qs : Pairs) → Carries frame ps → Carries other qs → less ps ≡ less qs → read frame ≡ read other
   alike frame other ps qs h g e = reads frame ps h ∙ sym (same ps) ∙ ap of e ∙ same qs ∙ sym (reads other qs g)
 
   pub passed-over : PassedOver X read less
   passed-over = record {
     alike = alike;
-    encoded = λ ps qs a b e. alike (itemFrame (Item.map ps)) (itemFrame (Item.map qs)) ps qs (fits-holds ps a) (fits-holds qs b) e;
+    encoded = λ ps qs a b e. alike (itemFrame (Item.map ps)) (itemFrame (Item.map qs)) ps qs (fits-carries ps a) (fits-carries qs b) e;
     without = λ frame ok ps h.
-        let l = fits-holds (less ps) (less-fits ps (less ps) (shrinks ps) (holds-fits frame ok ps h)) in
+        let l = fits-carries (less ps) (less-fits ps (less ps) (shrinks ps) (carries-fits frame ok ps h)) in
         (l, reads (itemFrame (Item.map (less ps))) (less ps) l ∙ same ps ∙ sym (reads frame ps h));
   }
 
-request-of : (frame : List ℕ) (ps : Pairs) → Holds frame ps → readRequest frame ≡ fromEnvelope (envelopeIn ps)
+request-of : (frame : List ℕ) (ps : Pairs) → Carries frame ps → readRequest frame ≡ fromEnvelope (envelopeIn ps)
 unfolding mapIn
 request-of frame ps h = read-map-of frame (Item.map ps) ps (h .prefix) (h .payload) refl
 
 abbrev answered : ℕ → Pairs → Answer
 answered c ps = cond (servedCommand c) (answerOf (responseIn c ps)) (Answer.Refused 4)
 
-response-of : (c : ℕ) (frame : List ℕ) (ps : Pairs) → Holds frame ps → readResponse c frame ≡ answered c ps
+response-of : (c : ℕ) (frame : List ℕ) (ps : Pairs) → Carries frame ps → readResponse c frame ≡ answered c ps
 unfolding readResponse mapIn
 response-of c frame ps h = rw (answer-map-of c frame (Item.map ps) ps (h .prefix) (h .payload) refl) refl
 

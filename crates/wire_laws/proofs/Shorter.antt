@@ -5,10 +5,9 @@ use mathlib.Core.Bool.{Bool, true, false, cond}
 use native.Mathlib.Omega.{arith}
 use lib.ListN.{length, length-append}
 use lib.Dec.{eqb}
-use Rattle.wire_heads.specs.Head.{infoOf, widthOf, headLen, headBytes}
+use Rattle.wire_heads.specs.Head.{headLen, headBytes}
 use Rattle.wire_heads.proofs.Widths.{by-width, head-length, len-positive}
 use Rattle.wire_cbor.specs.Item.{Item, Pairs, encode, encodePairs, countPairs, Ok, OkPairs, levels}
-use Rattle.wire_prefix.specs.Prefix.{mostPayload}
 use Rattle.wire_laws.specs.PassedOver.{kept, inMap, under, Fits}
 use Rattle.wire_laws.proofs.Maps.{lower}
 

@@ -16,7 +16,7 @@ use Rattle.wire_fields.specs.Fields.{upTo, needed}
 use Rattle.wire_requests.specs.Requests.{readRequest}
 use Rattle.wire_responses.specs.Responses.{readResponse}
 use Rattle.wire_output.specs.Writing.{itemFrame}
-use Rattle.wire_laws.specs.RoundTrips.{parameterKeys, resultKeys, omitsZero}
+use Rattle.wire_laws.specs.RoundTrips.{parameterKeys, resultKeys, omitsZero, PlainRequest, PlainResponse}
 
 -- TAKEN OUT OF A MAP
 -- the pairs with those keys alone
@@ -68,7 +68,7 @@ durationOmitted ps = cond (omitsZero (commandOf ps)) (under 5 zeroOmitted ps) ps
 
 -- PASSED OVER
 -- a frame with a right prefix whose payload is that map, strict in all that it holds: "still checked"
-pub record Holds (frame : List ℕ) (ps : Pairs) : Type 0 where
+pub record Carries (frame : List ℕ) (ps : Pairs) : Type 0 where
   pub prefix : framed frame ≡ true
   pub payload : payloadOf (payloadIn frame) ≡ some (Item.map ps)
 
@@ -80,12 +80,12 @@ pub record Fits (ps : Pairs) : Type 0 where
 -- what `less` takes out of a map makes no difference to a reader of frames
 pub record PassedOver (X : Type 0) (read : List ℕ → X) (less : Pairs → Pairs) : Type 0 where
   -- two frames whose maps are the same without it are read alike
-  pub alike : (frame other : List ℕ) (ps qs : Pairs) → Holds frame ps → Holds other qs → less ps ≡ less qs → read frame ≡ read other
+  pub alike : (frame other : List ℕ) (ps qs : Pairs) → Carries frame ps → Carries other qs → less ps ≡ less qs → read frame ≡ read other
   -- two maps that are the same without it, each encoded as a frame, are read alike
   pub encoded : (ps qs : Pairs) → Fits ps → Fits qs → less ps ≡ less qs → read (itemFrame (Item.map ps)) ≡ read (itemFrame (Item.map qs))
   -- a frame from which it is taken out is still a frame, and is read alike
-  pub without : (frame : List ℕ) → Bytes frame → (ps : Pairs) → Holds frame ps
-      → Holds (itemFrame (Item.map (less ps))) (less ps) × (read (itemFrame (Item.map (less ps))) ≡ read frame)
+  pub without : (frame : List ℕ) → Bytes frame → (ps : Pairs) → Carries frame ps
+      → Carries (itemFrame (Item.map (less ps))) (less ps) × (read (itemFrame (Item.map (less ps))) ≡ read frame)
 
 -- unknown keys of a request, in its envelope and in the parameters of each command
 abbrev pub RequestUnknownPassed : Type 0
@@ -99,7 +99,10 @@ ResponseUnknownPassed = (command : ℕ) → PassedOver _ (readResponse command) 
 abbrev pub ZeroDurationPassed : Type 0
 ZeroDurationPassed = PassedOver _ readRequest durationOmitted
 
--- WHAT IS TAKEN OUT
--- under a key from 1 to n a map without unknown keys holds what it held, and under any other nothing
-abbrev pub KnownExact : Type 0
-KnownExact = (n : ℕ) (ps : Pairs) (k : ℕ) → valueOf (known n ps) k ≡ cond (leb 1 k && leb k n) (valueOf ps k) none
+-- WHAT IS LEFT
+-- no unknown key and no written zero duration of the commands that omit it: a frame that writes again as the same bytes
+abbrev pub RequestLeft : Type 0
+RequestLeft = (ps : Pairs) → PlainRequest (durationOmitted (requestKnown ps))
+
+abbrev pub ResponseLeft : Type 0
+ResponseLeft = (command : ℕ) (ps : Pairs) → PlainResponse command (responseKnown command ps)
