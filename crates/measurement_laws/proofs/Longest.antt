@@ -11,7 +11,7 @@ use lib.IntN.{pos, negsuc}
 use borrow.Author.Tests.{ltb-true, leb-true}
 use Rattle.wire_bytes.specs.Bytes.{bytesOf}
 use Rattle.wire_heads.specs.Head.{infoOf, widthOf, headLen, headBytes}
-use Rattle.wire_heads.proofs.Widths.{by-width, head-length, len-positive}
+use Rattle.wire_heads.proofs.Widths.{head-length, len-positive}
 use Rattle.wire_cbor.specs.Item.{Item, Pairs, encode, encodePairs, countPairs}
 use Rattle.wire_fields.specs.Fields.{Fields, present}
 use Rattle.wire_fields.specs.Ranges.{within}
@@ -20,6 +20,7 @@ use Rattle.wire_fields.specs.declared.ranges.Range.{Range}
 use Rattle.wire_fields.proofs.Joined.{and-left, and-right}
 use Rattle.wire_fields.proofs.Added.{map-bytes, fields-none, fields-more}
 use Rattle.wire_laws.proofs.Maps.{count-fields}
+use Rattle.wire_laws.proofs.Shorter.{no-longer}
 use Rattle.measurement_table.specs.Rows.{bounds, boundsOf}
 use Rattle.measurement_table.specs.Table.{rows, rangeOf}
 use Rattle.measurement_table.specs.Cells.{Cell, cellItem, phaseFields, someMap, firstItem, rowItem, fieldsOf, cellFits, cellsFit, rowsFit}
@@ -28,22 +29,6 @@ use Rattle.measurement_table.specs.declared.attributes.Row.{Row}
 use Rattle.measurement_table.proofs.Order.{table-long}
 use Rattle.measurement_laws.specs.Longest.{PayloadLongest, PayloadReached}
 use Rattle.measurement_laws.proofs.WellFormed.{take-short, phases-count, fields-count}
-
--- HEADS: a smaller argument has none longer
-at-most : (m c : ℕ) → (24 ≤ m → 1 ≤ c) → (256 ≤ m → 2 ≤ c) → (65536 ≤ m → 4 ≤ c) → (4294967296 ≤ m → 8 ≤ c) → headLen m ≤ 1 + c
-unfolding headLen
-at-most m c x y z w =
-    by-width (λ (i v : ℕ). 1 + v ≤ 1 + c) m (λ a. omega arith) (λ a b. omega (arith, x a)) (λ a b. omega (arith, y a)) (λ a b. omega (arith, z a)) (λ a. omega (arith, w a))
-
-no-longer : (m n : ℕ) → m ≤ n → headLen m ≤ headLen n
-unfolding headLen
-no-longer m n h =
-    by-width (λ (i v : ℕ). headLen m ≤ 1 + v) n
-    (λ a. at-most m 0 (λ b. absurd (omega arith)) (λ b. absurd (omega arith)) (λ b. absurd (omega arith)) (λ b. absurd (omega arith)))
-    (λ a c. at-most m 1 (λ b. omega arith) (λ b. absurd (omega arith)) (λ b. absurd (omega arith)) (λ b. absurd (omega arith)))
-    (λ a c. at-most m 2 (λ b. omega arith) (λ b. omega arith) (λ b. absurd (omega arith)) (λ b. absurd (omega arith)))
-    (λ a c. at-most m 4 (λ b. omega arith) (λ b. omega arith) (λ b. omega arith) (λ b. absurd (omega arith)))
-    (λ a. at-most m 8 (λ b. omega arith) (λ b. omega arith) (λ b. omega arith) (λ b. omega arith))
 
 -- HOW LONG, by the ranges
 -- no head of a range's numbers has a larger argument

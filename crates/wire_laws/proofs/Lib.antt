@@ -9,3 +9,6 @@ pub mod RequestAgain
 pub mod ResponseBack
 pub mod ResponseAgain
 pub mod Longest
+pub mod Shorter
+pub mod PassedOver
+pub mod PlainLeft

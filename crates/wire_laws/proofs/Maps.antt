@@ -54,7 +54,7 @@ abbrev pub OkFields : Fields → ℕ → Type 0
 OkFields [] d = Unit {0}
 OkFields (f ∷ fs) d = (f .0 < 2 ^ 64) × OkField (f .1) d × OkFields fs d
 
-lower : (ps : Pairs) (lo hi d : ℕ) → lo ≤ hi → OkPairs ps hi d → OkPairs ps lo d
+pub lower : (ps : Pairs) (lo hi d : ℕ) → lo ≤ hi → OkPairs ps hi d → OkPairs ps lo d
 unfolding OkPairs
 lower Pairs.empty lo hi d h o = tt
 lower (Pairs.pair k i ps) lo hi d h o = (omega (arith, o .0), o .1, o .2, o .3)

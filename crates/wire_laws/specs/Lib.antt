@@ -1,2 +1,3 @@
 pub mod RoundTrips
 pub mod Longest
+pub mod PassedOver
