@@ -27,25 +27,25 @@ extern "C" {
 
 /* The functions of the library, the same on every board: numbers of 64 bits, pointers, and counts of 64 bits behind them; each
  * gives its refusal number, save the ask, which has none. They are for this header alone: call what stands below. */
-uint64_t cekarum_raw_start(uint64_t *device, const uint64_t *settings);
-uint64_t cekarum_raw_join(uint64_t *device, uint64_t zone, uint64_t rank, uint64_t time);
-uint64_t cekarum_raw_leave(uint64_t *device, uint64_t zone, uint64_t time);
-uint64_t cekarum_raw_lost(uint64_t *device, uint64_t zone, uint64_t time);
-uint64_t cekarum_raw_back(uint64_t *device, uint64_t zone, uint64_t time);
-uint64_t cekarum_raw_override(uint64_t *device, uint64_t reason, uint64_t direction, uint64_t time);
-uint64_t cekarum_raw_clear(uint64_t *device, uint64_t time);
-uint64_t cekarum_raw_move(uint64_t *device, uint64_t time);
-void cekarum_raw_ask(const uint64_t *device, int64_t *values);
-uint64_t cekarum_raw_plan(const uint64_t *device, int64_t *rows, uint64_t room, uint64_t *count);
-uint64_t cekarum_raw_frame(uint64_t *device, uint64_t zone, uint64_t time, const uint8_t *in, uint64_t in_length, uint8_t *out,
+uint64_t cekarum_interface_2_start(uint64_t *device, const uint64_t *settings);
+uint64_t cekarum_interface_2_join(uint64_t *device, uint64_t zone, uint64_t rank, uint64_t time);
+uint64_t cekarum_interface_2_leave(uint64_t *device, uint64_t zone, uint64_t time);
+uint64_t cekarum_interface_2_lost(uint64_t *device, uint64_t zone, uint64_t time);
+uint64_t cekarum_interface_2_back(uint64_t *device, uint64_t zone, uint64_t time);
+uint64_t cekarum_interface_2_override(uint64_t *device, uint64_t reason, uint64_t direction, uint64_t time);
+uint64_t cekarum_interface_2_clear(uint64_t *device, uint64_t time);
+uint64_t cekarum_interface_2_move(uint64_t *device, uint64_t time);
+void cekarum_interface_2_ask(const uint64_t *device, int64_t *values);
+uint64_t cekarum_interface_2_plan(const uint64_t *device, int64_t *rows, uint64_t room, uint64_t *count);
+uint64_t cekarum_interface_2_frame(uint64_t *device, uint64_t zone, uint64_t time, const uint8_t *in, uint64_t in_length, uint8_t *out,
                            uint64_t out_length, uint64_t *written);
-uint64_t cekarum_raw_read_request(const uint8_t *in, uint64_t in_length, uint64_t *words, int64_t *values);
-uint64_t cekarum_raw_write_request(const uint64_t *words, const int64_t *values, uint8_t *out, uint64_t out_length,
+uint64_t cekarum_interface_2_read_request(const uint8_t *in, uint64_t in_length, uint64_t *words, int64_t *values);
+uint64_t cekarum_interface_2_write_request(const uint64_t *words, const int64_t *values, uint8_t *out, uint64_t out_length,
                                    uint64_t *written);
-uint64_t cekarum_raw_read_response(uint64_t command, const uint8_t *in, uint64_t in_length, uint64_t *words, int64_t *values);
-uint64_t cekarum_raw_write_response(uint64_t command, const uint64_t *words, const int64_t *values, uint8_t *out,
+uint64_t cekarum_interface_2_read_response(uint64_t command, const uint8_t *in, uint64_t in_length, uint64_t *words, int64_t *values);
+uint64_t cekarum_interface_2_write_response(uint64_t command, const uint64_t *words, const int64_t *values, uint8_t *out,
                                     uint64_t out_length, uint64_t *written);
-uint64_t cekarum_raw_report(const uint64_t *inputs, const uint16_t *attributes, uint64_t attribute_count, uint64_t *pairs,
+uint64_t cekarum_interface_2_report(const uint64_t *inputs, const uint16_t *attributes, uint64_t attribute_count, uint64_t *pairs,
                             uint64_t room, uint64_t *count);
 
 /* Words of a device. The driver lends all of them to each call and never looks inside. */
@@ -122,7 +122,7 @@ static inline uint64_t cekarum_start(uint64_t *device, struct cekarum_settings s
                                 settings.maximum[0],  settings.maximum[1],     settings.failsafe[0],       settings.failsafe[1],
                                 settings.failsafe_duration, settings.energy_manager, settings.phases,
                                 settings.accepts_current_limits};
-    return cekarum_raw_start(device, words);
+    return cekarum_interface_2_start(device, words);
 }
 
 /* ---- zones, links, override, the clock ----
@@ -132,45 +132,45 @@ static inline uint64_t cekarum_start(uint64_t *device, struct cekarum_settings s
 /* Joins a zone, link up, with no values; rank 1 is the highest, 3 the lowest. Refuses: 5, 6, 7, 8. */
 static inline uint64_t cekarum_join(uint64_t *device, uint64_t zone, uint64_t rank, uint64_t time)
 {
-    return cekarum_raw_join(device, zone, rank, time);
+    return cekarum_interface_2_join(device, zone, rank, time);
 }
 
 /* Removes a zone and all its values. Refuses: 5, 9. */
 static inline uint64_t cekarum_leave(uint64_t *device, uint64_t zone, uint64_t time)
 {
-    return cekarum_raw_leave(device, zone, time);
+    return cekarum_interface_2_leave(device, zone, time);
 }
 
 /* A zone's link went down. When no link is up any more, the failsafe begins. Refuses: 5, 9, 7. */
 static inline uint64_t cekarum_lost(uint64_t *device, uint64_t zone, uint64_t time)
 {
-    return cekarum_raw_lost(device, zone, time);
+    return cekarum_interface_2_lost(device, zone, time);
 }
 
 /* A zone's link is up again. Refuses: 5, 9, 7. */
 static inline uint64_t cekarum_back(uint64_t *device, uint64_t zone, uint64_t time)
 {
-    return cekarum_raw_back(device, zone, time);
+    return cekarum_interface_2_back(device, zone, time);
 }
 
 /* Sets the override, or replaces it. Reasons 0 and 1 go with consumption (direction 0), 2 with either; on an energy manager
  * also 3 with consumption and 4 with production (direction 1). Refuses: 5, 18. */
 static inline uint64_t cekarum_override(uint64_t *device, uint64_t reason, uint64_t direction, uint64_t time)
 {
-    return cekarum_raw_override(device, reason, direction, time);
+    return cekarum_interface_2_override(device, reason, direction, time);
 }
 
 /* Clears the override. Refuses: 5, 7. */
 static inline uint64_t cekarum_clear(uint64_t *device, uint64_t time)
 {
-    return cekarum_raw_clear(device, time);
+    return cekarum_interface_2_clear(device, time);
 }
 
 /* Moves the clock to this second and nothing else: before an ask or a plan, where no other call has brought the device up to now.
  * Refuses: 5. */
 static inline uint64_t cekarum_move(uint64_t *device, uint64_t time)
 {
-    return cekarum_raw_move(device, time);
+    return cekarum_interface_2_move(device, time);
 }
 
 /* ---- what holds, and what will change ----
@@ -196,7 +196,7 @@ struct cekarum_answer {
 static inline struct cekarum_answer cekarum_ask(const uint64_t *device)
 {
     struct cekarum_answer answer;
-    cekarum_raw_ask(device, answer.values);
+    cekarum_interface_2_ask(device, answer.values);
     return answer;
 }
 
@@ -207,7 +207,7 @@ static inline struct cekarum_answer cekarum_ask(const uint64_t *device)
 static inline struct cekarum_written cekarum_plan(const uint64_t *device, int64_t *rows, uint64_t room)
 {
     struct cekarum_written plan;
-    plan.number = cekarum_raw_plan(device, rows, room, &plan.length);
+    plan.number = cekarum_interface_2_plan(device, rows, room, &plan.length);
     return plan;
 }
 
@@ -229,14 +229,14 @@ struct cekarum_row {
 };
 
 /* The export beneath cekarum_plain_plan; nothing else calls it. */
-uint64_t cekarum_raw_plain_plan(const uint64_t *device, struct cekarum_row *rows, uint64_t room, uint64_t *count);
+uint64_t cekarum_interface_2_plain_plan(const uint64_t *device, struct cekarum_row *rows, uint64_t room, uint64_t *count);
 
 /* The rows of cekarum_plan, made the slow way for a test bench.
  * room and length are in records; CEKARUM_ROWS_MAX is always enough. Refuses: 15. */
 static inline struct cekarum_written cekarum_plain_plan(const uint64_t *device, struct cekarum_row *rows, uint64_t room)
 {
     struct cekarum_written plan;
-    plan.number = cekarum_raw_plain_plan(device, rows, room, &plan.length);
+    plan.number = cekarum_interface_2_plain_plan(device, rows, room, &plan.length);
     return plan;
 }
 
@@ -250,7 +250,7 @@ static inline struct cekarum_written cekarum_frame(uint64_t *device, uint64_t zo
                                                    uint64_t in_length, uint8_t *out, uint64_t out_length)
 {
     struct cekarum_written response;
-    response.number = cekarum_raw_frame(device, zone, time, in, in_length, out, out_length, &response.length);
+    response.number = cekarum_interface_2_frame(device, zone, time, in, in_length, out, out_length, &response.length);
     return response;
 }
 
@@ -268,7 +268,7 @@ struct cekarum_received {
 };
 
 /* The export beneath cekarum_receive; nothing else calls it. */
-uint64_t cekarum_raw_receive(uint64_t *receiver, uint8_t *room, uint64_t room_length, const uint8_t *scrap,
+uint64_t cekarum_interface_2_receive(uint64_t *receiver, uint8_t *room, uint64_t room_length, const uint8_t *scrap,
                              uint64_t scrap_length, uint64_t *counts);
 
 /* Takes what the network brought, of every length, none included, up to the end of one frame. The receiver and the room belong
@@ -281,7 +281,7 @@ static inline struct cekarum_received cekarum_receive(struct cekarum_receiver *r
 {
     uint64_t counts[2] = {0, 0};
     struct cekarum_received received;
-    received.number = cekarum_raw_receive(receiver->words, room, room_length, scrap, scrap_length, counts);
+    received.number = cekarum_interface_2_receive(receiver->words, room, room_length, scrap, scrap_length, counts);
     received.taken = counts[0];
     received.length = counts[1];
     return received;
@@ -301,7 +301,7 @@ struct cekarum_second {
 };
 
 /* The export beneath cekarum_tick; nothing else calls it. */
-uint64_t cekarum_raw_tick(uint64_t *front, uint64_t tick, int64_t *seconds);
+uint64_t cekarum_interface_2_tick(uint64_t *front, uint64_t tick, int64_t *seconds);
 
 /* Takes a reading. The first gives second 0. Read at least once in 2^31 ms, some 24.8 days, and the seconds are the true
  * milliseconds since the first reading divided by 1,000, rounded down, whatever the counter showed then and however often it has
@@ -311,7 +311,7 @@ uint64_t cekarum_raw_tick(uint64_t *front, uint64_t tick, int64_t *seconds);
 static inline struct cekarum_second cekarum_tick(struct cekarum_front *front, uint32_t tick)
 {
     struct cekarum_second read;
-    read.number = cekarum_raw_tick(front->words, tick, &read.seconds);
+    read.number = cekarum_interface_2_tick(front->words, tick, &read.seconds);
     return read;
 }
 
@@ -357,7 +357,7 @@ static inline struct cekarum_request_read cekarum_read_request(const uint8_t *in
     struct cekarum_request_read read;
     uint64_t words[14];
     int64_t values[5];
-    read.number = cekarum_raw_read_request(in, in_length, words, values);
+    read.number = cekarum_interface_2_read_request(in, in_length, words, values);
     read.request.id = words[0];
     read.request.endpoint = words[1];
     read.request.feature = words[2];
@@ -401,7 +401,7 @@ static inline struct cekarum_written cekarum_write_request(struct cekarum_reques
     const int64_t values[5] = {request.consumption.value, request.production.value, request.phases[0].value,
                                request.phases[1].value, request.phases[2].value};
     struct cekarum_written written;
-    written.number = cekarum_raw_write_request(words, values, out, out_length, &written.length);
+    written.number = cekarum_interface_2_write_request(words, values, out, out_length, &written.length);
     return written;
 }
 
@@ -431,7 +431,7 @@ static inline struct cekarum_response_read cekarum_read_response(uint64_t comman
     struct cekarum_response_read read;
     uint64_t words[5];
     int64_t values[6];
-    read.number = cekarum_raw_read_response(command, in, in_length, words, values);
+    read.number = cekarum_interface_2_read_response(command, in, in_length, words, values);
     read.response.id = words[0];
     read.response.status = words[1];
     read.response.result = words[2] != 0;
@@ -455,7 +455,7 @@ static inline struct cekarum_written cekarum_write_response(uint64_t command, st
     const int64_t values[6] = {response.consumption, response.production,  response.reason,
                                response.currents[0], response.currents[1], response.currents[2]};
     struct cekarum_written written;
-    written.number = cekarum_raw_write_response(command, words, values, out, out_length, &written.length);
+    written.number = cekarum_interface_2_write_response(command, words, values, out, out_length, &written.length);
     return written;
 }
 
@@ -482,7 +482,7 @@ static inline struct cekarum_written cekarum_report(struct cekarum_inputs inputs
                                inputs.accepts_limits, inputs.accepts_current_limits,
                                inputs.accepts_setpoints, inputs.has_process};
     struct cekarum_written report;
-    report.number = cekarum_raw_report(words, attributes, count, pairs, room, &report.length);
+    report.number = cekarum_interface_2_report(words, attributes, count, pairs, room, &report.length);
     return report;
 }
 
@@ -555,11 +555,11 @@ struct cekarum_measurement {
 /* The exports beneath the calls below, and the words that they take: two for each place, first 0 for nothing, 1 for the number n,
  * 2 for -1 - n, then n. Nothing else calls them. */
 #define CEKARUM_MEASUREMENT_WORDS 72
-uint64_t cekarum_raw_read_measurement(const uint8_t *in, uint64_t in_length, uint64_t *words);
-uint64_t cekarum_raw_write_measurement(const uint64_t *words, uint8_t *out, uint64_t out_length, uint64_t *written);
-uint64_t cekarum_raw_power_flow(const uint64_t *words);
-uint64_t cekarum_raw_dc_flow(const uint64_t *words);
-uint64_t cekarum_raw_phase_flow(const uint64_t *words, uint64_t phase);
+uint64_t cekarum_interface_2_read_measurement(const uint8_t *in, uint64_t in_length, uint64_t *words);
+uint64_t cekarum_interface_2_write_measurement(const uint64_t *words, uint8_t *out, uint64_t out_length, uint64_t *written);
+uint64_t cekarum_interface_2_power_flow(const uint64_t *words);
+uint64_t cekarum_interface_2_dc_flow(const uint64_t *words);
+uint64_t cekarum_interface_2_phase_flow(const uint64_t *words, uint64_t phase);
 
 /* A number to its words, and from them; the words of what is not there are 0. */
 static inline void cekarum_put_unsigned(uint64_t *words, uint64_t there, int place, uint64_t value)
@@ -658,7 +658,7 @@ static inline struct cekarum_measurement_read cekarum_read_measurement(const uin
 {
     struct cekarum_measurement_read read;
     uint64_t words[CEKARUM_MEASUREMENT_WORDS];
-    read.number = cekarum_raw_read_measurement(in, in_length, words);
+    read.number = cekarum_interface_2_read_measurement(in, in_length, words);
     cekarum_measurement_of(words, &read.measurement);
     return read;
 }
@@ -671,7 +671,7 @@ static inline struct cekarum_written cekarum_write_measurement(const struct ceka
     struct cekarum_written written;
     uint64_t words[CEKARUM_MEASUREMENT_WORDS];
     cekarum_measurement_words(measurement, words);
-    written.number = cekarum_raw_write_measurement(words, out, out_length, &written.length);
+    written.number = cekarum_interface_2_write_measurement(words, out, out_length, &written.length);
     return written;
 }
 
@@ -684,21 +684,21 @@ static inline uint64_t cekarum_power_flow(const struct cekarum_measurement *meas
 {
     uint64_t words[CEKARUM_MEASUREMENT_WORDS];
     cekarum_measurement_words(measurement, words);
-    return cekarum_raw_power_flow(words);
+    return cekarum_interface_2_power_flow(words);
 }
 
 static inline uint64_t cekarum_dc_flow(const struct cekarum_measurement *measurement)
 {
     uint64_t words[CEKARUM_MEASUREMENT_WORDS];
     cekarum_measurement_words(measurement, words);
-    return cekarum_raw_dc_flow(words);
+    return cekarum_interface_2_dc_flow(words);
 }
 
 static inline uint64_t cekarum_phase_flow(const struct cekarum_measurement *measurement, uint64_t phase)
 {
     uint64_t words[CEKARUM_MEASUREMENT_WORDS];
     cekarum_measurement_words(measurement, words);
-    return cekarum_raw_phase_flow(words, phase);
+    return cekarum_interface_2_phase_flow(words, phase);
 }
 
 #ifdef __cplusplus

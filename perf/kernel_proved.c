@@ -229,7 +229,7 @@ static struct plain_written write_measurement(const struct plain_measurement *m,
     uint64_t words[CEKARUM_MEASUREMENT_WORDS];
     struct plain_written w;
     to_words(m, words);
-    w.number = cekarum_raw_write_measurement(words, out, room, &w.length);
+    w.number = cekarum_interface_2_write_measurement(words, out, room, &w.length);
     return w;
 }
 
@@ -238,7 +238,7 @@ static uint64_t power_flow(const struct plain_measurement *m)
     struct cekarum_measurement named;
     uint64_t words[CEKARUM_MEASUREMENT_WORDS];
     to_words(m, words);
-    return named_measurement(m, &named) ? cekarum_power_flow(&named) : cekarum_raw_power_flow(words);
+    return named_measurement(m, &named) ? cekarum_power_flow(&named) : cekarum_interface_2_power_flow(words);
 }
 
 static uint64_t dc_flow(const struct plain_measurement *m)
@@ -246,7 +246,7 @@ static uint64_t dc_flow(const struct plain_measurement *m)
     struct cekarum_measurement named;
     uint64_t words[CEKARUM_MEASUREMENT_WORDS];
     to_words(m, words);
-    return named_measurement(m, &named) ? cekarum_dc_flow(&named) : cekarum_raw_dc_flow(words);
+    return named_measurement(m, &named) ? cekarum_dc_flow(&named) : cekarum_interface_2_dc_flow(words);
 }
 
 static uint64_t phase_flow(const struct plain_measurement *m, uint64_t phase)
@@ -254,7 +254,7 @@ static uint64_t phase_flow(const struct plain_measurement *m, uint64_t phase)
     struct cekarum_measurement named;
     uint64_t words[CEKARUM_MEASUREMENT_WORDS];
     to_words(m, words);
-    return named_measurement(m, &named) ? cekarum_phase_flow(&named, phase) : cekarum_raw_phase_flow(words, phase);
+    return named_measurement(m, &named) ? cekarum_phase_flow(&named, phase) : cekarum_interface_2_phase_flow(words, phase);
 }
 
 const struct kernel second_kernel = {

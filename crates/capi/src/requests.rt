@@ -15,7 +15,7 @@ ghost use Rattle.capi.specs.Requests.{requestWordsAfter, requestValuesAf
 
 // At a refusal the words and values stay as they were.
 #[no_mangle]
-pub extern "C" fn cekarum_raw_read_request(
+pub extern "C" fn cekarum_interface_2_read_request(
     frame: &[u8],
     words: &mut [u64; REQUEST],
     values: &mut [i64; FIELDS],
@@ -38,7 +38,7 @@ pub extern "C" fn cekarum_raw_read_request(
 }
 
 #[no_mangle]
-pub extern "C" fn cekarum_raw_write_request(
+pub extern "C" fn cekarum_interface_2_write_request(
     words: &[u64; REQUEST],
     values: &[i64; FIELDS],
     out: &mut [u8],

@@ -15,7 +15,7 @@ ghost use Rattle.capi.specs.Responses.{responseWordsAfter, responseValue
 
 // At a refusal the words and values stay as they were.
 #[no_mangle]
-pub extern "C" fn cekarum_raw_read_response(
+pub extern "C" fn cekarum_interface_2_read_response(
     command: u64,
     frame: &[u8],
     words: &mut [u64; RESPONSE],
@@ -38,7 +38,7 @@ pub extern "C" fn cekarum_raw_read_response(
 }
 
 #[no_mangle]
-pub extern "C" fn cekarum_raw_write_response(
+pub extern "C" fn cekarum_interface_2_write_response(
     command: u64,
     words: &[u64; RESPONSE],
     values: &[i64; AMOUNTS],

@@ -5,11 +5,11 @@ use mir.Syntax.{w64}
 use mir.Facts.{toZ-ofZ}
 use borrow.Author.Needs.{needs}
 use Rattle.ticks.specs.declared.words.Answer.{Answer}
-use Rattle.capi.proofs.counter.cekarum_raw_tick.Statement.{statement}
-use Rattle.capi.proofs.counter.cekarum_raw_tick.Tie as tie
+use Rattle.capi.proofs.counter.cekarum_interface_2_tick.Statement.{statement}
+use Rattle.capi.proofs.counter.cekarum_interface_2_tick.Tie as tie
 
-pub cekarum-raw-tick-spec : {M : Type 1} → statement M
-cekarum-raw-tick-spec =
+pub cekarum-interface-2-tick-spec : {M : Type 1} → statement M
+cekarum-interface-2-tick-spec =
     tie.close
     (tie.spec
     (λ c κs. search needs)

@@ -2,12 +2,12 @@
 use mathlib.Core.Path.{ap}
 use Rattle.capi.specs.Responses.{responseWritten, responseLeft}
 use borrow.Author.Needs.{needs}
-use Rattle.capi.proofs.responses.cekarum_raw_write_response.Statement.{statement}
-use Rattle.capi.proofs.responses.cekarum_raw_write_response.Tie as tie
+use Rattle.capi.proofs.responses.cekarum_interface_2_write_response.Statement.{statement}
+use Rattle.capi.proofs.responses.cekarum_interface_2_write_response.Tie as tie
 
-pub cekarum-raw-write-response-spec : {M : Type 1} → statement M
+pub cekarum-interface-2-write-response-spec : {M : Type 1} → statement M
 unfolding responseWritten responseLeft
-cekarum-raw-write-response-spec =
+cekarum-interface-2-write-response-spec =
     tie.close
     (tie.spec
     (λ c κs. search needs) (λ c κs. search needs) (λ c κs. search needs) (λ c. search needs)

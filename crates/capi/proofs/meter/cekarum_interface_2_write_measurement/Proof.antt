@@ -2,12 +2,12 @@
 use mathlib.Core.Path.{ap}
 use Rattle.capi.specs.Meter.{measurementWritten, measurementLeft}
 use borrow.Author.Needs.{needs}
-use Rattle.capi.proofs.meter.cekarum_raw_write_measurement.Statement.{statement}
-use Rattle.capi.proofs.meter.cekarum_raw_write_measurement.Tie as tie
+use Rattle.capi.proofs.meter.cekarum_interface_2_write_measurement.Statement.{statement}
+use Rattle.capi.proofs.meter.cekarum_interface_2_write_measurement.Tie as tie
 
-pub cekarum-raw-write-measurement-spec : {M : Type 1} → statement M
+pub cekarum-interface-2-write-measurement-spec : {M : Type 1} → statement M
 unfolding measurementWritten measurementLeft
-cekarum-raw-write-measurement-spec =
+cekarum-interface-2-write-measurement-spec =
     tie.close
     (tie.spec
     (λ c κs. search needs) (λ c. search needs)

@@ -2,12 +2,12 @@
 use mathlib.Core.Path.{ap}
 use Rattle.capi.specs.Requests.{requestWritten, requestLeft}
 use borrow.Author.Needs.{needs}
-use Rattle.capi.proofs.requests.cekarum_raw_write_request.Statement.{statement}
-use Rattle.capi.proofs.requests.cekarum_raw_write_request.Tie as tie
+use Rattle.capi.proofs.requests.cekarum_interface_2_write_request.Statement.{statement}
+use Rattle.capi.proofs.requests.cekarum_interface_2_write_request.Tie as tie
 
-pub cekarum-raw-write-request-spec : {M : Type 1} → statement M
+pub cekarum-interface-2-write-request-spec : {M : Type 1} → statement M
 unfolding requestWritten requestLeft
-cekarum-raw-write-request-spec =
+cekarum-interface-2-write-request-spec =
     tie.close
     (tie.spec
     (λ c κs. search needs) (λ c κs. search needs) (λ c κs. search needs) (λ c. search needs)

@@ -1,11 +1,11 @@
 -- The call is the kernel's, on the inputs that the words say; its answer goes out as a number and a count.
 use mathlib.Core.Path.{ap}
 use borrow.Author.Needs.{needs}
-use Rattle.capi.proofs.calls.cekarum_raw_report.Statement.{statement}
-use Rattle.capi.proofs.calls.cekarum_raw_report.Tie as tie
+use Rattle.capi.proofs.calls.cekarum_interface_2_report.Statement.{statement}
+use Rattle.capi.proofs.calls.cekarum_interface_2_report.Tie as tie
 
-pub cekarum-raw-report-spec : {M : Type 1} → statement M
-cekarum-raw-report-spec =
+pub cekarum-interface-2-report-spec : {M : Type 1} → statement M
+cekarum-interface-2-report-spec =
     tie.close
     (tie.spec
     (λ c κs. search needs) (λ c κs. search needs) (λ c. search needs)

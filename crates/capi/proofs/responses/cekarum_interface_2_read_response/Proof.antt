@@ -3,8 +3,8 @@ use mathlib.Core.Path.{refl, ap, sym, _∙_}
 use Rattle.capi_messages.specs.Responses.{responseWords, responseValues}
 use Rattle.capi.specs.Responses.{responseWordsAfter, responseValuesAfter}
 use borrow.Author.Needs.{needs}
-use Rattle.capi.proofs.responses.cekarum_raw_read_response.Statement.{statement}
-use Rattle.capi.proofs.responses.cekarum_raw_read_response.Tie as tie
+use Rattle.capi.proofs.responses.cekarum_interface_2_read_response.Statement.{statement}
+use Rattle.capi.proofs.responses.cekarum_interface_2_read_response.Tie as tie
 
 returns : tie.Need-returns
 unfolding responseWordsAfter responseValuesAfter
@@ -24,8 +24,8 @@ returns-2 : tie.Need-returns-2
 unfolding responseWordsAfter responseValuesAfter
 returns-2 c = rw (sym (c .before .before .before .read-response .ensures) ∙ c .before .n .given .1) (refl, (refl, refl))
 
-pub cekarum-raw-read-response-spec : {M : Type 1} → statement M
-cekarum-raw-read-response-spec =
+pub cekarum-interface-2-read-response-spec : {M : Type 1} → statement M
+cekarum-interface-2-read-response-spec =
     tie.close
     (tie.spec
     (λ c κs. search needs) (λ c. search needs) (λ c κs. search needs) (λ c κs. search needs) (λ c κs. search needs) (λ c. search needs)

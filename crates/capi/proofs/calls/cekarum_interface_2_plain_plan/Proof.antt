@@ -52,10 +52,10 @@ use Rattle.plan_plain.proofs.plain_plan as callee
 use Rattle.plan_plain.proofs.plain_plan.Symbol as callee-def
 use Rattle.plan_plain.proofs.plain_plan.Symbol.{name as #callee}
 use Rattle.plan_plain.proofs.plain_plan.Met as callee-thm
-use Rattle.capi.proofs.calls.cekarum_raw_plain_plan.Key.{name as #export}
-use Rattle.capi.proofs.calls.cekarum_raw_plain_plan as f
-use Rattle.capi.proofs.calls.cekarum_raw_plain_plan.Statement as stated
-use Rattle.capi.proofs.calls.cekarum_raw_plain_plan.Code as code
+use Rattle.capi.proofs.calls.cekarum_interface_2_plain_plan.Key.{name as #export}
+use Rattle.capi.proofs.calls.cekarum_interface_2_plain_plan as f
+use Rattle.capi.proofs.calls.cekarum_interface_2_plain_plan.Statement as stated
+use Rattle.capi.proofs.calls.cekarum_interface_2_plain_plan.Code as code
 
 abbrev R : RattleType
 R = T.the-row
@@ -207,9 +207,9 @@ meets 𝓤 H A W at-mem run 𝓣 known =
     (goes-none-ref 𝓤 H A W 3 (0 ∷ []) tt (ArrayOf (plain (λ _. u64)) (λ κs. tt) 191) yes, (goes-gave-slice 𝓤 H A W 3 1 tt (plain (λ _. R)), (goes-ref 𝓤 H A W 3 2 tt (plain (λ _. u64)), tt)))
     (f.clauses 𝓤 H A at-mem run) (WpFn 𝓤 H (𝓣 .C) (𝓣 .Λ) code.function) (WpFn-mono 𝓤 H (W .laws) 𝓣 code.function) (walks 𝓤 H A W at-mem run (𝓣 .C) (𝓣 .Λ) (fmOf 𝓤 H (W .laws) 𝓣) known)
 
-pub cekarum-raw-plain-plan-spec : {M : Type 1} → stated.statement M
+pub cekarum-interface-2-plain-plan-spec : {M : Type 1} → stated.statement M
 unfolding code.routine tablesOf
-cekarum-raw-plain-plan-spec 𝓤 H 𝓜 𝓖 𝓡 =
+cekarum-interface-2-plain-plan-spec 𝓤 H 𝓜 𝓖 𝓡 =
     entered 𝓤 H (tripleOf 𝓤 H (𝓖 .A) f.signature (f.spec 𝓤 H (𝓖 .A) (𝓜 .mem) (𝓡 .run)))
     (tables 𝓤 H 𝓜 𝓡 code.env .C) (tables 𝓤 H 𝓜 𝓡 code.env .Λ) #export code.function (code.unfolded 𝓤 H 𝓜 𝓡)
     (meets 𝓤 H (𝓖 .A) (givenOf 𝓤 H 𝓜 𝓖) (𝓜 .mem) (𝓡 .run) (tablesOf 𝓤 H 𝓜 (tables 𝓤 H 𝓜 𝓡 code.env))

@@ -3,8 +3,8 @@ use mathlib.Core.Path.{refl, ap, sym, _∙_}
 use Rattle.capi_messages.specs.Requests.{requestWords, requestValues}
 use Rattle.capi.specs.Requests.{requestWordsAfter, requestValuesAfter}
 use borrow.Author.Needs.{needs}
-use Rattle.capi.proofs.requests.cekarum_raw_read_request.Statement.{statement}
-use Rattle.capi.proofs.requests.cekarum_raw_read_request.Tie as tie
+use Rattle.capi.proofs.requests.cekarum_interface_2_read_request.Statement.{statement}
+use Rattle.capi.proofs.requests.cekarum_interface_2_read_request.Tie as tie
 
 returns : tie.Need-returns
 unfolding requestWordsAfter requestValuesAfter
@@ -28,8 +28,8 @@ returns-3 : tie.Need-returns-3
 unfolding requestWordsAfter requestValuesAfter
 returns-3 c = rw (sym (c .before .before .before .read-request .ensures) ∙ c .before .n .given .1) (refl, (refl, refl))
 
-pub cekarum-raw-read-request-spec : {M : Type 1} → statement M
-cekarum-raw-read-request-spec =
+pub cekarum-interface-2-read-request-spec : {M : Type 1} → statement M
+cekarum-interface-2-read-request-spec =
     tie.close
     (tie.spec
     (λ c κs. search needs) (λ c. search needs) (λ c κs. search needs) (λ c κs. search needs) (λ c κs. search needs) (λ c. search needs) (λ c. search needs)

@@ -1,11 +1,11 @@
 -- The call is the kernel's; its answer goes out as a number and a length.
 use mathlib.Core.Path.{ap}
 use borrow.Author.Needs.{needs}
-use Rattle.capi.proofs.frame.cekarum_raw_frame.Statement.{statement}
-use Rattle.capi.proofs.frame.cekarum_raw_frame.Tie as tie
+use Rattle.capi.proofs.frame.cekarum_interface_2_frame.Statement.{statement}
+use Rattle.capi.proofs.frame.cekarum_interface_2_frame.Tie as tie
 
-pub cekarum-raw-frame-spec : {M : Type 1} → statement M
-cekarum-raw-frame-spec =
+pub cekarum-interface-2-frame-spec : {M : Type 1} → statement M
+cekarum-interface-2-frame-spec =
     tie.close
     (tie.spec
     (λ c κs. search needs) (λ c. search needs)
