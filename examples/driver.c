@@ -36,10 +36,10 @@ static uint64_t current_frame(uint64_t id, int64_t a, int64_t b, int64_t c, uint
     return cekarum_write_request(request, frame, room).length;
 }
 
-/* SetSetpoint of one direction, with no number of seconds: until replaced if it is to last, else it ends after 3,600. */
-static uint64_t setpoint_frame(uint64_t id, int direction, int64_t setpoint, bool lasting, uint8_t *frame, uint64_t room)
+/* SetSetpoint of one direction: until replaced, or with its duration left out, so that it ends after 3,600 s. */
+static uint64_t setpoint_frame(uint64_t id, int direction, int64_t setpoint, bool omitted, uint8_t *frame, uint64_t room)
 {
-    struct cekarum_request request = {.id = id, .endpoint = 1, .feature = 5, .command = 3, .lasting = lasting};
+    struct cekarum_request request = {.id = id, .endpoint = 1, .feature = 5, .command = 3, .duration_omitted = omitted};
     *(direction == 0 ? &request.consumption : &request.production) = (struct cekarum_field){CEKARUM_NUMBER, setpoint};
     return cekarum_write_request(request, frame, room).length;
 }
@@ -154,8 +154,8 @@ static void poll_and_obey(uint64_t *device, struct connection *c, uint64_t now)
 static void set_targets(uint64_t *device, struct connection *manager, struct connection *app, uint64_t now)
 {
     uint8_t sent[CEKARUM_REQUEST_MAX];
-    stream(device, app, now, sent, setpoint_frame(13, 0, 7400000, false, sent, sizeof sent));
-    stream(device, manager, now, sent, setpoint_frame(14, 1, 2000000, true, sent, sizeof sent));
+    stream(device, app, now, sent, setpoint_frame(13, 0, 7400000, true, sent, sizeof sent));
+    stream(device, manager, now, sent, setpoint_frame(14, 1, 2000000, false, sent, sizeof sent));
 }
 
 /* Whether an ask shows these values once the clock alone has moved to a second. */

@@ -11,9 +11,17 @@
  * - two lent things of one call do not overlap, unless both are only read;
  * - calls on one device do not overlap in time; calls on two devices may.
  *
- * A refusal changes nothing: neither the device nor its clock nor a lent buffer, except that cekarum_frame may write a response
- * frame to the front of its output, and that cekarum_receive closes its receiver at a bad length. Beside a refusal values are -1
- * and lengths 0, except the length of such a response. What lies behind a response, the rows or the pairs stays as it was.
+ * A refusal changes nothing that was lent: neither the device nor its clock, nor a buffer, a receiver or a front. There are three
+ * exceptions: cekarum_start makes a fresh device that accepts nothing, cekarum_frame may write a response frame to the front of
+ * its output, and cekarum_receive closes its receiver at a bad length. What lies behind a response, the rows or the pairs stays
+ * as it was.
+ *
+ * Beside a refusal stands:
+ * - 0 for what was written or taken (bytes, rows, pairs), except the length of a response that cekarum_frame wrote;
+ * - -1 for the seconds of a tick;
+ * - of a request that was to be read, 0 and no in all members;
+ * - of a response that was to be read, 0 and no, and -1 for its values and its reason;
+ * - of a measurement that was to be read, nothing is there, and all numbers are 0.
  */
 #ifndef CEKARUM_H
 #define CEKARUM_H
@@ -25,28 +33,34 @@
 extern "C" {
 #endif
 
+/* What this header and the archive have agreed upon: the functions of the library, what they take and what they leave. The number
+ * is part of their names, so that a header and an archive of two interfaces do not link: `undefined reference to
+ * cekarum_interface_2_start` says that the archive is of another interface than 2. Take both from one folder of bin/archive. */
+#define CEKARUM_INTERFACE 2
+
 /* The functions of the library, the same on every board: numbers of 64 bits, pointers, and counts of 64 bits behind them; each
  * gives its refusal number, save the ask, which has none. They are for this header alone: call what stands below. */
-uint64_t cekarum_raw_start(uint64_t *device, const uint64_t *settings);
-uint64_t cekarum_raw_join(uint64_t *device, uint64_t zone, uint64_t rank, uint64_t time);
-uint64_t cekarum_raw_leave(uint64_t *device, uint64_t zone, uint64_t time);
-uint64_t cekarum_raw_lost(uint64_t *device, uint64_t zone, uint64_t time);
-uint64_t cekarum_raw_back(uint64_t *device, uint64_t zone, uint64_t time);
-uint64_t cekarum_raw_override(uint64_t *device, uint64_t reason, uint64_t direction, uint64_t time);
-uint64_t cekarum_raw_clear(uint64_t *device, uint64_t time);
-uint64_t cekarum_raw_move(uint64_t *device, uint64_t time);
-void cekarum_raw_ask(const uint64_t *device, int64_t *values);
-uint64_t cekarum_raw_plan(const uint64_t *device, int64_t *rows, uint64_t room, uint64_t *count);
-uint64_t cekarum_raw_frame(uint64_t *device, uint64_t zone, uint64_t time, const uint8_t *in, uint64_t in_length, uint8_t *out,
-                           uint64_t out_length, uint64_t *written);
-uint64_t cekarum_raw_read_request(const uint8_t *in, uint64_t in_length, uint64_t *words, int64_t *values);
-uint64_t cekarum_raw_write_request(const uint64_t *words, const int64_t *values, uint8_t *out, uint64_t out_length,
-                                   uint64_t *written);
-uint64_t cekarum_raw_read_response(uint64_t command, const uint8_t *in, uint64_t in_length, uint64_t *words, int64_t *values);
-uint64_t cekarum_raw_write_response(uint64_t command, const uint64_t *words, const int64_t *values, uint8_t *out,
-                                    uint64_t out_length, uint64_t *written);
-uint64_t cekarum_raw_report(const uint64_t *inputs, const uint16_t *attributes, uint64_t attribute_count, uint64_t *pairs,
-                            uint64_t room, uint64_t *count);
+uint64_t cekarum_interface_2_start(uint64_t *device, const uint64_t *settings);
+uint64_t cekarum_interface_2_join(uint64_t *device, uint64_t zone, uint64_t rank, uint64_t time);
+uint64_t cekarum_interface_2_leave(uint64_t *device, uint64_t zone, uint64_t time);
+uint64_t cekarum_interface_2_lost(uint64_t *device, uint64_t zone, uint64_t time);
+uint64_t cekarum_interface_2_back(uint64_t *device, uint64_t zone, uint64_t time);
+uint64_t cekarum_interface_2_override(uint64_t *device, uint64_t reason, uint64_t direction, uint64_t time);
+uint64_t cekarum_interface_2_clear(uint64_t *device, uint64_t time);
+uint64_t cekarum_interface_2_move(uint64_t *device, uint64_t time);
+void cekarum_interface_2_ask(const uint64_t *device, int64_t *values);
+uint64_t cekarum_interface_2_plan(const uint64_t *device, int64_t *rows, uint64_t room, uint64_t *count);
+uint64_t cekarum_interface_2_frame(uint64_t *device, uint64_t zone, uint64_t time, const uint8_t *in, uint64_t in_length,
+                                   uint8_t *out, uint64_t out_length, uint64_t *written);
+uint64_t cekarum_interface_2_read_request(const uint8_t *in, uint64_t in_length, uint64_t *words, int64_t *values);
+uint64_t cekarum_interface_2_write_request(const uint64_t *words, const int64_t *values, uint8_t *out, uint64_t out_length,
+                                           uint64_t *written);
+uint64_t cekarum_interface_2_read_response(uint64_t command, const uint8_t *in, uint64_t in_length, uint64_t *words,
+                                           int64_t *values);
+uint64_t cekarum_interface_2_write_response(uint64_t command, const uint64_t *words, const int64_t *values, uint8_t *out,
+                                            uint64_t out_length, uint64_t *written);
+uint64_t cekarum_interface_2_report(const uint64_t *inputs, const uint16_t *attributes, uint64_t attribute_count, uint64_t *pairs,
+                                    uint64_t room, uint64_t *count);
 
 /* Words of a device. The driver lends all of them to each call and never looks inside. */
 #define CEKARUM_WORDS 191
@@ -122,7 +136,7 @@ static inline uint64_t cekarum_start(uint64_t *device, struct cekarum_settings s
                                 settings.maximum[0],  settings.maximum[1],     settings.failsafe[0],       settings.failsafe[1],
                                 settings.failsafe_duration, settings.energy_manager, settings.phases,
                                 settings.accepts_current_limits};
-    return cekarum_raw_start(device, words);
+    return cekarum_interface_2_start(device, words);
 }
 
 /* ---- zones, links, override, the clock ----
@@ -132,45 +146,45 @@ static inline uint64_t cekarum_start(uint64_t *device, struct cekarum_settings s
 /* Joins a zone, link up, with no values; rank 1 is the highest, 3 the lowest. Refuses: 5, 6, 7, 8. */
 static inline uint64_t cekarum_join(uint64_t *device, uint64_t zone, uint64_t rank, uint64_t time)
 {
-    return cekarum_raw_join(device, zone, rank, time);
+    return cekarum_interface_2_join(device, zone, rank, time);
 }
 
 /* Removes a zone and all its values. Refuses: 5, 9. */
 static inline uint64_t cekarum_leave(uint64_t *device, uint64_t zone, uint64_t time)
 {
-    return cekarum_raw_leave(device, zone, time);
+    return cekarum_interface_2_leave(device, zone, time);
 }
 
 /* A zone's link went down. When no link is up any more, the failsafe begins. Refuses: 5, 9, 7. */
 static inline uint64_t cekarum_lost(uint64_t *device, uint64_t zone, uint64_t time)
 {
-    return cekarum_raw_lost(device, zone, time);
+    return cekarum_interface_2_lost(device, zone, time);
 }
 
 /* A zone's link is up again. Refuses: 5, 9, 7. */
 static inline uint64_t cekarum_back(uint64_t *device, uint64_t zone, uint64_t time)
 {
-    return cekarum_raw_back(device, zone, time);
+    return cekarum_interface_2_back(device, zone, time);
 }
 
 /* Sets the override, or replaces it. Reasons 0 and 1 go with consumption (direction 0), 2 with either; on an energy manager
  * also 3 with consumption and 4 with production (direction 1). Refuses: 5, 18. */
 static inline uint64_t cekarum_override(uint64_t *device, uint64_t reason, uint64_t direction, uint64_t time)
 {
-    return cekarum_raw_override(device, reason, direction, time);
+    return cekarum_interface_2_override(device, reason, direction, time);
 }
 
 /* Clears the override. Refuses: 5, 7. */
 static inline uint64_t cekarum_clear(uint64_t *device, uint64_t time)
 {
-    return cekarum_raw_clear(device, time);
+    return cekarum_interface_2_clear(device, time);
 }
 
 /* Moves the clock to this second and nothing else: before an ask or a plan, where no other call has brought the device up to now.
  * Refuses: 5. */
 static inline uint64_t cekarum_move(uint64_t *device, uint64_t time)
 {
-    return cekarum_raw_move(device, time);
+    return cekarum_interface_2_move(device, time);
 }
 
 /* ---- what holds, and what will change ----
@@ -196,7 +210,7 @@ struct cekarum_answer {
 static inline struct cekarum_answer cekarum_ask(const uint64_t *device)
 {
     struct cekarum_answer answer;
-    cekarum_raw_ask(device, answer.values);
+    cekarum_interface_2_ask(device, &answer.values[0]);
     return answer;
 }
 
@@ -207,7 +221,7 @@ static inline struct cekarum_answer cekarum_ask(const uint64_t *device)
 static inline struct cekarum_written cekarum_plan(const uint64_t *device, int64_t *rows, uint64_t room)
 {
     struct cekarum_written plan;
-    plan.number = cekarum_raw_plan(device, rows, room, &plan.length);
+    plan.number = cekarum_interface_2_plan(device, rows, room, &plan.length);
     return plan;
 }
 
@@ -229,14 +243,14 @@ struct cekarum_row {
 };
 
 /* The export beneath cekarum_plain_plan; nothing else calls it. */
-uint64_t cekarum_raw_plain_plan(const uint64_t *device, struct cekarum_row *rows, uint64_t room, uint64_t *count);
+uint64_t cekarum_interface_2_plain_plan(const uint64_t *device, struct cekarum_row *rows, uint64_t room, uint64_t *count);
 
 /* The rows of cekarum_plan, made the slow way for a test bench.
  * room and length are in records; CEKARUM_ROWS_MAX is always enough. Refuses: 15. */
 static inline struct cekarum_written cekarum_plain_plan(const uint64_t *device, struct cekarum_row *rows, uint64_t room)
 {
     struct cekarum_written plan;
-    plan.number = cekarum_raw_plain_plan(device, rows, room, &plan.length);
+    plan.number = cekarum_interface_2_plain_plan(device, rows, room, &plan.length);
     return plan;
 }
 
@@ -250,7 +264,7 @@ static inline struct cekarum_written cekarum_frame(uint64_t *device, uint64_t zo
                                                    uint64_t in_length, uint8_t *out, uint64_t out_length)
 {
     struct cekarum_written response;
-    response.number = cekarum_raw_frame(device, zone, time, in, in_length, out, out_length, &response.length);
+    response.number = cekarum_interface_2_frame(device, zone, time, in, in_length, out, out_length, &response.length);
     return response;
 }
 
@@ -268,8 +282,8 @@ struct cekarum_received {
 };
 
 /* The export beneath cekarum_receive; nothing else calls it. */
-uint64_t cekarum_raw_receive(uint64_t *receiver, uint8_t *room, uint64_t room_length, const uint8_t *scrap,
-                             uint64_t scrap_length, uint64_t *counts);
+uint64_t cekarum_interface_2_receive(uint64_t *receiver, uint8_t *room, uint64_t room_length, const uint8_t *scrap,
+                                     uint64_t scrap_length, uint64_t *counts);
 
 /* Takes what the network brought, of every length, none included, up to the end of one frame. The receiver and the room belong
  * together and are kept between the calls of one connection; CEKARUM_FRAME_MAX bytes of room are needed and always enough.
@@ -281,7 +295,7 @@ static inline struct cekarum_received cekarum_receive(struct cekarum_receiver *r
 {
     uint64_t counts[2] = {0, 0};
     struct cekarum_received received;
-    received.number = cekarum_raw_receive(receiver->words, room, room_length, scrap, scrap_length, counts);
+    received.number = cekarum_interface_2_receive(receiver->words, room, room_length, scrap, scrap_length, counts);
     received.taken = counts[0];
     received.length = counts[1];
     return received;
@@ -301,7 +315,7 @@ struct cekarum_second {
 };
 
 /* The export beneath cekarum_tick; nothing else calls it. */
-uint64_t cekarum_raw_tick(uint64_t *front, uint64_t tick, int64_t *seconds);
+uint64_t cekarum_interface_2_tick(uint64_t *front, uint64_t tick, int64_t *seconds);
 
 /* Takes a reading. The first gives second 0. Read at least once in 2^31 ms, some 24.8 days, and the seconds are the true
  * milliseconds since the first reading divided by 1,000, rounded down, whatever the counter showed then and however often it has
@@ -311,7 +325,7 @@ uint64_t cekarum_raw_tick(uint64_t *front, uint64_t tick, int64_t *seconds);
 static inline struct cekarum_second cekarum_tick(struct cekarum_front *front, uint32_t tick)
 {
     struct cekarum_second read;
-    read.number = cekarum_raw_tick(front->words, tick, &read.seconds);
+    read.number = cekarum_interface_2_tick(front->words, tick, &read.seconds);
     return read;
 }
 
@@ -326,11 +340,12 @@ struct cekarum_field {
 };
 
 /* Commands 1 SetLimit and 3 SetSetpoint use the two fields, 5 SetCurrentLimits the phases and the direction, all three duration
- * and cause, and SetSetpoint alone lasting; 2 ClearLimit, 4 ClearSetpoint and 6 ClearCurrentLimits use the direction if directed.
- * The other members are 0 or no when read and passed over when written.
- * A duration of 0: limits and currents stand until replaced, and so does a lasting setpoint, whose 0 is written. A setpoint that
- * is not lasting goes out without a duration and ends after 3,600 s: a request that starts all zero is such a one until it says
- * otherwise. Beside another duration lasting is no when read and passed over when written. */
+ * and cause, and SetSetpoint alone duration_omitted; 2 ClearLimit, 4 ClearSetpoint and 6 ClearCurrentLimits use the direction if
+ * directed. The other members are 0 or no when read and passed over when written.
+ * A duration of 0 is until replaced, a request that starts all zero included. Of a setpoint the 0 is written; of limits and
+ * currents it is left out, which is the same there. A setpoint without a duration ends after 3,600 s: duration_omitted beside a
+ * duration of 0 leaves it out, and is yes where none was read. Beside another duration it is no when read and passed over when
+ * written. */
 struct cekarum_request {
     uint64_t id;       /* 32 bits */
     uint64_t endpoint; /* 1 is served; 8 bits */
@@ -343,7 +358,7 @@ struct cekarum_request {
     bool directed;      /* whether a clear names a direction; if not, it clears both */
     uint64_t direction; /* 0 or 1 */
     struct cekarum_field phases[3]; /* mA by phase: A, B, C */
-    bool lasting; /* whether a setpoint with duration 0 stands until replaced; if not, it ends after 3,600 s */
+    bool duration_omitted; /* whether a setpoint goes out, or came, without a duration: it ends after 3,600 s */
 };
 
 struct cekarum_request_read {
@@ -351,13 +366,13 @@ struct cekarum_request_read {
     struct cekarum_request request;
 };
 
-/* Reads a frame without applying it. Refuses: 1, 2, 3 (envelope), 4, 3 (parameters). All of the request is then 0. */
+/* Reads a frame without applying it. Refuses: 1, 2, 3 (envelope), 4, 3 (parameters). All of the request is then 0 or no. */
 static inline struct cekarum_request_read cekarum_read_request(const uint8_t *in, uint64_t in_length)
 {
     struct cekarum_request_read read;
-    uint64_t words[14];
-    int64_t values[5];
-    read.number = cekarum_raw_read_request(in, in_length, words, values);
+    uint64_t words[14] = {0}; /* what stands beside a refusal, which leaves them */
+    int64_t values[5] = {0};
+    read.number = cekarum_interface_2_read_request(in, in_length, words, values);
     read.request.id = words[0];
     read.request.endpoint = words[1];
     read.request.feature = words[2];
@@ -374,14 +389,13 @@ static inline struct cekarum_request_read cekarum_read_request(const uint8_t *in
         read.request.phases[phase].kind = words[10 + phase];
         read.request.phases[phase].value = values[2 + phase];
     }
-    read.request.lasting = words[13] != 0;
+    read.request.duration_omitted = words[13] != 0;
     return read;
 }
 
-/* Writes a request frame; a duration of 0 is left out, save that of a lasting SetSetpoint. Refuses: 3 for a value out of range (a
- * kind above 2, or null in SetSetpoint, included), 4 for an endpoint, feature or command that is not served, 15. Negative values
- * and a Set command that names nothing are written: a device refuses them with 13. CEKARUM_REQUEST_MAX bytes of room are always
- * enough. */
+/* Writes a request frame. Refuses: 3 for a value out of range (a kind above 2, or null in SetSetpoint, included), 4 for an
+ * endpoint, feature or command that is not served, 15. Negative values and a Set command that names nothing are written: a device
+ * refuses them with 13. CEKARUM_REQUEST_MAX bytes of room are always enough. */
 static inline struct cekarum_written cekarum_write_request(struct cekarum_request request, uint8_t *out, uint64_t out_length)
 {
     const uint64_t words[14] = {request.id,
@@ -397,11 +411,11 @@ static inline struct cekarum_written cekarum_write_request(struct cekarum_reques
                                 request.phases[0].kind,
                                 request.phases[1].kind,
                                 request.phases[2].kind,
-                                request.lasting};
+                                request.duration_omitted};
     const int64_t values[5] = {request.consumption.value, request.production.value, request.phases[0].value,
                                request.phases[1].value, request.phases[2].value};
     struct cekarum_written written;
-    written.number = cekarum_raw_write_request(words, values, out, out_length, &written.length);
+    written.number = cekarum_interface_2_write_request(words, values, out, out_length, &written.length);
     return written;
 }
 
@@ -425,13 +439,14 @@ struct cekarum_response_read {
     struct cekarum_response response;
 };
 
-/* Reads the response to a command. Refuses: 4 for a command that is not served, 1, 2, 3. All is then 0, no or -1. */
+/* Reads the response to a command. Refuses: 4 for a command that is not served, 1, 2, 3. All is then 0 or no, and -1 what a
+ * response may lack: its values and its reason. */
 static inline struct cekarum_response_read cekarum_read_response(uint64_t command, const uint8_t *in, uint64_t in_length)
 {
     struct cekarum_response_read read;
-    uint64_t words[5];
-    int64_t values[6];
-    read.number = cekarum_raw_read_response(command, in, in_length, words, values);
+    uint64_t words[5] = {0}; /* what stands beside a refusal, which leaves them */
+    int64_t values[6] = {-1, -1, -1, -1, -1, -1};
+    read.number = cekarum_interface_2_read_response(command, in, in_length, words, values);
     read.response.id = words[0];
     read.response.status = words[1];
     read.response.result = words[2] != 0;
@@ -455,7 +470,7 @@ static inline struct cekarum_written cekarum_write_response(uint64_t command, st
     const int64_t values[6] = {response.consumption, response.production,  response.reason,
                                response.currents[0], response.currents[1], response.currents[2]};
     struct cekarum_written written;
-    written.number = cekarum_raw_write_response(command, words, values, out, out_length, &written.length);
+    written.number = cekarum_interface_2_write_response(command, words, values, out, out_length, &written.length);
     return written;
 }
 
@@ -482,7 +497,7 @@ static inline struct cekarum_written cekarum_report(struct cekarum_inputs inputs
                                inputs.accepts_limits, inputs.accepts_current_limits,
                                inputs.accepts_setpoints, inputs.has_process};
     struct cekarum_written report;
-    report.number = cekarum_raw_report(words, attributes, count, pairs, room, &report.length);
+    report.number = cekarum_interface_2_report(words, attributes, count, pairs, room, &report.length);
     return report;
 }
 
@@ -555,11 +570,18 @@ struct cekarum_measurement {
 /* The exports beneath the calls below, and the words that they take: two for each place, first 0 for nothing, 1 for the number n,
  * 2 for -1 - n, then n. Nothing else calls them. */
 #define CEKARUM_MEASUREMENT_WORDS 72
-uint64_t cekarum_raw_read_measurement(const uint8_t *in, uint64_t in_length, uint64_t *words);
-uint64_t cekarum_raw_write_measurement(const uint64_t *words, uint8_t *out, uint64_t out_length, uint64_t *written);
-uint64_t cekarum_raw_power_flow(const uint64_t *words);
-uint64_t cekarum_raw_dc_flow(const uint64_t *words);
-uint64_t cekarum_raw_phase_flow(const uint64_t *words, uint64_t phase);
+uint64_t cekarum_interface_2_read_measurement(const uint8_t *in, uint64_t in_length, uint64_t *words);
+uint64_t cekarum_interface_2_write_measurement(const uint64_t *words, uint8_t *out, uint64_t out_length, uint64_t *written);
+uint64_t cekarum_interface_2_power_flow(const uint64_t *words);
+uint64_t cekarum_interface_2_dc_flow(const uint64_t *words);
+uint64_t cekarum_interface_2_phase_flow(const uint64_t *words, uint64_t phase);
+
+/* A cast, as each of the two languages writes it. */
+#ifdef __cplusplus
+#define CEKARUM_AS(type, number) static_cast<type>(number)
+#else
+#define CEKARUM_AS(type, number) ((type)(number))
+#endif
 
 /* A number to its words, and from them; the words of what is not there are 0. */
 static inline void cekarum_put_unsigned(uint64_t *words, uint64_t there, int place, uint64_t value)
@@ -571,13 +593,13 @@ static inline void cekarum_put_unsigned(uint64_t *words, uint64_t there, int pla
 
 static inline void cekarum_put_signed(uint64_t *words, uint64_t there, int place, int64_t value)
 {
-    cekarum_put_unsigned(words, there, place, value < 0 ? ~(uint64_t)value : (uint64_t)value);
+    cekarum_put_unsigned(words, there, place, value < 0 ? ~CEKARUM_AS(uint64_t, value) : CEKARUM_AS(uint64_t, value));
     words[2 * place] <<= value < 0;
 }
 
 static inline int64_t cekarum_get_signed(const uint64_t *words, int place)
 {
-    return words[2 * place] == 2 ? -1 - (int64_t)words[2 * place + 1] : (int64_t)words[2 * place + 1];
+    return words[2 * place] == 2 ? -1 - CEKARUM_AS(int64_t, words[2 * place + 1]) : CEKARUM_AS(int64_t, words[2 * place + 1]);
 }
 
 /* The words of a measurement. */
@@ -626,24 +648,24 @@ static inline void cekarum_measurement_of(const uint64_t *words, struct cekarum_
         m->ac_reactive_power_per_phase[i] = cekarum_get_signed(words, CEKARUM_AC_REACTIVE_POWER_PER_PHASE + i);
         m->ac_apparent_power_per_phase[i] = cekarum_get_signed(words, CEKARUM_AC_APPARENT_POWER_PER_PHASE + i);
         m->ac_current_per_phase[i] = cekarum_get_signed(words, CEKARUM_AC_CURRENT_PER_PHASE + i);
-        m->ac_voltage_per_phase[i] = (uint32_t)words[2 * (CEKARUM_AC_VOLTAGE_PER_PHASE + i) + 1];
-        m->ac_voltage_phase_to_phase_pair[i] = (uint32_t)words[2 * (CEKARUM_AC_VOLTAGE_PHASE_TO_PHASE_PAIR + i) + 1];
+        m->ac_voltage_per_phase[i] = CEKARUM_AS(uint32_t, words[2 * (CEKARUM_AC_VOLTAGE_PER_PHASE + i) + 1]);
+        m->ac_voltage_phase_to_phase_pair[i] = CEKARUM_AS(uint32_t, words[2 * (CEKARUM_AC_VOLTAGE_PHASE_TO_PHASE_PAIR + i) + 1]);
     }
-    m->ac_frequency = (uint32_t)words[2 * CEKARUM_AC_FREQUENCY + 1];
-    m->power_factor = (int16_t)cekarum_get_signed(words, CEKARUM_POWER_FACTOR);
+    m->ac_frequency = CEKARUM_AS(uint32_t, words[2 * CEKARUM_AC_FREQUENCY + 1]);
+    m->power_factor = CEKARUM_AS(int16_t, cekarum_get_signed(words, CEKARUM_POWER_FACTOR));
     m->ac_energy_consumed = words[2 * CEKARUM_AC_ENERGY_CONSUMED + 1];
     m->ac_energy_produced = words[2 * CEKARUM_AC_ENERGY_PRODUCED + 1];
     m->dc_power = cekarum_get_signed(words, CEKARUM_DC_POWER);
     m->dc_current = cekarum_get_signed(words, CEKARUM_DC_CURRENT);
-    m->dc_voltage = (uint32_t)words[2 * CEKARUM_DC_VOLTAGE + 1];
+    m->dc_voltage = CEKARUM_AS(uint32_t, words[2 * CEKARUM_DC_VOLTAGE + 1]);
     m->dc_energy_in = words[2 * CEKARUM_DC_ENERGY_IN + 1];
     m->dc_energy_out = words[2 * CEKARUM_DC_ENERGY_OUT + 1];
-    m->state_of_charge = (uint8_t)words[2 * CEKARUM_STATE_OF_CHARGE + 1];
-    m->state_of_health = (uint8_t)words[2 * CEKARUM_STATE_OF_HEALTH + 1];
+    m->state_of_charge = CEKARUM_AS(uint8_t, words[2 * CEKARUM_STATE_OF_CHARGE + 1]);
+    m->state_of_health = CEKARUM_AS(uint8_t, words[2 * CEKARUM_STATE_OF_HEALTH + 1]);
     m->state_of_energy = words[2 * CEKARUM_STATE_OF_ENERGY + 1];
     m->useable_capacity = words[2 * CEKARUM_USEABLE_CAPACITY + 1];
-    m->cycle_count = (uint32_t)words[2 * CEKARUM_CYCLE_COUNT + 1];
-    m->temperature = (int16_t)cekarum_get_signed(words, CEKARUM_TEMPERATURE);
+    m->cycle_count = CEKARUM_AS(uint32_t, words[2 * CEKARUM_CYCLE_COUNT + 1]);
+    m->temperature = CEKARUM_AS(int16_t, cekarum_get_signed(words, CEKARUM_TEMPERATURE));
 }
 
 struct cekarum_measurement_read {
@@ -657,8 +679,8 @@ struct cekarum_measurement_read {
 static inline struct cekarum_measurement_read cekarum_read_measurement(const uint8_t *in, uint64_t in_length)
 {
     struct cekarum_measurement_read read;
-    uint64_t words[CEKARUM_MEASUREMENT_WORDS];
-    read.number = cekarum_raw_read_measurement(in, in_length, words);
+    uint64_t words[CEKARUM_MEASUREMENT_WORDS] = {0}; /* nothing is there beside a refusal, which leaves them */
+    read.number = cekarum_interface_2_read_measurement(in, in_length, words);
     cekarum_measurement_of(words, &read.measurement);
     return read;
 }
@@ -671,7 +693,7 @@ static inline struct cekarum_written cekarum_write_measurement(const struct ceka
     struct cekarum_written written;
     uint64_t words[CEKARUM_MEASUREMENT_WORDS];
     cekarum_measurement_words(measurement, words);
-    written.number = cekarum_raw_write_measurement(words, out, out_length, &written.length);
+    written.number = cekarum_interface_2_write_measurement(words, out, out_length, &written.length);
     return written;
 }
 
@@ -684,21 +706,21 @@ static inline uint64_t cekarum_power_flow(const struct cekarum_measurement *meas
 {
     uint64_t words[CEKARUM_MEASUREMENT_WORDS];
     cekarum_measurement_words(measurement, words);
-    return cekarum_raw_power_flow(words);
+    return cekarum_interface_2_power_flow(words);
 }
 
 static inline uint64_t cekarum_dc_flow(const struct cekarum_measurement *measurement)
 {
     uint64_t words[CEKARUM_MEASUREMENT_WORDS];
     cekarum_measurement_words(measurement, words);
-    return cekarum_raw_dc_flow(words);
+    return cekarum_interface_2_dc_flow(words);
 }
 
 static inline uint64_t cekarum_phase_flow(const struct cekarum_measurement *measurement, uint64_t phase)
 {
     uint64_t words[CEKARUM_MEASUREMENT_WORDS];
     cekarum_measurement_words(measurement, words);
-    return cekarum_raw_phase_flow(words, phase);
+    return cekarum_interface_2_phase_flow(words, phase);
 }
 
 #ifdef __cplusplus

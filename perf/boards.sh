@@ -219,6 +219,18 @@ board_build() { # TARGET
     board_link "$1" "$at/compare" "$at/compare.o" "$at/mix.o" "$at/kernel_plain.o" "$at/plain.o" "$at/kernel_proved.o" "$at/libcekarum.a"
 }
 
+# A program over a header of another interface, 0, does not link with the archive, and the linker names the interface.
+other_interface() { # TARGET
+    local at=$boards/$1
+    sed 's/cekarum_interface_[0-9]*_/cekarum_interface_0_/g' "$at/cekarum.h" >"$at/other.h"
+    board_cc "$1" "$here/base.c" "$at/other.o" -include "$at/other.h" || return 1
+    if (link_board "$1" "$at/other" "$at/other.o" "$at/libcekarum.a") >"$at/link.log" 2>&1; then
+        echo "$1: a header of another interface links"
+        return 1
+    fi
+    grep -q cekarum_interface_0_start "$at/link.log" || { cat "$at/link.log"; return 1; }
+}
+
 # The bare board of examples/, built as docs/BOARDS.md says and run for its first seconds. It never ends by itself.
 board_example() {
     local at=$boards/cortex-m4
@@ -232,6 +244,7 @@ board_example() {
 board() { # TARGET CALLS
     local at=$boards/$1 first=$boards/x86_64-linux status=0
     board_build "$1" || return 1
+    other_interface "$1" || return 1
     board_run "$1" "$at/driver" >"$at/driver.out" || status=$?
     board_run "$1" "$at/compare" "$2" 1 >"$at/compare.out" || status=$?
     echo "$1: $(tail -n 1 "$at/compare.out")"

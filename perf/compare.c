@@ -1,5 +1,6 @@
 /* Drives two kernels with one random mix of calls and compares all that can be seen: numbers, lengths, response bytes, rows,
-   pairs, values, what lies behind them in the lent buffers, and that a refusal, an ask and a plan leave the device as it was.
+   pairs, values, what lies behind them in the lent buffers, that a refusal, an ask and a plan leave the device as it was, and that
+   a refused read leaves what it was lent.
    Words: how many calls (default 1,000,000), the seed (default 1). Ends with 'N compared, 0 differ'; stops early at 100
    differences. */
 #include "kernel.h"
@@ -199,15 +200,15 @@ static bool same_fields(const struct plain_field *x, const struct plain_field *y
 }
 
 /* What a command does not use is absent, 0 or no when read. */
-static bool same_request(const struct plain_request *x, const struct plain_request *y)
+bool same_request(const struct plain_request *x, const struct plain_request *y)
 {
     if (x->id != y->id || x->endpoint != y->endpoint || x->feature != y->feature || x->command != y->command)
         return false;
     return same_fields(x->field, y->field, 2) && same_fields(x->phase, y->phase, PLAIN_PHASES) && x->duration == y->duration &&
-           x->cause == y->cause && x->has_direction == y->has_direction && x->direction == y->direction && x->lasting == y->lasting;
+           x->cause == y->cause && x->has_direction == y->has_direction && x->direction == y->direction && x->omitted == y->omitted;
 }
 
-static bool same_response(const struct plain_response *x, const struct plain_response *y)
+bool same_response(const struct plain_response *x, const struct plain_response *y)
 {
     return x->id == y->id && x->status == y->status && x->has_result == y->has_result && x->applied == y->applied &&
            x->state == y->state && x->reason == y->reason && memcmp(x->value, y->value, sizeof x->value) == 0 &&
@@ -282,9 +283,41 @@ static void complain(const char *what)
     }
 }
 
-/* Beside an answer: no number outside the table, and a refusal, an ask and a plan leave the device as it was. */
-static void judge_one(const struct side *s)
+/* What a read is lent, and how many bytes; nothing for another call. */
+static void *lent_to_read(struct side *s, size_t *n)
 {
+    switch (ask.call) {
+    case READ_REQUEST:
+        *n = sizeof s->request;
+        return &s->request;
+    case READ_RESPONSE:
+        *n = sizeof s->response;
+        return &s->response;
+    case READ_MEASUREMENT:
+        *n = sizeof s->measurement;
+        return &s->measurement;
+    default:
+        *n = 0;
+        return NULL;
+    }
+}
+
+static bool is_filled(const uint8_t *p, size_t n, uint8_t fill)
+{
+    for (size_t i = 0; i < n; i++)
+        if (p[i] != fill)
+            return false;
+    return true;
+}
+
+/* Beside an answer: no number outside the table, a refusal, an ask and a plan leave the device as it was, and a refused read leaves
+   what it was lent. */
+static void judge_one(struct side *s, uint8_t fill)
+{
+    size_t n;
+    const uint8_t *lent = lent_to_read(s, &n);
+    if (s->number != 0 && !is_filled(lent, n, fill))
+        complain("a refused read wrote");
     if (s->number >= NUMBERS)
         complain("a number outside the table");
     if (((s->number != 0 && ask.call != START) || ask.call > FRAME) && memcmp(s->device, s->before, s->k->size) != 0)
@@ -295,7 +328,7 @@ static void judge_one(const struct side *s)
 static void judge_measurement(const struct side *s)
 {
     static uint8_t payload[PLAIN_MEASUREMENT_MAX];
-    struct plain_measurement again;
+    struct plain_measurement again = {0};
     struct plain_written w = s->k->write_measurement(&s->measurement, payload, sizeof payload);
     if (w.number != 0 || s->k->read_measurement(payload, w.length, &again) != 0 ||
         memcmp(&again, &s->measurement, sizeof again) != 0)
@@ -308,7 +341,7 @@ static void tally_setpoint(void)
 {
     struct plain_request r;
     if (first_kernel.read_request(ask.in.at, ask.in.n, &r) == 0 && r.command == 3)
-        setpoints[r.duration != 0 ? 2 : r.lasting]++;
+        setpoints[r.duration != 0 ? 2 : !r.omitted]++;
 }
 
 static void tally(const struct side *s)
@@ -343,9 +376,13 @@ static uint64_t both(void)
             memset(s->records, fill, sizeof s->records);
         if (ask.call == REPORT)
             memset(s->pairs, fill, sizeof s->pairs);
+        size_t lent;
+        void *read = lent_to_read(s, &lent);
+        if (read != NULL)
+            memset(read, fill, lent);
         memcpy(s->before, s->device, s->k->size);
         s->number = call_one(s, &ask);
-        judge_one(s);
+        judge_one(s, fill);
         if (ask.call == READ_MEASUREMENT && s->number == 0)
             judge_measurement(s);
     }
@@ -613,12 +650,13 @@ static void start(bool sound)
     both();
 }
 
-/* A Set command that gives one quantity a value, written with the first kernel's writer; one of two without a duration lasts. */
+/* A Set command that gives one quantity a value, written with the first kernel's writer; of two setpoints without a number of
+   seconds one lasts. */
 static void set_frame(unsigned quantity, uint64_t value, uint64_t lasts)
 {
     struct plain_request r = {.id = mix_any() >> 32, .endpoint = 1, .feature = 5, .duration = lasts};
     struct plain_field f = {PLAIN_NUMBER, (int64_t)value};
-    r.lasting = mix_chance(500);
+    r.omitted = mix_chance(500);
     r.command = quantity < 2 ? 1 : quantity < 4 ? 3 : 5;
     if (quantity < 4) {
         r.field[quantity % 2] = f;

@@ -293,7 +293,7 @@ static bool do_meas(char **w)
 {
     static const char *const phases[] = {"10.0", "10.1", "10.2"};
     uint8_t out[PLAIN_MEASUREMENT_MAX];
-    struct plain_measurement m;
+    struct plain_measurement m = {0}; /* no flow beside a refusal */
     struct plain_written again = {0, 0};
     if (!read_bytes(w[1]))
         return false;

@@ -64,11 +64,10 @@ static void begin(void)
 
 /* ---- what stands before the call ---- */
 
-/* What is set without a duration lasts, a setpoint too. */
+/* A duration of 0 is until replaced, of a setpoint too. */
 static void request(uint64_t command, int64_t consumption, int64_t production, uint64_t duration)
 {
     struct plain_request r = {.id = 70000, .endpoint = 1, .feature = 5, .command = command, .duration = duration};
-    r.lasting = duration == 0;
     if (consumption != INT64_MIN)
         r.field[0] = (struct plain_field){PLAIN_NUMBER, consumption};
     if (production != INT64_MIN)

@@ -36,6 +36,10 @@ struct kernel {
                                    size_t room);
 };
 
+/* Whether all fields are the same; what a command does not use is absent, 0 or no when read. */
+bool same_request(const struct plain_request *x, const struct plain_request *y);
+bool same_response(const struct plain_response *x, const struct plain_response *y);
+
 /* The first is always plain.c; the second is the proved kernel, or a copy of plain.c that tries the harness. */
 extern const struct kernel first_kernel, second_kernel;
 #endif

@@ -1,6 +1,7 @@
 /* The proved kernel's exports as the second kernel of the harness. */
 #include "cekarum.h"
 #include "kernel.h"
+#include <string.h>
 
 /* A maximum that is told and is the largest number is out of range, as the number below it is; told alone it would be none. */
 static uint64_t maximum(bool has, uint64_t value) { return !has ? CEKARUM_NONE : value == CEKARUM_NONE ? value - 1 : value; }
@@ -94,22 +95,48 @@ static struct plain_written records(const void *d, struct plain_row *rows, size_
     return w;
 }
 
+/* Words and values that a read is lent, filled as what the harness lends; room for those of each read. */
+struct lent {
+    uint64_t words[CEKARUM_MEASUREMENT_WORDS];
+    int64_t values[6];
+};
+
+static struct lent filled(const void *as)
+{
+    struct lent lent;
+    memset(&lent, *(const uint8_t *)as, sizeof lent);
+    return lent;
+}
+
+static bool is_left(const struct lent *lent, const void *as)
+{
+    struct lent before = filled(as);
+    return memcmp(lent, &before, sizeof before) == 0;
+}
+
+/* Read through the struct, and over lent words through the export beneath it. At a refusal all of the struct is 0 and the words
+   are left; where one of both is not so, r gets what the struct has, and the harness sees it. */
 static uint64_t read_request(const uint8_t *in, size_t n, struct plain_request *r)
 {
+    static const struct plain_request nothing;
+    struct lent lent = filled(r);
+    uint64_t number = cekarum_interface_2_read_request(in, n, lent.words, lent.values);
     struct cekarum_request_read got = cekarum_read_request(in, n);
     struct cekarum_request q = got.request;
-    *r = (struct plain_request){.id = q.id,
-                                .endpoint = q.endpoint,
-                                .feature = q.feature,
-                                .command = q.command,
-                                .field = {{q.consumption.kind, q.consumption.value}, {q.production.kind, q.production.value}},
-                                .duration = q.duration,
-                                .cause = q.cause,
-                                .has_direction = q.directed,
-                                .direction = q.direction,
-                                .lasting = q.lasting};
+    struct plain_request read = {.id = q.id,
+                                 .endpoint = q.endpoint,
+                                 .feature = q.feature,
+                                 .command = q.command,
+                                 .field = {{q.consumption.kind, q.consumption.value}, {q.production.kind, q.production.value}},
+                                 .duration = q.duration,
+                                 .cause = q.cause,
+                                 .has_direction = q.directed,
+                                 .direction = q.direction,
+                                 .omitted = q.duration_omitted};
     for (unsigned i = 0; i < PLAIN_PHASES; i++)
-        r->phase[i] = (struct plain_field){q.phases[i].kind, q.phases[i].value};
+        read.phase[i] = (struct plain_field){q.phases[i].kind, q.phases[i].value};
+    if (number == 0 || number != got.number || !is_left(&lent, r) || !same_request(&read, &nothing))
+        *r = read;
     return got.number;
 }
 
@@ -125,7 +152,7 @@ static struct plain_written write_request(const struct plain_request *r, uint8_t
                                 .cause = r->cause,
                                 .directed = r->has_direction,
                                 .direction = r->direction,
-                                .lasting = r->lasting};
+                                .duration_omitted = r->omitted};
     for (unsigned i = 0; i < PLAIN_PHASES; i++)
         q.phases[i] = (struct cekarum_field){r->phase[i].kind, r->phase[i].value};
     return written(cekarum_write_request(q, out, room));
@@ -133,16 +160,21 @@ static struct plain_written write_request(const struct plain_request *r, uint8_t
 
 static uint64_t read_response(uint64_t command, const uint8_t *in, size_t n, struct plain_response *r)
 {
+    static const struct plain_response nothing = {.value = {-1, -1}, .reason = -1, .current = {-1, -1, -1}};
+    struct lent lent = filled(r);
+    uint64_t number = cekarum_interface_2_read_response(command, in, n, lent.words, lent.values);
     struct cekarum_response_read got = cekarum_read_response(command, in, n);
     struct cekarum_response p = got.response;
-    *r = (struct plain_response){.id = p.id,
-                                 .status = p.status,
-                                 .has_result = p.result,
-                                 .applied = p.applied,
-                                 .state = p.state,
-                                 .value = {p.consumption, p.production},
-                                 .reason = p.reason,
-                                 .current = {p.currents[0], p.currents[1], p.currents[2]}};
+    struct plain_response read = {.id = p.id,
+                                  .status = p.status,
+                                  .has_result = p.result,
+                                  .applied = p.applied,
+                                  .state = p.state,
+                                  .value = {p.consumption, p.production},
+                                  .reason = p.reason,
+                                  .current = {p.currents[0], p.currents[1], p.currents[2]}};
+    if (number == 0 || number != got.number || !is_left(&lent, r) || !same_response(&read, &nothing))
+        *r = read;
     return got.number;
 }
 
@@ -212,12 +244,18 @@ static bool named_measurement(const struct plain_measurement *m, struct cekarum_
     return true;
 }
 
+/* As a request is read; of nothing all words are 0. */
 static uint64_t read_measurement(const uint8_t *in, size_t n, struct plain_measurement *m)
 {
-    struct cekarum_measurement_read got = cekarum_read_measurement(in, n);
+    static const uint64_t nothing[CEKARUM_MEASUREMENT_WORDS];
+    struct lent lent = filled(m);
     uint64_t words[CEKARUM_MEASUREMENT_WORDS];
+    uint64_t number = cekarum_interface_2_read_measurement(in, n, lent.words);
+    struct cekarum_measurement_read got = cekarum_read_measurement(in, n);
     cekarum_measurement_words(&got.measurement, words);
-    to_cells(words, m);
+    if (number == 0 || number != got.number || !is_left(&lent, m) || got.measurement.there != 0 ||
+        memcmp(words, nothing, sizeof words) != 0)
+        to_cells(words, m);
     return got.number;
 }
 
@@ -229,7 +267,7 @@ static struct plain_written write_measurement(const struct plain_measurement *m,
     uint64_t words[CEKARUM_MEASUREMENT_WORDS];
     struct plain_written w;
     to_words(m, words);
-    w.number = cekarum_raw_write_measurement(words, out, room, &w.length);
+    w.number = cekarum_interface_2_write_measurement(words, out, room, &w.length);
     return w;
 }
 
@@ -238,7 +276,7 @@ static uint64_t power_flow(const struct plain_measurement *m)
     struct cekarum_measurement named;
     uint64_t words[CEKARUM_MEASUREMENT_WORDS];
     to_words(m, words);
-    return named_measurement(m, &named) ? cekarum_power_flow(&named) : cekarum_raw_power_flow(words);
+    return named_measurement(m, &named) ? cekarum_power_flow(&named) : cekarum_interface_2_power_flow(words);
 }
 
 static uint64_t dc_flow(const struct plain_measurement *m)
@@ -246,7 +284,7 @@ static uint64_t dc_flow(const struct plain_measurement *m)
     struct cekarum_measurement named;
     uint64_t words[CEKARUM_MEASUREMENT_WORDS];
     to_words(m, words);
-    return named_measurement(m, &named) ? cekarum_dc_flow(&named) : cekarum_raw_dc_flow(words);
+    return named_measurement(m, &named) ? cekarum_dc_flow(&named) : cekarum_interface_2_dc_flow(words);
 }
 
 static uint64_t phase_flow(const struct plain_measurement *m, uint64_t phase)
@@ -254,7 +292,7 @@ static uint64_t phase_flow(const struct plain_measurement *m, uint64_t phase)
     struct cekarum_measurement named;
     uint64_t words[CEKARUM_MEASUREMENT_WORDS];
     to_words(m, words);
-    return named_measurement(m, &named) ? cekarum_phase_flow(&named, phase) : cekarum_raw_phase_flow(words, phase);
+    return named_measurement(m, &named) ? cekarum_phase_flow(&named, phase) : cekarum_interface_2_phase_flow(words, phase);
 }
 
 const struct kernel second_kernel = {

@@ -512,7 +512,7 @@ void mix_request_fields(struct plain_request *r, const struct plain_settings *s)
     r->endpoint = spoil(usually(1, 255));
     r->feature = spoil(usually(5, 65535));
     r->command = spoil(usually(1 + mix_below(6), 9));
-    r->lasting = mix_chance(500); /* beside every command and every duration */
+    r->omitted = mix_chance(500); /* beside every command and every duration */
     if (r->command == 1 || r->command == 3) {
         for (unsigned i = 0; i < 2; i++) {
             r->field[i].kind = mix_chance(600) ? PLAIN_NUMBER : r->command == 1 ? mix_below(2) : PLAIN_ABSENT;

@@ -316,7 +316,7 @@ static uint64_t read_ends(const struct item *i, struct plain_request *r)
     if ((i[3].kind != NONE && !fits(&i[3], UINT32_MAX)) || !fits(&i[4], 255))
         return 3;
     r->duration = i[3].argument;
-    r->lasting = r->command == 3 && i[3].kind != NONE && i[3].argument == 0;
+    r->omitted = r->command == 3 && i[3].kind == NONE;
     r->cause = i[4].argument;
     return 0;
 }
@@ -358,14 +358,12 @@ static inline uint64_t read_request(const uint8_t *in, size_t n, struct plain_re
     return number != 0 ? number : read_parameters(&s, r);
 }
 
-static const struct plain_request no_request;
-
 uint64_t plain_read_request(const uint8_t *in, size_t n, struct plain_request *r)
 {
-    *r = no_request;
-    uint64_t number = read_request(in, n, r);
-    if (number != 0)
-        *r = no_request;
+    struct plain_request read = {0};
+    uint64_t number = read_request(in, n, &read);
+    if (number == 0)
+        *r = read;
     return number;
 }
 
@@ -397,10 +395,10 @@ static unsigned standing(const struct plain_field *f, unsigned n)
     return count;
 }
 
-/* Whether a Set command's duration is written: a 0 is left out, save a lasting setpoint's. */
+/* Whether a Set command's duration is written: a 0 is left out, save a setpoint's that is not omitted. */
 static bool has_duration(const struct plain_request *r)
 {
-    return r->duration != 0 || (r->command == 3 && r->lasting);
+    return r->duration != 0 || (r->command == 3 && !r->omitted);
 }
 
 /* Duration and cause of a Set command. */
@@ -491,7 +489,7 @@ static const struct plain_response no_response = {.value = {-1, -1}, .reason = -
 uint64_t plain_read_response(uint64_t command, const uint8_t *in, size_t n, struct plain_response *r)
 {
     struct scan s;
-    *r = no_response;
+    struct plain_response read = no_response;
     if (!is_served(command))
         return 4;
     size_t length = payload(in, n);
@@ -503,13 +501,12 @@ uint64_t plain_read_response(uint64_t command, const uint8_t *in, size_t n, stru
     if (!s.is_map || !fits(&o[1], UINT32_MAX) || !fits(&o[2], 14) || !is_status(o[2].argument))
         return 3;
     bool wanted = has_result(command, o[2].argument);
-    if (o[3].kind != (wanted ? MAP : NONE) || (wanted && !read_result(command, s.inner, s.phases, r))) {
-        *r = no_response;
+    if (o[3].kind != (wanted ? MAP : NONE) || (wanted && !read_result(command, s.inner, s.phases, &read)))
         return 3;
-    }
-    r->id = o[1].argument;
-    r->status = o[2].argument;
-    r->has_result = wanted;
+    read.id = o[1].argument;
+    read.status = o[2].argument;
+    read.has_result = wanted;
+    *r = read;
     return 0;
 }
 
@@ -979,7 +976,7 @@ static uint64_t end_of(const struct plain_request *r, uint64_t time)
 {
     if (r->duration != 0)
         return time + r->duration;
-    return r->command == 3 && !r->lasting ? time + FORGOTTEN : FOREVER;
+    return r->command == 3 && r->omitted ? time + FORGOTTEN : FOREVER;
 }
 
 /* Applies an accepted command to its zone; whether a limit was capped. */
@@ -1414,15 +1411,15 @@ static bool read_attributes(const uint8_t *p, const uint8_t *end, struct plain_c
 uint64_t plain_read_measurement(const uint8_t *in, size_t n, struct plain_measurement *m)
 {
     struct scan s;
-    *m = (struct plain_measurement){0};
+    struct plain_measurement read = {0};
     if (n < 1 || n > PLAIN_FRAME_MAX - 4)
         return 1;
     if (!scan(in, n, (struct places){0, 0}, &s))
         return 2;
-    if (s.is_map && read_attributes(in, in + n, m->cell))
-        return 0;
-    *m = (struct plain_measurement){0};
-    return 3;
+    if (!s.is_map || !read_attributes(in, in + n, read.cell))
+        return 3;
+    *m = read;
+    return 0;
 }
 
 /* How many of an attribute's cells are there; more than there are where one is out of range. */

@@ -67,7 +67,7 @@ struct plain_field {
 };
 
 /* Commands 1 and 3 use field, duration and cause; 5 uses phase, direction, duration and cause; 2, 4 and 6 use direction (0, 1,
-   or absent: has_direction false). lasting, of 3 alone: a duration of 0 stands in the frame, and means until replaced. */
+   or absent: has_direction false). omitted, of 3 alone, beside a duration of 0: none stands in the frame, and it ends. */
 struct plain_request {
     uint64_t id, endpoint, feature, command;
     struct plain_field field[2];
@@ -75,7 +75,7 @@ struct plain_request {
     bool has_direction;
     uint64_t direction;
     struct plain_field phase[PLAIN_PHASES];
-    bool lasting;
+    bool omitted;
 };
 
 /* value: limits or setpoints, current: by phase, -1 is absent; reason: -1 is absent. */
@@ -115,6 +115,7 @@ struct plain_row {
 /* The plan made the slow way; room in records. */
 struct plain_written plain_plain_plan(const struct plain *d, struct plain_row *rows, size_t room);
 
+/* A refused read leaves what it is lent as it was. */
 uint64_t plain_read_request(const uint8_t *in, size_t n, struct plain_request *r);
 struct plain_written plain_write_request(const struct plain_request *r, uint8_t *out, size_t room);
 uint64_t plain_read_response(uint64_t command, const uint8_t *in, size_t n, struct plain_response *r);

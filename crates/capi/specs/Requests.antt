@@ -3,14 +3,18 @@ use Prim.Native.Nat.{ℕ}
 use mathlib.Core.List.{List}
 use lib.IntN.{ℤ}
 use Rattle.kernel.specs.Door.{Reading, Written, requestNumber, requestItem, itemFrame, writtenOf, leftBy}
-use Rattle.wire_requests.specs.Requests.{readingNumber}
-use Rattle.capi_messages.specs.Requests.{requestOf, flatRequest, noRequest, requestIn}
-use Rattle.capi.specs.declared.requests.FlatReading.{FlatReading}
+use Rattle.capi_messages.specs.Requests.{requestOf, flatRequest, requestIn, requestWords, requestValues}
 
-unfoldable pub flatReading : Reading → FlatReading
-flatReading (Reading.Is r) = record { number = readingNumber (Reading.Is r); request = flatRequest r (r .command) }
-flatReading (Reading.Unserved i) = record { number = readingNumber (Reading.Unserved i); request = noRequest }
-flatReading (Reading.Refused n) = record { number = readingNumber (Reading.Refused n); request = noRequest }
+-- what a reading leaves in the words and the values: those of the request that was read; "unchanged at every refusal"
+unfoldable pub requestWordsAfter : Reading → List ℕ → List ℕ
+requestWordsAfter (Reading.Is r) ws = requestWords (flatRequest r (r .command))
+requestWordsAfter (Reading.Unserved i) ws = ws
+requestWordsAfter (Reading.Refused n) ws = ws
+
+unfoldable pub requestValuesAfter : Reading → List ℤ → List ℤ
+requestValuesAfter (Reading.Is r) vs = requestValues (flatRequest r (r .command))
+requestValuesAfter (Reading.Unserved i) vs = vs
+requestValuesAfter (Reading.Refused n) vs = vs
 
 -- what writing them answers, given the room, and leaves
 unfoldable pub requestWritten : List ℕ → List ℤ → ℕ → Written

@@ -3,13 +3,16 @@ use Prim.Native.Nat.{ℕ}
 use mathlib.Core.List.{List}
 use lib.IntN.{ℤ}
 use Rattle.kernel.specs.Door.{Answer, Written, responseNumber, responseItem, itemFrame, writtenOf, leftBy}
-use Rattle.wire_responses.specs.Responses.{answerNumber}
-use Rattle.capi_messages.specs.Responses.{responseOf, flatResponse, noResponse, responseIn}
-use Rattle.capi.specs.declared.responses.FlatAnswer.{FlatAnswer}
+use Rattle.capi_messages.specs.Responses.{responseOf, flatResponse, responseIn, responseWords, responseValues}
 
-unfoldable pub flatAnswer : Answer → FlatAnswer
-flatAnswer (Answer.Is r) = record { number = answerNumber (Answer.Is r); response = flatResponse r (r .outcome) }
-flatAnswer (Answer.Refused n) = record { number = answerNumber (Answer.Refused n); response = noResponse }
+-- what a reading leaves in the words and the values: those of the response that was read; "unchanged at every refusal"
+unfoldable pub responseWordsAfter : Answer → List ℕ → List ℕ
+responseWordsAfter (Answer.Is r) ws = responseWords (flatResponse r (r .outcome))
+responseWordsAfter (Answer.Refused n) ws = ws
+
+unfoldable pub responseValuesAfter : Answer → List ℤ → List ℤ
+responseValuesAfter (Answer.Is r) vs = responseValues (flatResponse r (r .outcome))
+responseValuesAfter (Answer.Refused n) vs = vs
 
 -- what writing them answers, given the room, and leaves
 unfoldable pub responseWritten : ℕ → List ℕ → List ℤ → ℕ → Written

@@ -15,7 +15,7 @@ ghost use Rattle.kernel.specs.Door.{askAnswer, planAnswer, planSlice, plainAnsw
 ghost use Rattle.capi.specs.Words.{settingsOf, inputsOf};
 
 #[no_mangle]
-pub extern "C" fn cekarum_raw_start(device: &mut State, settings: &[u64; SETTINGS]) -> u64
+pub extern "C" fn cekarum_interface_2_start(device: &mut State, settings: &[u64; SETTINGS]) -> u64
     ensures { λ r. ⌜ r ≡ startNumber (settingsOf (now (settings .entry))) ⌝ }
     ensures { λ _. ⌜ now (device .exit) ≡ startAfter (settingsOf (now (settings .entry))) ⌝ }
 {
@@ -23,7 +23,12 @@ pub extern "C" fn cekarum_raw_start(device: &mut State, settings: &[u64; SETTING
 }
 
 #[no_mangle]
-pub extern "C" fn cekarum_raw_join(device: &mut State, zone: u64, rank: u64, time: u64) -> u64
+pub extern "C" fn cekarum_interface_2_join(
+    device: &mut State,
+    zone: u64,
+    rank: u64,
+    time: u64,
+) -> u64
     ensures { λ r. ⌜ r ≡ joinNumber (now (device .entry)) zone rank time ⌝ }
     ensures { λ _. ⌜ now (device .exit) ≡ joinAfter (now (device .entry)) zone rank time ⌝ }
 {
@@ -31,7 +36,7 @@ pub extern "C" fn cekarum_raw_join(device: &mut State, zone: u64, rank: u64, tim
 }
 
 #[no_mangle]
-pub extern "C" fn cekarum_raw_leave(device: &mut State, zone: u64, time: u64) -> u64
+pub extern "C" fn cekarum_interface_2_leave(device: &mut State, zone: u64, time: u64) -> u64
     ensures { λ r. ⌜ r ≡ leaveNumber (now (device .entry)) zone time ⌝ }
     ensures { λ _. ⌜ now (device .exit) ≡ leaveAfter (now (device .entry)) zone time ⌝ }
 {
@@ -39,7 +44,7 @@ pub extern "C" fn cekarum_raw_leave(device: &mut State, zone: u64, time: u64) ->
 }
 
 #[no_mangle]
-pub extern "C" fn cekarum_raw_lost(device: &mut State, zone: u64, time: u64) -> u64
+pub extern "C" fn cekarum_interface_2_lost(device: &mut State, zone: u64, time: u64) -> u64
     ensures { λ r. ⌜ r ≡ linkNumber (now (device .entry)) zone false time ⌝ }
     ensures { λ _. ⌜ now (device .exit) ≡ linkAfter (now (device .entry)) zone false time ⌝ }
 {
@@ -47,7 +52,7 @@ pub extern "C" fn cekarum_raw_lost(device: &mut State, zone: u64, time: u64) -> 
 }
 
 #[no_mangle]
-pub extern "C" fn cekarum_raw_back(device: &mut State, zone: u64, time: u64) -> u64
+pub extern "C" fn cekarum_interface_2_back(device: &mut State, zone: u64, time: u64) -> u64
     ensures { λ r. ⌜ r ≡ linkNumber (now (device .entry)) zone true time ⌝ }
     ensures { λ _. ⌜ now (device .exit) ≡ linkAfter (now (device .entry)) zone true time ⌝ }
 {
@@ -55,7 +60,7 @@ pub extern "C" fn cekarum_raw_back(device: &mut State, zone: u64, time: u64) -> 
 }
 
 #[no_mangle]
-pub extern "C" fn cekarum_raw_override(
+pub extern "C" fn cekarum_interface_2_override(
     device: &mut State,
     reason: u64,
     direction: u64,
@@ -68,7 +73,7 @@ pub extern "C" fn cekarum_raw_override(
 }
 
 #[no_mangle]
-pub extern "C" fn cekarum_raw_clear(device: &mut State, time: u64) -> u64
+pub extern "C" fn cekarum_interface_2_clear(device: &mut State, time: u64) -> u64
     ensures { λ r. ⌜ r ≡ clearNumber (now (device .entry)) time ⌝ }
     ensures { λ _. ⌜ now (device .exit) ≡ clearAfter (now (device .entry)) time ⌝ }
 {
@@ -76,7 +81,7 @@ pub extern "C" fn cekarum_raw_clear(device: &mut State, time: u64) -> u64
 }
 
 #[no_mangle]
-pub extern "C" fn cekarum_raw_move(device: &mut State, time: u64) -> u64
+pub extern "C" fn cekarum_interface_2_move(device: &mut State, time: u64) -> u64
     ensures { λ r. ⌜ r ≡ moveNumber (now (device .entry)) time ⌝ }
     ensures { λ _. ⌜ now (device .exit) ≡ moveAfter (now (device .entry)) time ⌝ }
 {
@@ -85,14 +90,14 @@ pub extern "C" fn cekarum_raw_move(device: &mut State, time: u64) -> u64
 
 // An ask and the two plans are lent the device unchangeable: they take no time, and nothing moves.
 #[no_mangle]
-pub extern "C" fn cekarum_raw_ask(device: &State, values: &mut [i64; VALUES])
+pub extern "C" fn cekarum_interface_2_ask(device: &State, values: &mut [i64; VALUES])
     ensures { λ _. ⌜ now (values .exit) ≡ askAnswer (now (device .entry)) ⌝ }
 {
     *values = kernel::ask(device);
 }
 
 #[no_mangle]
-pub extern "C" fn cekarum_raw_plan(device: &State, rows: &mut [i64], count: &mut u64) -> u64
+pub extern "C" fn cekarum_interface_2_plan(device: &State, rows: &mut [i64], count: &mut u64) -> u64
     ensures { λ r. ⌜ r ≡ planAnswer (now (device .entry)) (length (now (rows .entry))) .number ⌝ }
     ensures { λ _. ⌜ now (rows .exit) ≡ planSlice (now (device .entry)) (now (rows .entry)) ⌝ }
     ensures { λ _. ⌜ now (count .exit) ≡ planAnswer (now (device .entry)) (length (now (rows .entry))) .count ⌝ }
@@ -103,7 +108,11 @@ pub extern "C" fn cekarum_raw_plan(device: &State, rows: &mut [i64], count: &mut
 }
 
 #[no_mangle]
-pub extern "C" fn cekarum_raw_plain_plan(device: &State, rows: &mut [Row], count: &mut u64) -> u64
+pub extern "C" fn cekarum_interface_2_plain_plan(
+    device: &State,
+    rows: &mut [Row],
+    count: &mut u64,
+) -> u64
     ensures { λ r. ⌜ r ≡ plainAnswer (now (device .entry)) (length (now (rows .entry))) .number ⌝ }
     ensures { λ _. ⌜ now (rows .exit) ≡ plainSlice (now (device .entry)) (now (rows .entry)) ⌝ }
     ensures { λ _. ⌜ now (count .exit) ≡ plainAnswer (now (device .entry)) (length (now (rows .entry))) .count ⌝ }
@@ -114,7 +123,7 @@ pub extern "C" fn cekarum_raw_plain_plan(device: &State, rows: &mut [Row], count
 }
 
 #[no_mangle]
-pub extern "C" fn cekarum_raw_report(
+pub extern "C" fn cekarum_interface_2_report(
     inputs: &[u64; INPUTS],
     attributes: &[u16],
     pairs: &mut [u64],

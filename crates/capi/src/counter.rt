@@ -5,7 +5,11 @@ ghost use Rattle.ticks.specs.Words.{readingIn, wordsLeft};
 
 // Of the tick the low 32 bits count.
 #[no_mangle]
-pub extern "C" fn cekarum_raw_tick(front: &mut [u64; FRONT], tick: u64, seconds: &mut i64) -> u64
+pub extern "C" fn cekarum_interface_2_tick(
+    front: &mut [u64; FRONT],
+    tick: u64,
+    seconds: &mut i64,
+) -> u64
     ensures { λ r. ⌜ r ≡ readingIn (now (front .entry)) tick .number ⌝ }
     ensures { λ _. ⌜ now (front .exit) ≡ wordsLeft (now (front .entry)) tick ⌝ }
     ensures { λ _. ⌜ now (seconds .exit) ≡ readingIn (now (front .entry)) tick .seconds ⌝ }

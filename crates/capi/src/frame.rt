@@ -5,7 +5,7 @@ ghost use lib.ListN.{length};
 ghost use Rattle.kernel.specs.Frame.{frameAnswer, frameAfter, frameOut};
 
 #[no_mangle]
-pub extern "C" fn cekarum_raw_frame(
+pub extern "C" fn cekarum_interface_2_frame(
     device: &mut State,
     zone: u64,
     time: u64,

@@ -8,7 +8,7 @@ ghost use Rattle.measurement.specs.Flow.{acActivePower, acActivePowerPerPhase, 
 ghost use Rattle.capi.specs.Meter.{measurementWritten, measurementLeft, flowIn};
 
 #[no_mangle]
-pub extern "C" fn cekarum_raw_read_measurement(payload: &[u8], words: &mut Words) -> u64
+pub extern "C" fn cekarum_interface_2_read_measurement(payload: &[u8], words: &mut Words) -> u64
     ensures { λ r. ⌜ r ≡ readNumber (now (payload .entry)) ⌝ }
     ensures { λ _. ⌜ now (words .exit) ≡ readAfter (now (payload .entry)) (now (words .entry)) ⌝ }
 {
@@ -16,7 +16,7 @@ pub extern "C" fn cekarum_raw_read_measurement(payload: &[u8], words: &mut Words
 }
 
 #[no_mangle]
-pub extern "C" fn cekarum_raw_write_measurement(
+pub extern "C" fn cekarum_interface_2_write_measurement(
     words: &Words,
     out: &mut [u8],
     written: &mut u64,
@@ -31,21 +31,21 @@ pub extern "C" fn cekarum_raw_write_measurement(
 }
 
 #[no_mangle]
-pub extern "C" fn cekarum_raw_power_flow(words: &Words) -> u64
+pub extern "C" fn cekarum_interface_2_power_flow(words: &Words) -> u64
     ensures { λ r. ⌜ r ≡ flowIn (now (words .entry)) acActivePower 0 ⌝ }
 {
     flow_number(measurement::power_flow(words))
 }
 
 #[no_mangle]
-pub extern "C" fn cekarum_raw_dc_flow(words: &Words) -> u64
+pub extern "C" fn cekarum_interface_2_dc_flow(words: &Words) -> u64
     ensures { λ r. ⌜ r ≡ flowIn (now (words .entry)) dcPower 0 ⌝ }
 {
     flow_number(measurement::dc_flow(words))
 }
 
 #[no_mangle]
-pub extern "C" fn cekarum_raw_phase_flow(words: &Words, phase: u64) -> u64
+pub extern "C" fn cekarum_interface_2_phase_flow(words: &Words, phase: u64) -> u64
     ensures { λ r. ⌜ r ≡ flowIn (now (words .entry)) acActivePowerPerPhase phase ⌝ }
 {
     flow_number(measurement::phase_flow(words, phase as usize))

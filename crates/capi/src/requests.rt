@@ -1,9 +1,7 @@
 // Requests for C: words and values, read and written as the kernel reads and writes.
 use capi_messages::FIELDS;
-use capi_messages::FlatRequest;
 use capi_messages::REQUEST;
 use capi_messages::flat_request;
-use capi_messages::no_request;
 use capi_messages::request_in;
 use capi_messages::request_of;
 use capi_messages::request_values;
@@ -12,55 +10,35 @@ use kernel::Reading;
 ghost use mathlib.Core.Path.{_≡_};
 ghost use lib.ListN.{length};
 ghost use Rattle.kernel.specs.Door.{readRequest};
-ghost use Rattle.capi_messages.specs.Requests.{requestWords, requestValues};
-ghost use Rattle.capi.specs.Requests.{flatReading, requestWritten, requestLeft};
+ghost use Rattle.wire_requests.specs.Requests.{readingNumber};
+ghost use Rattle.capi.specs.Requests.{requestWordsAfter, requestValuesAfter, requestWritten, requestLeft};
 
-pub struct FlatReading {
-    pub number: u64,
-    pub request: FlatRequest,
-}
-
-fn flat_reading(x: Reading) -> FlatReading
-    ensures { λ r. ⌜ r ≡ flatReading x ⌝ }
-{
-    match x {
-        Reading::Is(r) => {
-            let c = r.command;
-            FlatReading {
-                number: 0,
-                request: flat_request(r, c),
-            }
-        }
-        Reading::Unserved(_) => FlatReading {
-            number: 4,
-            request: no_request(),
-        },
-        Reading::Refused(n) => FlatReading {
-            number: n,
-            request: no_request(),
-        },
-    }
-}
-
+// At a refusal the words and values stay as they were.
 #[no_mangle]
-pub extern "C" fn cekarum_raw_read_request(
+pub extern "C" fn cekarum_interface_2_read_request(
     frame: &[u8],
     words: &mut [u64; REQUEST],
     values: &mut [i64; FIELDS],
 ) -> u64
-    ensures { λ r. ⌜ r ≡ flatReading (readRequest (now (frame .entry))) .number ⌝ }
-    ensures { λ _. ⌜ now (words .exit) ≡ requestWords (flatReading (readRequest (now (frame .entry))) .request) ⌝ }
-    ensures { λ _. ⌜ now (values .exit) ≡ requestValues (flatReading (readRequest (now (frame .entry))) .request) ⌝ }
+    ensures { λ r. ⌜ r ≡ readingNumber (readRequest (now (frame .entry))) ⌝ }
+    ensures { λ _. ⌜ now (words .exit) ≡ requestWordsAfter (readRequest (now (frame .entry))) (now (words .entry)) ⌝ }
+    ensures { λ _. ⌜ now (values .exit) ≡ requestValuesAfter (readRequest (now (frame .entry))) (now (values .entry)) ⌝ }
 {
-    let read = flat_reading(kernel::read_request(frame));
-    let q = read.request;
-    *words = request_words(q);
-    *values = request_values(q);
-    read.number
+    match kernel::read_request(frame) {
+        Reading::Is(r) => {
+            let c = r.command;
+            let q = flat_request(r, c);
+            *words = request_words(q);
+            *values = request_values(q);
+            0
+        }
+        Reading::Unserved(_) => 4,
+        Reading::Refused(n) => n,
+    }
 }
 
 #[no_mangle]
-pub extern "C" fn cekarum_raw_write_request(
+pub extern "C" fn cekarum_interface_2_write_request(
     words: &[u64; REQUEST],
     values: &[i64; FIELDS],
     out: &mut [u8],

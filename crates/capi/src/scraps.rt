@@ -6,7 +6,7 @@ ghost use Rattle.receiver.specs.Receive.{received};
 ghost use Rattle.receiver.specs.Words.{recordIn, wordsLeft, countsLeft};
 
 #[no_mangle]
-pub extern "C" fn cekarum_raw_receive(
+pub extern "C" fn cekarum_interface_2_receive(
     words: &mut [u64; RECORD],
     room: &mut [u8],
     scrap: &[u8],

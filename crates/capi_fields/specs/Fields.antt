@@ -1,6 +1,6 @@
 -- The parts of a request as C has them, and as the kernel has them: each from the other.
 use Prim.Native.Nat.{ℕ}
-use mathlib.Core.Bool.{Bool, true, false, cond, _||_}
+use mathlib.Core.Bool.{Bool, true, false, cond, _&&_, _||_}
 use lib.Dec.{ltb, eqb}
 use lib.IntN.{pos}
 use Rattle.wire_messages.specs.declared.Field.{Field}
@@ -19,9 +19,9 @@ targetOf f = cond (eqb (f .kind) 2) (Target.Value (f .value)) Target.Absent
 unfoldable pub aimOf : Bool → ℕ → Aim
 aimOf has d = cond has (Aim.One d) Aim.Both
 
--- SetSetpoint's duration: a 0 is left out, but where the setpoint is to last until it is replaced
+-- L8: "for setpoints it must now write the 0"; the flag asks for the omission, beside a duration of 0 alone
 unfoldable pub setpointTime : Bool → ℕ → Amount
-setpointTime lasting d = cond (eqb d 0) (cond lasting (Amount.Is 0) Amount.Absent) (Amount.Is d)
+setpointTime omitted d = cond (omitted && eqb d 0) Amount.Absent (Amount.Is d)
 
 -- a kind that SetLimit has, and a phase of SetCurrentLimits; SetSetpoint has no null
 unfoldable pub limitKind : ℕ → Bool
@@ -51,11 +51,11 @@ abbrev pub aimed : Aim → ℕ
 aimed Aim.Both = 0
 aimed (Aim.One d) = d
 
--- a setpoint's duration as a number, and whether it is a 0 that was written
+-- a setpoint's duration as a number, and whether it was omitted
 abbrev pub timeOf : Amount → ℕ
 timeOf Amount.Absent = 0
 timeOf (Amount.Is d) = d
 
-abbrev pub isLasting : Amount → Bool
-isLasting Amount.Absent = false
-isLasting (Amount.Is d) = eqb d 0
+abbrev pub isOmitted : Amount → Bool
+isOmitted Amount.Absent = true
+isOmitted (Amount.Is d) = false

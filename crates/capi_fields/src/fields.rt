@@ -6,7 +6,7 @@ use wire_messages::Target;
 ghost use mathlib.Core.Path.{_≡_};
 ghost use mathlib.Core.Bool.{_&&_};
 ghost use Rattle.capi_fields.specs.Fields.{fieldOf, targetOf, aimOf, setpointTime, limitKind, setpointKind};
-ghost use Rattle.capi_fields.specs.Fields.{noField, flatField, flatTarget, hasAim, aimed, timeOf, isLasting};
+ghost use Rattle.capi_fields.specs.Fields.{noField, flatField, flatTarget, hasAim, aimed, timeOf, isOmitted};
 
 // A field of a Set command: kind 0 is absent, 1 null, 2 the number `value`.
 pub struct FlatField {
@@ -47,14 +47,11 @@ pub fn aim_of(has: bool, direction: u64) -> Aim
     Aim::Both
 }
 
-// A duration of 0 is left out, but where the setpoint is to last.
-pub fn setpoint_time(lasting: bool, duration: u64) -> Amount
-    ensures { λ r. ⌜ r ≡ setpointTime lasting duration ⌝ }
+// A duration that is to be left out, and is 0; any other is written, a 0 too.
+pub fn setpoint_time(omitted: bool, duration: u64) -> Amount
+    ensures { λ r. ⌜ r ≡ setpointTime omitted duration ⌝ }
 {
-    if duration == 0 {
-        if lasting {
-            return Amount::Is(0);
-        }
+    if omitted & (duration == 0) {
         return Amount::Absent;
     }
     Amount::Is(duration)
@@ -144,12 +141,12 @@ pub fn time_of(a: Amount) -> u64
     }
 }
 
-// Whether a setpoint's duration is a 0 that is written.
-pub fn is_lasting(a: Amount) -> bool
-    ensures { λ r. ⌜ r ≡ isLasting a ⌝ }
+// Whether a setpoint's duration is left out.
+pub fn is_omitted(a: Amount) -> bool
+    ensures { λ r. ⌜ r ≡ isOmitted a ⌝ }
 {
     match a {
-        Amount::Absent => false,
-        Amount::Is(d) => d == 0,
+        Amount::Absent => true,
+        Amount::Is(_) => false,
     }
 }

@@ -16,7 +16,7 @@ pub use fields::field_of;
 pub use fields::flat_field;
 pub use fields::flat_target;
 pub use fields::has_aim;
-pub use fields::is_lasting;
+pub use fields::is_omitted;
 pub use fields::no_field;
 pub use fields::setpoint_time;
 pub use fields::target_of;

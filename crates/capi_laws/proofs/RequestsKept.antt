@@ -1,6 +1,6 @@
 -- A request made flat and taken back: its fields one by one, and its command by its number.
 use Prim.Native.Nat.{ℕ}
-use mathlib.Core.Path.{_≡_, refl, sym, ap}
+use mathlib.Core.Path.{_≡_, refl, ap}
 use mathlib.Core.Bool.{Bool, true, false, cond, not, _&&_}
 use native.Mathlib.Omega.{arith}
 use lib.Dec.{eqb}
@@ -23,10 +23,13 @@ use Rattle.wire_output.specs.Writing.{itemFrame}
 use Rattle.wire_requests.specs.declared.reading.Reading.{Reading}
 use Rattle.wire_laws.proofs.RequestBack.{request-reads-back}
 use Rattle.wire_laws.proofs.RequestAgain.{request-writable}
-use Rattle.capi_fields.specs.Fields.{fieldOf, targetOf, aimOf, setpointTime, limitKind, setpointKind, flatField, flatTarget, hasAim, aimed, timeOf, isLasting}
+use Rattle.capi_fields.specs.Fields.{fieldOf, targetOf, aimOf, setpointTime, limitKind, setpointKind, flatField, flatTarget, hasAim, aimed, timeOf, isOmitted}
 use Rattle.capi_messages.specs.Requests.{limitsOf, setpointsOf, phasesOf, currentsOf, currentCommand, commandOf, requestOf, flatSet, flatCurrents, flatClear, flatRequest}
-use Rattle.capi.specs.Requests.{flatReading}
-use Rattle.capi_laws.specs.Inverse.{RequestKept, Plain, ReadPlain, FlatReadsBack}
+use Rattle.capi_messages.specs.Requests.{requestIn, requestWords, requestValues}
+use Rattle.capi_messages.proofs.Made.{made}
+use Rattle.capi.specs.Requests.{requestWordsAfter, requestValuesAfter}
+use Rattle.capi_laws.proofs.Marks.{mark-kept}
+use Rattle.capi_laws.specs.Inverse.{RequestKept, Plain, ReadPlain, RequestInWords, FlatReadsBack, RequestRefusedWhole, SetpointZeroWritten, SetpointOmitted, OmissionPassedOver}
 
 field-kept : (f : Field) → fieldOf (flatField f) ≡ f
 unfolding fieldOf flatField
@@ -44,14 +47,10 @@ unfolding aimOf
 aim-kept Aim.Both = refl
 aim-kept (Aim.One d) = refl
 
-time-kept : (a : Amount) → setpointTime (isLasting a) (timeOf a) ≡ a
+time-kept : (a : Amount) → setpointTime (isOmitted a) (timeOf a) ≡ a
 unfolding setpointTime
 time-kept Amount.Absent = refl
-time-kept (Amount.Is d) = go (eqb d 0) refl
-  where
-    go : (b : Bool) → eqb d 0 ≡ b → cond b (cond b (Amount.Is 0) Amount.Absent) (Amount.Is d) ≡ Amount.Is d
-    go true e = ap Amount.Is (sym (eqb-true d 0 e))
-    go false e = refl
+time-kept (Amount.Is d) = refl
 
 field-kind : (f : Field) → limitKind (flatField f .kind) ≡ true
 unfolding limitKind flatField
@@ -118,6 +117,33 @@ read-plain bytes r e =
     let k = request-kept r (writable-served r (request-writable bytes r e .1)) in
     ap (λ (q : Request). flatRequest q (q .command)) k
 
+pub request-in-words : RequestInWords
+unfolding requestIn requestWords requestValues
+request-in-words q = made q (mark-kept (q .directed)) (mark-kept (q .omitted)) refl refl refl refl refl
+
 pub flat-reads-back : FlatReadsBack
-unfolding flatReading
-flat-reads-back q p w e = rw (request-reads-back (requestOf q) w e, p)
+unfolding requestWordsAfter requestValuesAfter
+flat-reads-back q ws vs p w e = rw (request-reads-back (requestOf q) w e, p) (refl, refl, refl)
+
+pub request-refused-whole : RequestRefusedWhole
+unfolding requestWordsAfter requestValuesAfter
+request-refused-whole (Reading.Is r) ws vs n = absurd (n refl)
+request-refused-whole (Reading.Unserved i) ws vs n = (refl, refl)
+request-refused-whole (Reading.Refused m) ws vs n = (refl, refl)
+
+pub setpoint-zero-written : SetpointZeroWritten
+unfolding setpointsOf setpointTime
+setpoint-zero-written q e = rw e
+
+pub setpoint-omitted : SetpointOmitted
+unfolding setpointsOf setpointTime
+setpoint-omitted q e z = rw (e, z)
+
+pub omission-passed-over : OmissionPassedOver
+unfolding setpointsOf setpointTime
+omission-passed-over q n = go (q .omitted) (eqb (q .duration) 0) refl
+  where
+    go : (o b : Bool) → eqb (q .duration) 0 ≡ b → cond (o && b) Amount.Absent (Amount.Is (q .duration)) ≡ Amount.Is (q .duration)
+    go true true e = absurd (n (eqb-true (q .duration) 0 e))
+    go true false e = refl
+    go false b e = refl

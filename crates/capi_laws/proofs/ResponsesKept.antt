@@ -23,8 +23,10 @@ use Rattle.wire_laws.proofs.ResponseAgain.{response-writable}
 use Rattle.device_holds.specs.Holds.{shown}
 use Rattle.capi_fields.specs.Amounts.{valueEnd, amountOf, flatAmount}
 use Rattle.capi_messages.specs.Responses.{limitOf, setpointOf, currentOf, outcomeOf, responseOf, flat, flatCurrent, flatResponse}
-use Rattle.capi.specs.Responses.{flatAnswer}
-use Rattle.capi_laws.specs.Inverse.{AmountShown, ResponseKept, AnswerPlain, FlatAnswerReadsBack}
+use Rattle.capi_messages.specs.Responses.{responseIn, responseWords, responseValues}
+use Rattle.capi.specs.Responses.{responseWordsAfter, responseValuesAfter}
+use Rattle.capi_laws.proofs.Marks.{mark-kept}
+use Rattle.capi_laws.specs.Inverse.{AmountShown, ResponseKept, AnswerPlain, ResponseInWords, FlatAnswerReadsBack, ResponseRefusedWhole}
 
 never : {A : Type 0} → false ≡ true → A
 never e = absurd (let w : _≡_ {A = ℕ} 0 1 = cc in omega arith)
@@ -131,6 +133,15 @@ response-kept command r e =
 pub answer-plain : AnswerPlain
 answer-plain command bytes r e = ap (λ (q : Response). flatResponse q (q .outcome)) (response-kept command r (response-writable command bytes r e))
 
+pub response-in-words : ResponseInWords
+unfolding responseIn responseWords responseValues
+response-in-words p = rw (mark-kept (p .result), mark-kept (p .applied))
+
 pub flat-answer-reads-back : FlatAnswerReadsBack
-unfolding flatAnswer
-flat-answer-reads-back command p k e = rw (response-reads-back command (responseOf command p) e, k)
+unfolding responseWordsAfter responseValuesAfter
+flat-answer-reads-back command p ws vs k e = rw (response-reads-back command (responseOf command p) e, k) (refl, refl, refl)
+
+pub response-refused-whole : ResponseRefusedWhole
+unfolding responseWordsAfter responseValuesAfter
+response-refused-whole (Answer.Is r) ws vs n = absurd (n refl)
+response-refused-whole (Answer.Refused m) ws vs n = (refl, refl)

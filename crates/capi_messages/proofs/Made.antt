@@ -21,10 +21,10 @@ valued q o l f g x y z =
       a = record { kind = q .a .kind; value = x };
       b = record { kind = q .b .kind; value = y };
       c = record { kind = q .c .kind; value = z };
-      lasting = l;
+      omitted = l;
     }
 
 pub made : (q : FlatRequest) {o l : Bool} {f g x y z : ℤ}
-    → o ≡ q .directed → l ≡ q .lasting → f ≡ q .consumption .value → g ≡ q .production .value → x ≡ q .a .value → y ≡ q .b .value → z ≡ q .c .value
+    → o ≡ q .directed → l ≡ q .omitted → f ≡ q .consumption .value → g ≡ q .production .value → x ≡ q .a .value → y ≡ q .b .value → z ≡ q .c .value
     → valued q o l f g x y z ≡ q
 made q p l a b c d e = rw (p, l, a, b, c, d, e)

@@ -13,7 +13,7 @@ use Rattle.wire_messages.specs.declared.CurrentLimits.{CurrentLimits}
 use Rattle.wire_messages.specs.declared.Command.{Command}
 use Rattle.wire_messages.specs.declared.Request.{Request}
 use Rattle.capi_fields.specs.Words.{at, yes, word}
-use Rattle.capi_fields.specs.Fields.{fieldOf, targetOf, aimOf, setpointTime, limitKind, setpointKind, noField, flatField, flatTarget, hasAim, aimed, timeOf, isLasting}
+use Rattle.capi_fields.specs.Fields.{fieldOf, targetOf, aimOf, setpointTime, limitKind, setpointKind, noField, flatField, flatTarget, hasAim, aimed, timeOf, isOmitted}
 use Rattle.capi_fields.specs.declared.fields.FlatField.{FlatField}
 use Rattle.capi_messages.specs.declared.flat_requests.FlatRequest.{FlatRequest}
 
@@ -26,7 +26,7 @@ setpointsOf q =
     record {
       consumption = targetOf (q .consumption);
       production = targetOf (q .production);
-      duration = setpointTime (q .lasting) (q .duration);
+      duration = setpointTime (q .omitted) (q .duration);
       cause = q .cause;
     }
 
@@ -57,9 +57,9 @@ unfoldable pub requestOf : FlatRequest → Request
 requestOf q = record { id = q .id; endpoint = q .endpoint; feature = q .feature; command = commandOf q }
 
 -- TO C
--- SetLimit or SetSetpoint, by its number, fields, duration, whether it lasts, and cause
+-- SetLimit or SetSetpoint, by its number, fields, duration, whether it is omitted, and cause
 unfoldable pub flatSet : Request → ℕ → FlatField → FlatField → ℕ → Bool → ℕ → FlatRequest
-flatSet r n f g d l k =
+flatSet r n f g d o k =
     record {
       id = r .id;
       endpoint = r .endpoint;
@@ -74,7 +74,7 @@ flatSet r n f g d l k =
       a = noField;
       b = noField;
       c = noField;
-      lasting = l;
+      omitted = o;
     }
 
 -- SetCurrentLimits, with a field for each phase
@@ -94,7 +94,7 @@ flatCurrents r m f =
       a = flatField (f .a);
       b = flatField (f .b);
       c = flatField (f .c);
-      lasting = false;
+      omitted = false;
     }
 
 -- a clear, by its number and what it names
@@ -114,40 +114,20 @@ flatClear r n x =
       a = noField;
       b = noField;
       c = noField;
-      lasting = false;
+      omitted = false;
     }
 
 unfoldable pub flatRequest : Request → Command → FlatRequest
 flatRequest r (Command.SetLimit m) = flatSet r 1 (flatField (m .consumption)) (flatField (m .production)) (m .duration) false (m .cause)
 flatRequest r (Command.ClearLimit a) = flatClear r 2 a
 flatRequest r (Command.SetSetpoint m) =
-    flatSet r 3 (flatTarget (m .consumption)) (flatTarget (m .production)) (timeOf (m .duration)) (isLasting (m .duration)) (m .cause)
+    flatSet r 3 (flatTarget (m .consumption)) (flatTarget (m .production)) (timeOf (m .duration)) (isOmitted (m .duration)) (m .cause)
 flatRequest r (Command.ClearSetpoint a) = flatClear r 4 a
 flatRequest r (Command.SetCurrentLimits m) = flatCurrents r m (m .phases)
 flatRequest r (Command.ClearCurrentLimits a) = flatClear r 6 a
 flatRequest r (Command.Unserved n) = flatClear r n Aim.Both
 
--- beside a refusal all is 0 or no
-abbrev pub noRequest : FlatRequest
-noRequest =
-    record {
-      id = 0;
-      endpoint = 0;
-      feature = 0;
-      command = 0;
-      consumption = noField;
-      production = noField;
-      duration = 0;
-      cause = 0;
-      directed = false;
-      direction = 0;
-      a = noField;
-      b = noField;
-      c = noField;
-      lasting = false;
-    }
-
--- AS WORDS: id, endpoint, feature, command, the fields' kinds, duration, cause, directed, direction, the phases' kinds, lasting; the fields'
+-- AS WORDS: id, endpoint, feature, command, the fields' kinds, duration, cause, directed, direction, the phases' kinds, omitted; the fields'
 -- and the phases' values beside them
 unfoldable pub requestIn : List ℕ → List ℤ → FlatRequest
 requestIn ws vs =
@@ -165,13 +145,13 @@ requestIn ws vs =
       a = record { kind = at ws 10; value = getD vs 2 (pos 0) };
       b = record { kind = at ws 11; value = getD vs 3 (pos 0) };
       c = record { kind = at ws 12; value = getD vs 4 (pos 0) };
-      lasting = yes ws 13;
+      omitted = yes ws 13;
     }
 
 unfoldable pub requestWords : FlatRequest → List ℕ
 requestWords q =
     q .id ∷ q .endpoint ∷ q .feature ∷ q .command ∷ q .consumption .kind ∷ q .production .kind ∷ q .duration ∷ q .cause
-    ∷ word (q .directed) ∷ q .direction ∷ q .a .kind ∷ q .b .kind ∷ q .c .kind ∷ word (q .lasting) ∷ []
+    ∷ word (q .directed) ∷ q .direction ∷ q .a .kind ∷ q .b .kind ∷ q .c .kind ∷ word (q .omitted) ∷ []
 
 unfoldable pub requestValues : FlatRequest → List ℤ
 requestValues q = q .consumption .value ∷ q .production .value ∷ q .a .value ∷ q .b .value ∷ q .c .value ∷ []

@@ -85,23 +85,6 @@ flatResponse r (Outcome.Setpoint l) = flat r true true 0 (l .consumption) (l .pr
 flatResponse r (Outcome.Current l) = flatCurrent r l
 flatResponse r Outcome.Success = flat r true true 0 Amount.Absent Amount.Absent Amount.Absent
 
--- beside a refusal all is 0, no or -1
-abbrev pub noResponse : FlatResponse
-noResponse =
-    record {
-      id = 0;
-      status = 0;
-      result = false;
-      applied = false;
-      state = 0;
-      consumption = negsuc 0;
-      production = negsuc 0;
-      reason = negsuc 0;
-      a = negsuc 0;
-      b = negsuc 0;
-      c = negsuc 0;
-    }
-
 -- AS WORDS: id, status, result, applied, state; consumption, production, reason and the phases' currents beside them
 unfoldable pub responseIn : List ℕ → List ℤ → FlatResponse
 responseIn ws vs =

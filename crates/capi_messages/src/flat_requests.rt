@@ -9,7 +9,7 @@ use capi_fields::field_of;
 use capi_fields::flat_field;
 use capi_fields::flat_target;
 use capi_fields::has_aim;
-use capi_fields::is_lasting;
+use capi_fields::is_omitted;
 use capi_fields::is_yes;
 use capi_fields::no_field;
 use capi_fields::setpoint_time;
@@ -26,16 +26,16 @@ use wire_messages::Setpoints;
 ghost use mathlib.Core.Path.{_≡_};
 ghost use Rattle.wire_messages.specs.declared.Command.{Command};
 ghost use Rattle.capi_messages.specs.Requests.{limitsOf, setpointsOf, phasesOf, currentsOf, currentCommand, commandOf, requestOf};
-ghost use Rattle.capi_messages.specs.Requests.{flatSet, flatCurrents, flatClear, flatRequest, noRequest, requestIn, requestWords, requestValues};
+ghost use Rattle.capi_messages.specs.Requests.{flatSet, flatCurrents, flatClear, flatRequest, requestIn, requestWords, requestValues};
 
-// Words of a request: id, endpoint, feature, command, the fields' kinds, duration, cause, directed, direction, the phases' kinds, lasting.
+// Words of a request: id, endpoint, feature, command, the fields' kinds, duration, cause, directed, direction, the phases' kinds, omitted.
 pub const REQUEST: usize = 14;
 
 // The fields' values: consumption, production, and the phases A, B, C.
 pub const FIELDS: usize = 5;
 
 // SetLimit and SetSetpoint use consumption and production, SetCurrentLimits a, b, c and the direction, all three duration and
-// cause; clears what is directed. A SetSetpoint is lasting where its duration of 0 is written.
+// cause; clears what is directed. A SetSetpoint's duration may be omitted; it is then 0 here.
 pub struct FlatRequest {
     pub id: u64,
     pub endpoint: u64,
@@ -50,7 +50,7 @@ pub struct FlatRequest {
     pub a: FlatField,
     pub b: FlatField,
     pub c: FlatField,
-    pub lasting: bool,
+    pub omitted: bool,
 }
 
 fn limits_of(q: FlatRequest) -> Limits
@@ -74,7 +74,7 @@ fn setpoints_of(q: FlatRequest) -> Setpoints
     Setpoints {
         consumption: target_of(a),
         production: target_of(b),
-        duration: setpoint_time(q.lasting, q.duration),
+        duration: setpoint_time(q.omitted, q.duration),
         cause: q.cause,
     }
 }
@@ -162,10 +162,10 @@ fn flat_set(
     a: FlatField,
     b: FlatField,
     duration: u64,
-    lasting: bool,
+    omitted: bool,
     cause: u64,
 ) -> FlatRequest
-    ensures { λ q. ⌜ q ≡ flatSet r command a b duration lasting cause ⌝ }
+    ensures { λ q. ⌜ q ≡ flatSet r command a b duration omitted cause ⌝ }
 {
     let none = no_field();
     FlatRequest {
@@ -182,7 +182,7 @@ fn flat_set(
         a: none,
         b: none,
         c: none,
-        lasting: lasting,
+        omitted: omitted,
     }
 }
 
@@ -207,7 +207,7 @@ fn flat_currents(r: Request, m: CurrentLimits, f: Phases) -> FlatRequest
         a: flat_field(a),
         b: flat_field(b),
         c: flat_field(c),
-        lasting: false,
+        omitted: false,
     }
 }
 
@@ -229,7 +229,7 @@ fn flat_clear(r: Request, command: u64, a: Aim) -> FlatRequest
         a: none,
         b: none,
         c: none,
-        lasting: false,
+        omitted: false,
     }
 }
 
@@ -261,7 +261,7 @@ fn flat_setpoints(r: Request, m: Setpoints) -> FlatRequest
         flat_target(a),
         flat_target(b),
         time_of(d),
-        is_lasting(d),
+        is_omitted(d),
         m.cause,
     )
 }
@@ -280,28 +280,6 @@ pub fn flat_request(r: Request, c: Command) -> FlatRequest
         }
         Command::ClearCurrentLimits(a) => flat_clear(r, 6, a),
         Command::Unserved(n) => flat_clear(r, n, Aim::Both),
-    }
-}
-
-pub fn no_request() -> FlatRequest
-    ensures { λ r. ⌜ r ≡ noRequest ⌝ }
-{
-    let none = no_field();
-    FlatRequest {
-        id: 0,
-        endpoint: 0,
-        feature: 0,
-        command: 0,
-        consumption: none,
-        production: none,
-        duration: 0,
-        cause: 0,
-        directed: false,
-        direction: 0,
-        a: none,
-        b: none,
-        c: none,
-        lasting: false,
     }
 }
 
@@ -338,7 +316,7 @@ pub fn request_in(w: [u64; REQUEST], v: [i64; FIELDS]) -> FlatRequest
             kind: w[12],
             value: v[4],
         },
-        lasting: is_yes(w[13]),
+        omitted: is_yes(w[13]),
     }
 }
 
@@ -359,7 +337,7 @@ pub fn request_words(q: FlatRequest) -> [u64; REQUEST]
         q.a.kind,
         q.b.kind,
         q.c.kind,
-        word_of(q.lasting),
+        word_of(q.omitted),
     ]
 }
 

@@ -13,7 +13,7 @@ ghost use mathlib.Core.Path.{_≡_};
 ghost use mathlib.Core.Bool.{not, _||_};
 ghost use lib.Dec.{eqb};
 ghost use Rattle.capi_messages.specs.Responses.{limitOf, setpointOf, currentOf, outcomeOf, responseOf};
-ghost use Rattle.capi_messages.specs.Responses.{flat, flatCurrent, flatResponse, noResponse, responseIn, responseWords, responseValues};
+ghost use Rattle.capi_messages.specs.Responses.{flat, flatCurrent, flatResponse, responseIn, responseWords, responseValues};
 
 // Words of a response: id, status, result, applied, state.
 pub const RESPONSE: usize = 5;
@@ -169,24 +169,6 @@ pub fn flat_response(r: Response, o: Outcome) -> FlatResponse
         }
         Outcome::Current(l) => flat_current(r, l),
         Outcome::Success => flat(r, true, true, 0, none, none, none),
-    }
-}
-
-pub fn no_response() -> FlatResponse
-    ensures { λ r. ⌜ r ≡ noResponse ⌝ }
-{
-    FlatResponse {
-        id: 0,
-        status: 0,
-        result: false,
-        applied: false,
-        state: 0,
-        consumption: -1,
-        production: -1,
-        reason: -1,
-        a: -1,
-        b: -1,
-        c: -1,
     }
 }
 

@@ -1,7 +1,7 @@
--- The tests are those of the definition.
-use borrow.Author.Tests.{eq-eqb, ne-eqb}
+-- Both answers stand under the definition's test.
+use mathlib.Core.Path.{refl}
 use Rattle.capi_fields.specs.Fields.{setpointTime}
-use borrow.Author.Needs.{needs}
+use Rattle.capi_fields.proofs.Chosen.{first, second}
 use Rattle.capi_fields.proofs.fields.setpoint_time.Statement.{statement}
 use Rattle.capi_fields.proofs.fields.setpoint_time.Tie as tie
 
@@ -10,4 +10,4 @@ unfolding setpointTime
 setpoint-time-spec =
     tie.close
     (tie.spec
-    (λ c. rw (eq-eqb _ _ (c .before .if1 .taken), c .if2 .taken)) (λ c. rw (eq-eqb _ _ (c .before .if1 .taken), c .if2 .left)) (λ c. rw (ne-eqb _ _ (c .if1 .left))))
+    (λ c. first _ _ _ _ (c .if1 .taken) refl) (λ c. second _ _ _ _ (c .if1 .left) refl))

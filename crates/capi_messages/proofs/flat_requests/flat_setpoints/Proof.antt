@@ -13,4 +13,4 @@ flat-setpoints-spec =
     (λ c.
     let at-time = c .before .before in
     let at-second = at-time .before in
-    rw (c .flat-set .ensures, at-second .before .flat-target .ensures, at-second .flat-target2 .ensures, at-time .time-of .ensures, c .before .is-lasting .ensures)))
+    rw (c .flat-set .ensures, at-second .before .flat-target .ensures, at-second .flat-target2 .ensures, at-time .time-of .ensures, c .before .is-omitted .ensures)))

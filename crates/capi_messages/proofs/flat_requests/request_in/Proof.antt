@@ -1,4 +1,4 @@
--- Each field is the number at its place; directed and lasting are yeses.
+-- Each field is the number at its place; directed and omitted are yeses.
 use Rattle.capi_messages.specs.Requests.{requestIn}
 use mir.Val.{SFits}
 use mir.Syntax.{w64}

@@ -1,4 +1,4 @@
--- Each word is a field; directed and lasting are yeses as words.
+-- Each word is a field; directed and omitted are yeses as words.
 use Rattle.capi_messages.specs.Requests.{requestWords}
 use borrow.Author.Needs.{needs}
 use Rattle.capi_messages.proofs.flat_requests.request_words.Statement.{statement}

@@ -1,4 +1,4 @@
--- Each field is read by its kind, the duration by whether it lasts.
+-- Each field is read by its kind, the duration by whether it is omitted.
 use Rattle.capi_messages.specs.Requests.{setpointsOf}
 use borrow.Author.Needs.{needs}
 use Rattle.capi_messages.proofs.flat_requests.setpoints_of.Statement.{statement}
