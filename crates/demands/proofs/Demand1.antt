@@ -9,11 +9,10 @@ use borrow.Author.Tests.{ne-eqb}
 use Rattle.kernel.specs.Frame.{frameNumber, frameAnswer}
 use Rattle.device_store.specs.declared.Settings.{Settings}
 use Rattle.device_calls.specs.Refusals
-use Rattle.device_store.specs.Zones.{any, joined, slotOf}
-use Rattle.device_store.specs.Words.{zonesOf}
+use Rattle.device_store.specs.Zones.{any}
 use Rattle.device_rules.specs.Rules.{badSettings}
 use Rattle.device_calls.specs.Start.{startNumber, startAfter}
-use Rattle.device_store.proofs.Effects.{fresh-settings, fresh-clock, fresh-override, fresh-zones}
+use Rattle.device_store.proofs.Effects.{fresh-settings, fresh-clock, fresh-override}
 use Rattle.plan.specs.Plan.{rowsFrom, planTests, planNumber, planAnswer, planSlice}
 use Rattle.report.specs.declared.Inputs.{Inputs}
 use Rattle.report.specs.Report.{numberOf, reportOf, pairsAfter}

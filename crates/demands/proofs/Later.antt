@@ -5,9 +5,7 @@ use mathlib.Core.Bool.{Bool, true, false, cond, not, _&&_}
 use mathlib.Core.List.{List, [], _∷_, _++_}
 use mathlib.Core.Option.{Option, some, none}
 use Prim.Native.Nat.{ℕ, _+_, _/_, _^_}
-use native.Mathlib.Omega.{arith}
 use lib.Dec.{leb, ltb, eqb}
-use lib.IntN.{negsuc}
 use lib.ListN.{length, drop}
 use borrow.Author.Tests.{eqb-true, ne-eqb}
 use Rattle.wire_cbor.specs.Item.{Item, payloadOf, isSome}
@@ -27,7 +25,6 @@ use Rattle.ticks.specs.Ticks.{END, stepOf, refused, accepted, moved, readingOf}
 use Rattle.ticks.specs.Words.{readingIn}
 use Rattle.ticks.proofs.Steps.{kept-old}
 use Rattle.kernel_laws.proofs.Over.{refused-leaves}
-use Rattle.plan.specs.Plan.{rowsFrom}
 use Rattle.plan_plain.specs.declared.Row.{Row}
 use Rattle.plan_plain.specs.Records.{rowsNow, recordsOf, plainNumber, plainAnswer, plainSlice}
 use Rattle.kernel_laws.proofs.Agree.{same-rows}

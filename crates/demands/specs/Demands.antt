@@ -17,7 +17,7 @@ use Rattle.wire_requests.specs.Requests.{Envelope, readRequest, readingNumber}
 use Rattle.wire_requests.specs.WrittenRequests.{requestItem, requestNumber}
 use Rattle.wire_responses.specs.Responses.{readResponse, answerNumber}
 use Rattle.wire_responses.specs.WrittenResponses.{responseItem, responseNumber, statusAlone}
-use Rattle.wire_laws.specs.RoundTrips.{FramedExact, FrameStands, RequestReadsBack, ResponseReadsBack, StatusReadsBack, RequestWritable, ResponseWritable, RequestWritesAgain, ResponseWritesAgain}
+use Rattle.wire_laws.specs.RoundTrips.{FramedExact, FrameStands, RequestReadsBack, ResponseReadsBack, RequestWritable, ResponseWritable, RequestWritesAgain, ResponseWritesAgain}
 use Rattle.wire_output.specs.Writing.{itemFrame, writingNumber, writtenOf, leftBy}
 use Rattle.wire_requests.specs.declared.reading.Reading.{Reading}
 use Rattle.device_store.specs.declared.Settings.{Settings}
@@ -26,6 +26,7 @@ use Rattle.device_store.specs.Sizes.{helds}
 use Rattle.device_store.specs.Zones.{idOf, rankOf, anyUp}
 use Rattle.device_holds.specs.Holds.{Situation, situationOf, valueAt, shown, valuesAt}
 use Rattle.device_holds.specs.Table.{Table}
+use Rattle.kernel_laws.specs.Laws.{ResponsesRead, UnservedReads}
 use Rattle.kernel_laws.specs.Expiry.{Expiry}
 use Rattle.device_calls.specs.Calls.{askAnswer}
 use Rattle.plan.specs.Rows.{IsPlan}
@@ -100,7 +101,9 @@ pub record Demand2 : Type 0 where
   -- "What is written reads back equal"
   pub requestBack : RequestReadsBack
   pub responseBack : ResponseReadsBack
-  pub statusBack : StatusReadsBack
+  -- so do the kernel's own responses, in every state: to a request, and with status 4 to one that is not served, for every command that its sender may have meant
+  pub kernelBack : ResponsesRead
+  pub unservedBack : UnservedReads
   -- what is read can be written, and "a frame read and written again is the same bytes if it has no unknown key and no written zero duration";
   -- L8: a setpoint's zero is written, so that only limits and current limits need the latter
   pub requestWritable : RequestWritable
