@@ -17,7 +17,7 @@ use Rattle.device_store.proofs.Tests.{ltb-not}
 use Rattle.measurement_table.specs.Table.{rows}
 use Rattle.measurement_table.specs.Cells.{Cell, rowsFit}
 use Rattle.measurement_table.specs.Words.{held, marksFit, rangeNumber}
-use Rattle.measurement_table.specs.Payload.{lengthFits, cellsOf, readNumber}
+use Rattle.measurement_table.specs.Payload.{lengthFits, cellsOf, readNumber, readAfter}
 use Rattle.ticks.specs.declared.front.Front.{Front}
 use Rattle.ticks.specs.declared.front.Reading.{Reading}
 use Rattle.ticks.specs.declared.words.Answer.{Answer}
@@ -44,11 +44,12 @@ payload-first a (some i) none = refl
 payload-first a none (some cs) = refl
 payload-first a none none = refl
 
-pub reads-measurement : (s : List ℕ) → ReadsMeasurement s
-reads-measurement s =
+pub reads-measurement : (s ws : List ℕ) → ReadsMeasurement s ws
+reads-measurement s ws =
     record {
       numbered = by-tests (readNumber s) (payloadTests s)
           (unfold readNumber payloadTests in payload-first (not (lengthFits s)) (payloadOf s) (cellsOf s)) (unfold payloadTests any in refl);
+      unchanged = λ p. unfold readAfter in rw (ne-eqb (readNumber s) 0 p);
     }
 
 -- a writer answers its number

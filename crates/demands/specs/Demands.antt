@@ -85,7 +85,7 @@ pub record Demand1 : Type 0 where
   -- the calls of document 02, likewise: their numbers by its tests, and what a refusal leaves of all that was lent
   pub receive : (r : Record) (room scrap : List ℕ) → Receives r room scrap (received r room scrap)
   pub receiveWords : (ws cs room scrap : List ℕ) → ReceivesWords ws cs room scrap (received (recordIn ws) room scrap .answer .number)
-  pub readMeasurement : (payload : List ℕ) → ReadsMeasurement payload
+  pub readMeasurement : (payload words : List ℕ) → ReadsMeasurement payload words
   pub writeMeasurement : (words out : List ℕ) → WritesMeasurement words out
   pub readTick : (f : Front) (k : ℕ) → ReadsTick f k
   pub plainPlan : (device : List ℕ) (records : List Row) → PlansPlainly device records

@@ -18,7 +18,7 @@ use Rattle.receiver.specs.Words.{recordIn, recordWords, wordsLeft, countsLeft}
 use Rattle.measurement_table.specs.Table.{rows}
 use Rattle.measurement_table.specs.Cells.{rowsFit}
 use Rattle.measurement_table.specs.Words.{held, marksFit, rangeNumber}
-use Rattle.measurement_table.specs.Payload.{lengthFits, cellsOf, readNumber, itemOf}
+use Rattle.measurement_table.specs.Payload.{lengthFits, cellsOf, readNumber, readAfter, itemOf}
 use Rattle.ticks.specs.declared.front.Front.{Front}
 use Rattle.ticks.specs.Ticks.{END, stepOf, readingOf}
 use Rattle.ticks.specs.Words.{readingIn, wordsLeft as frontLeft}
@@ -81,8 +81,9 @@ unfoldable pub measuredTests : List ℕ → ℕ → List (Bool × ℕ)
 measuredTests words room =
     (not (marksFit words 36 0 && rowsFit rows (held words)), 3) ∷ (not (leb (length (measured words)) room), 15) ∷ []
 
-pub record ReadsMeasurement (payload : List ℕ) : Type 0 where
+pub record ReadsMeasurement (payload words : List ℕ) : Type 0 where
   pub numbered : ByTests (readNumber payload) (payloadTests payload)
+  pub unchanged : readNumber payload ≢ 0 → readAfter payload words ≡ words
 
 pub record WritesMeasurement (words out : List ℕ) : Type 0 where
   pub numbered : ByTests (writtenOf (rangeNumber words) (measured words) (length out) .number) (measuredTests words (length out))
