@@ -22,7 +22,7 @@ use Rattle.demands.specs.Demands.{Demand1}
 use Rattle.demands.proofs.FirstTests.{by-tests}
 use Rattle.demands.proofs.Codecs.{reads-request, reads-response, writes-request, writes-response, reports}
 use Rattle.demands.proofs.Scraps.{receives, receives-words}
-use Rattle.demands.proofs.Later.{reads-measurement, written-number, written-nothing, writes-measurement, reads-tick, plans-plainly, rescues}
+use Rattle.demands.proofs.Later.{reads-measurement, written-number, written-nothing, writes-measurement, reads-tick, tick-words, plans-plainly, rescues}
 use Rattle.demands.proofs.Reached.{nobody-fresh, started-pairs}
 use Rattle.demands.proofs.Answers.{answers}
 use Rattle.demands.proofs.Responses.{responds}
@@ -75,6 +75,7 @@ demand-1 =
       readMeasurement = reads-measurement;
       writeMeasurement = writes-measurement;
       readTick = reads-tick;
+      readTickWords = tick-words;
       plainPlan = plans-plainly;
       rescue = rescues;
     }

@@ -22,7 +22,7 @@ use Rattle.ticks.specs.declared.front.Front.{Front}
 use Rattle.ticks.specs.declared.front.Reading.{Reading}
 use Rattle.ticks.specs.declared.words.Answer.{Answer}
 use Rattle.ticks.specs.Ticks.{END, stepOf, refused, accepted, moved, readingOf}
-use Rattle.ticks.specs.Words.{readingIn}
+use Rattle.ticks.specs.Words.{readingIn, wordsLeft}
 use Rattle.ticks.proofs.Steps.{kept-old}
 use Rattle.kernel_laws.proofs.Over.{refused-leaves}
 use Rattle.plan_plain.specs.declared.Row.{Row}
@@ -106,8 +106,10 @@ module _ (f : Front) (k : ℕ) where
       record {
         numbered = by-tests (readingOf f k .number) (tickTests f k) tick-first (unfold tickTests any in refl);
         unchanged = λ p. let e = refused-leaves f k p in (e .0, ap (λ (a : Answer). a .seconds) (e .1));
-        inWords = λ ws p. sym (kept-old ws (readingIn ws k) p);
       }
+
+pub tick-words : (ws : List ℕ) (k : ℕ) → readingIn ws k .number ≢ 0 → wordsLeft ws k ≡ ws
+tick-words ws k p = sym (kept-old ws (readingIn ws k) p)
 
 -- L6: THE PLAIN PLAN
 pub plans-plainly : (ws : List ℕ) (old : List Row) → PlansPlainly ws old

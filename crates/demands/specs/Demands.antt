@@ -40,6 +40,7 @@ use Rattle.receiver.specs.declared.record.Record.{Record}
 use Rattle.receiver.specs.Receive.{received}
 use Rattle.receiver.specs.Words.{recordIn}
 use Rattle.ticks.specs.declared.front.Front.{Front}
+use Rattle.ticks.specs.Words.{readingIn, wordsLeft as frontLeft}
 use Rattle.plan_plain.specs.declared.Row.{Row}
 use Rattle.rescue_walk.specs.Rescue.{number as rescueNumber}
 use Rattle.demands.specs.Run.{Call, number, run}
@@ -88,6 +89,7 @@ pub record Demand1 : Type 0 where
   pub readMeasurement : (payload words : List ℕ) → ReadsMeasurement payload words
   pub writeMeasurement : (words out : List ℕ) → WritesMeasurement words out
   pub readTick : (f : Front) (k : ℕ) → ReadsTick f k
+  pub readTickWords : (ws : List ℕ) (k : ℕ) → readingIn ws k .number ≢ 0 → frontLeft ws k ≡ ws
   pub plainPlan : (device : List ℕ) (records : List Row) → PlansPlainly device records
   pub rescue : (script out report : List ℕ) → Rescues script out report (rescueNumber script (length out) (length report))
 

@@ -21,7 +21,6 @@ use Rattle.measurement_table.specs.Words.{held, marksFit, rangeNumber}
 use Rattle.measurement_table.specs.Payload.{lengthFits, cellsOf, readNumber, readAfter, itemOf}
 use Rattle.ticks.specs.declared.front.Front.{Front}
 use Rattle.ticks.specs.Ticks.{END, stepOf, readingOf}
-use Rattle.ticks.specs.Words.{readingIn, wordsLeft as frontLeft}
 use Rattle.plan.specs.Plan.{rowsFrom}
 use Rattle.plan_plain.specs.declared.Row.{Row}
 use Rattle.plan_plain.specs.Records.{plainAnswer, plainSlice}
@@ -100,8 +99,6 @@ tickTests f k =
 pub record ReadsTick (f : Front) (k : ℕ) : Type 0 where
   pub numbered : ByTests (readingOf f k .number) (tickTests f k)
   pub unchanged : readingOf f k .number ≢ 0 → (readingOf f k .front ≡ f) × (readingOf f k .seconds ≡ negsuc 0)
-  -- nor does it change the words of a front
-  pub inWords : (ws : List ℕ) → readingIn ws k .number ≢ 0 → frontLeft ws k ≡ ws
 
 -- L6: THE PLAIN PLAN
 -- "15 exactly when there are more rows than records": the rows of the plan
