@@ -52,7 +52,7 @@ agree-values s ws h a =
       override = a .override;
     })
 
-any-up : (s : Settings) (zs : List Zone) (h : Log) → Same s zs h → anyUp zs ≡ anyUp (zonesBy s h)
+pub any-up : (s : Settings) (zs : List Zone) (h : Log) → Same s zs h → anyUp zs ≡ anyUp (zonesBy s h)
 any-up s zs h k = anyUp-same zs (zonesBy s h) (slots-within s zs h k) (history-within s zs h k)
 
 clock-step : (h : Log) (t : ℕ) (e : Told) → clockBy ((t, e) ∷ h) ≡ t

@@ -6,14 +6,13 @@ use Prim.Native.Nat.{ℕ}
 use lib.IntN.{ℤ}
 use lib.ListN.{length}
 use borrow.Author.Tests.{ne-eqb}
-use Rattle.wire_output.specs.Writing.{writingNumber, writtenOf, leftBy}
+use Rattle.kernel.specs.Frame.{frameNumber, frameAnswer}
 use Rattle.device_store.specs.declared.Settings.{Settings}
 use Rattle.device_calls.specs.Refusals
-use Rattle.device_store.specs.Zones.{any, joined, slotOf}
-use Rattle.device_store.specs.Words.{zonesOf}
+use Rattle.device_store.specs.Zones.{any}
 use Rattle.device_rules.specs.Rules.{badSettings}
 use Rattle.device_calls.specs.Start.{startNumber, startAfter}
-use Rattle.device_store.proofs.Effects.{fresh-settings, fresh-clock, fresh-override, fresh-zones}
+use Rattle.device_store.proofs.Effects.{fresh-settings, fresh-clock, fresh-override}
 use Rattle.plan.specs.Plan.{rowsFrom, planTests, planNumber, planAnswer, planSlice}
 use Rattle.report.specs.declared.Inputs.{Inputs}
 use Rattle.report.specs.Report.{numberOf, reportOf, pairsAfter}
@@ -22,6 +21,8 @@ use Rattle.demands.specs.Answers.{ByTests, Starts}
 use Rattle.demands.specs.Demands.{Demand1}
 use Rattle.demands.proofs.FirstTests.{by-tests}
 use Rattle.demands.proofs.Codecs.{reads-request, reads-response, writes-request, writes-response, reports}
+use Rattle.demands.proofs.Scraps.{receives, receives-words}
+use Rattle.demands.proofs.Later.{reads-measurement, written-number, written-nothing, writes-measurement, reads-tick, tick-words, plans-plainly, rescues}
 use Rattle.demands.proofs.Reached.{nobody-fresh, started-pairs}
 use Rattle.demands.proofs.Answers.{answers}
 use Rattle.demands.proofs.Responses.{responds}
@@ -32,10 +33,6 @@ plans ws room = by-tests (planNumber ws room) (planTests (rowsFrom ws) room) (un
 no-rows : (ws : List ℕ) (out : List ℤ) → planNumber ws (length out) ≢ 0 → (planSlice ws out ≡ out) × (planAnswer ws (length out) .count ≡ 0)
 unfolding planSlice planAnswer
 no-rows ws out p = let e = ne-eqb (planNumber ws (length out)) 0 p in (rw e, rw e)
-
-no-frame : (n : ℕ) (bytes out : List ℕ) → writingNumber n bytes (length out) ≢ 0 → (leftBy n bytes out ≡ out) × (writtenOf n bytes (length out) .length ≡ 0)
-unfolding leftBy writtenOf
-no-frame n bytes out p = let e = ne-eqb (writingNumber n bytes (length out)) 0 p in (rw e, rw e)
 
 no-pairs : (i : Inputs) (attributes out : List ℕ) → numberOf i attributes (length out) ≢ 0
     → (pairsAfter i attributes out ≡ out) × (reportOf i attributes (length out) .count ≡ 0)
@@ -66,7 +63,19 @@ demand-1 =
       reports = reports;
       frame = λ ws z t bytes out. responds ws z t out bytes;
       plan = no-rows;
-      write = no-frame;
+      write = written-nothing;
       report = no-pairs;
+      frameAnswers = λ ws z t bytes room. unfold frameAnswer frameNumber in refl;
+      planAnswers = λ ws room. unfold planAnswer in refl;
+      writeAnswers = written-number;
+      reportAnswers = λ i attributes room. unfold reportOf in refl;
       start = starts;
+      receive = receives;
+      receiveWords = receives-words;
+      readMeasurement = reads-measurement;
+      writeMeasurement = writes-measurement;
+      readTick = reads-tick;
+      readTickWords = tick-words;
+      plainPlan = plans-plainly;
+      rescue = rescues;
     }

@@ -1,5 +1,5 @@
 -- Demand 2, proved.
-use mathlib.Core.Path.{_≡_, refl, subst}
+use mathlib.Core.Path.{_≡_, refl}
 use mathlib.Core.List.{List, _++_}
 use Prim.Native.Nat.{ℕ}
 use lib.ListN.{length, drop}
@@ -13,9 +13,10 @@ use Rattle.wire_requests.specs.declared.reading.Reading.{Reading}
 use Rattle.wire_laws.proofs.Trips.{framed-exact, frame-stands}
 use Rattle.wire_laws.proofs.RequestBack.{request-reads-back}
 use Rattle.wire_laws.proofs.RequestAgain.{request-writable, request-writes-again}
-use Rattle.wire_laws.proofs.ResponseBack.{response-reads-back, status-reads-back}
+use Rattle.wire_laws.proofs.ResponseBack.{response-reads-back}
 use Rattle.wire_laws.proofs.ResponseAgain.{response-writable, response-writes-again}
 use Rattle.device_holds.proofs.Rows.{table}
+use Rattle.kernel_laws.proofs.Readable.{responses-read, unserved-reads}
 use Rattle.kernel_laws.proofs.Expiry.{expiry}
 use Rattle.device_calls.specs.Commands.{commandAnswer}
 use Rattle.kernel.specs.Frame.{responseTo, responseFrame, frameAnswer, frameOut}
@@ -61,7 +62,8 @@ demand-2 =
       framed = framed-exact;
       requestBack = request-reads-back;
       responseBack = response-reads-back;
-      statusBack = status-reads-back;
+      kernelBack = responses-read;
+      unservedBack = unserved-reads;
       requestWritable = request-writable;
       responseWritable = response-writable;
       requestAgain = request-writes-again;

@@ -1,6 +1,6 @@
 -- Demand 3, proved.
-use mathlib.Core.Path.{_≡_, ap, subst, fun-ext}
-use mathlib.Core.Bool.{true}
+use mathlib.Core.Path.{_≡_, _∙_, ap, subst, fun-ext}
+use mathlib.Core.Bool.{Bool, true}
 use mathlib.Core.List.{List}
 use Prim.Native.Nat.{ℕ, _≤_}
 use native.Mathlib.Omega.{arith}
@@ -15,19 +15,19 @@ use Rattle.device_store.specs.Words.{clockOf, zonesOf}
 use Rattle.device_holds.specs.Holds.{situationOf, shown, valuesAt}
 use Rattle.device_store.specs.declared.Zone.{Zone}
 use Rattle.device_store.specs.declared.Settings.{Settings}
-use Rattle.device_store.specs.Zones.{idOf, rankOf}
+use Rattle.device_store.specs.Zones.{idOf, rankOf, anyUp}
 use Rattle.device_calls.specs.Calls.{askAnswer}
 use Rattle.plan.specs.Rows.{IsPlan}
 use Rattle.plan.specs.Plan.{planOf, rowsFrom, planNumber, planAnswer, planSlice}
 use Rattle.plan.proofs.IsPlan.{plan-is, plan-unique}
-use Rattle.plan.proofs.Walk.{planOf-few}
+use Rattle.plan.proofs.Walk.{planOf-few, planOf-few-down}
 use Rattle.demands.specs.Run.{run}
 use Rattle.demands.specs.History.{Log, newest, saysRank, clockBy, joinedBy, recordBy}
 use Rattle.demands.specs.Accepted.{startedWith, history, told}
 use Rattle.demands.specs.Demands.{Lists, Demand3}
 use Rattle.demands.proofs.Count.{at-most}
 use Rattle.demands.proofs.Same.{at, id-high, Same}
-use Rattle.demands.proofs.Agree.{agree-values}
+use Rattle.demands.proofs.Agree.{agree-values, any-up}
 use Rattle.demands.proofs.Steps.{number-same, plan-number-same, response-same}
 use Rattle.demands.proofs.Reached.{agree-run}
 use Rattle.demands.proofs.Ranges.{value-small}
@@ -35,10 +35,10 @@ use Rattle.demands.proofs.Slots.{released-slot}
 use Rattle.demands.proofs.Moving.{moves-as-planned}
 
 -- an accepted plan lists what changes of any values that are the device's
-lists : (ws : List ℕ) (f : ℕ → List ℤ) → valuesAt (situationOf ws) ≡ f → (now : ℕ) → clockOf ws ≡ now → (out : List ℤ) → planNumber ws (length out) ≡ 0
-    → Lists f now out (planSlice ws out) (planAnswer ws (length out) .count)
+lists : (ws : List ℕ) (f : ℕ → List ℤ) → valuesAt (situationOf ws) ≡ f → (up : Bool) → anyUp (zonesOf ws) ≡ up → (now : ℕ) → clockOf ws ≡ now
+    → (out : List ℤ) → planNumber ws (length out) ≡ 0 → Lists f up now out (planSlice ws out) (planAnswer ws (length out) .count)
 unfolding planSlice planAnswer rowsFrom
-lists ws f v now c out e =
+lists ws f v up u now c out e =
     let p : IsPlan f now (planOf (situationOf ws) (clockOf ws)) = unfold planOf in rw (c, v) (plan-is f now) in
     record {
       rows = planOf (situationOf ws) (clockOf ws);
@@ -47,6 +47,7 @@ lists ws f v now c out e =
       slice = rw e;
       counted = rw e;
       few = planOf-few ws (clockOf ws);
+      fewDown = λ d. planOf-few-down ws (clockOf ws) (u ∙ d);
     }
 
 -- an ask shows the values at the clock
@@ -69,7 +70,7 @@ demand-3 s k calls =
     let a = agree-run s k calls in
     let v = agree-values (startedWith s) d h a in
     record {
-      plan = lists d (valuesAt (told s calls)) (fun-ext v) (clockBy h) (a .clock);
+      plan = lists d (valuesAt (told s calls)) (fun-ext v) (anyUp (told s calls .zones)) (any-up (startedWith s) (zonesOf d) h (a .zones)) (clockBy h) (a .clock);
       moving = moves-as-planned d (a .size);
       values = v;
       ask = asks d (valuesAt (told s calls)) v (clockBy h) (a .clock);

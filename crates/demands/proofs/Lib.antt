@@ -9,6 +9,8 @@ pub mod Steps
 pub mod Reached
 pub mod FirstTests
 pub mod Codecs
+pub mod Scraps
+pub mod Later
 pub mod Answers
 pub mod Responses
 pub mod Small

@@ -2,7 +2,7 @@
 use Prim.Native.Nat.{ℕ, _≤_, _<_}
 use mathlib.Core.Path.{_≡_}
 use mathlib.Core.Logic.{_≢_}
-use mathlib.Core.Bool.{true}
+use mathlib.Core.Bool.{Bool, true, false}
 use mathlib.Core.List.{List, _++_}
 use mathlib.Core.Option.{some}
 use lib.IntN.{ℤ, pos}
@@ -17,15 +17,16 @@ use Rattle.wire_requests.specs.Requests.{Envelope, readRequest, readingNumber}
 use Rattle.wire_requests.specs.WrittenRequests.{requestItem, requestNumber}
 use Rattle.wire_responses.specs.Responses.{readResponse, answerNumber}
 use Rattle.wire_responses.specs.WrittenResponses.{responseItem, responseNumber, statusAlone}
-use Rattle.wire_laws.specs.RoundTrips.{FramedExact, FrameStands, RequestReadsBack, ResponseReadsBack, StatusReadsBack, RequestWritable, ResponseWritable, RequestWritesAgain, ResponseWritesAgain}
+use Rattle.wire_laws.specs.RoundTrips.{FramedExact, FrameStands, RequestReadsBack, ResponseReadsBack, RequestWritable, ResponseWritable, RequestWritesAgain, ResponseWritesAgain}
 use Rattle.wire_output.specs.Writing.{itemFrame, writingNumber, writtenOf, leftBy}
 use Rattle.wire_requests.specs.declared.reading.Reading.{Reading}
 use Rattle.device_store.specs.declared.Settings.{Settings}
 use Rattle.device_store.specs.declared.Zone.{Zone}
 use Rattle.device_store.specs.Sizes.{helds}
-use Rattle.device_store.specs.Zones.{idOf, rankOf}
+use Rattle.device_store.specs.Zones.{idOf, rankOf, anyUp}
 use Rattle.device_holds.specs.Holds.{Situation, situationOf, valueAt, shown, valuesAt}
 use Rattle.device_holds.specs.Table.{Table}
+use Rattle.kernel_laws.specs.Laws.{ResponsesRead, UnservedReads}
 use Rattle.kernel_laws.specs.Expiry.{Expiry}
 use Rattle.device_calls.specs.Calls.{askAnswer}
 use Rattle.plan.specs.Rows.{IsPlan}
@@ -35,11 +36,19 @@ use Rattle.report.specs.declared.Inputs.{Inputs}
 use Rattle.report.specs.Rules.{breaches}
 use Rattle.report.specs.Report.{numberOf, reportOf, flat, pairsAfter}
 use Rattle.report.specs.Statements.{Exact, Ordered}
+use Rattle.receiver.specs.declared.record.Record.{Record}
+use Rattle.receiver.specs.Receive.{received}
+use Rattle.receiver.specs.Words.{recordIn}
+use Rattle.ticks.specs.declared.front.Front.{Front}
+use Rattle.ticks.specs.Words.{readingIn, wordsLeft as frontLeft}
+use Rattle.plan_plain.specs.declared.Row.{Row}
+use Rattle.rescue_walk.specs.Rescue.{number as rescueNumber}
 use Rattle.demands.specs.Run.{Call, number, run}
 use Rattle.demands.specs.History.{newest, saysRank, clockBy, joinedBy, recordBy}
 use Rattle.demands.specs.Accepted.{numberBy, planNumberBy, responseFrameBy, startedWith, InPairs, history, told}
 use Rattle.demands.specs.Tests.{envelopeOf, readTests, answerTests, writeRequestTests, writeResponseTests, reportTests}
 use Rattle.demands.specs.Answers.{ByTests, Answers, Starts, Written, Responds, Determined}
+use Rattle.demands.specs.Later.{Receives, ReceivesWords, ReadsMeasurement, WritesMeasurement, ReadsTick, PlansPlainly, Rescues}
 use Rattle.demands.specs.ReleasedSlot.{ReleasedSlot}
 use Rattle.demands.specs.Moving.{Moving}
 
@@ -67,8 +76,22 @@ pub record Demand1 : Type 0 where
       → (leftBy n frame out ≡ out) × (writtenOf n frame (length out) .length ≡ 0)
   pub report : (i : Inputs) (attributes out : List ℕ) → numberOf i attributes (length out) ≢ 0
       → (pairsAfter i attributes out ≡ out) × (reportOf i attributes (length out) .count ≡ 0)
+  -- the number in an answer is the one above
+  pub frameAnswers : (device : List ℕ) (z t : ℕ) (bytes : List ℕ) (room : ℕ) → frameAnswer device z t bytes room .number ≡ frameNumber device z t bytes room
+  pub planAnswers : (device : List ℕ) (room : ℕ) → planAnswer device room .number ≡ planNumber device room
+  pub writeAnswers : (n : ℕ) (frame : List ℕ) (room : ℕ) → writtenOf n frame room .number ≡ writingNumber n frame room
+  pub reportAnswers : (i : Inputs) (attributes : List ℕ) (room : ℕ) → reportOf i attributes room .number ≡ numberOf i attributes room
   -- "A fresh device's clock is 0"; "A refused start hands back a fresh device" with settings of its own
   pub start : (s : Settings) → InPairs s → Starts s
+  -- the calls of document 02, likewise: their numbers by its tests, and what a refusal leaves of all that was lent
+  pub receive : (r : Record) (room scrap : List ℕ) → Receives r room scrap (received r room scrap)
+  pub receiveWords : (ws cs room scrap : List ℕ) → ReceivesWords ws cs room scrap (received (recordIn ws) room scrap .answer .number)
+  pub readMeasurement : (payload words : List ℕ) → ReadsMeasurement payload words
+  pub writeMeasurement : (words out : List ℕ) → WritesMeasurement words out
+  pub readTick : (f : Front) (k : ℕ) → ReadsTick f k
+  pub readTickWords : (ws : List ℕ) (k : ℕ) → readingIn ws k .number ≢ 0 → frontLeft ws k ≡ ws
+  pub plainPlan : (device : List ℕ) (records : List Row) → PlansPlainly device records
+  pub rescue : (script out report : List ℕ) → Rescues script out report (rescueNumber script (length out) (length report))
 
 -- DEMAND 2
 pub record Demand2 : Type 0 where
@@ -80,7 +103,9 @@ pub record Demand2 : Type 0 where
   -- "What is written reads back equal"
   pub requestBack : RequestReadsBack
   pub responseBack : ResponseReadsBack
-  pub statusBack : StatusReadsBack
+  -- so do the kernel's own responses, in every state: to a request, and with status 4 to one that is not served, for every command that its sender may have meant
+  pub kernelBack : ResponsesRead
+  pub unservedBack : UnservedReads
   -- what is read can be written, and "a frame read and written again is the same bytes if it has no unknown key and no written zero duration";
   -- L8: a setpoint's zero is written, so that only limits and current limits need the latter
   pub requestWritable : RequestWritable
@@ -112,8 +137,9 @@ pub record Demand2 : Type 0 where
       → (pairsAfter i attributes out ≡ flat (breaches i attributes) ++ drop (length (flat (breaches i attributes))) out) × (reportOf i attributes (length out) .count ≡ length (breaches i attributes))
 
 -- DEMAND 3
--- a slice and a count that list a plan: every later second at which the values f change, each once, in order, with the values from then on
-pub record Lists (f : ℕ → List ℤ) (now : ℕ) (before after : List ℤ) (count : ℕ) : Type 0 where
+-- a slice and a count that list a plan: every later second at which the values f change, each once, in order, with the values from then on;
+-- `up` says whether a link is up
+pub record Lists (f : ℕ → List ℤ) (up : Bool) (now : ℕ) (before after : List ℤ) (count : ℕ) : Type 0 where
   pub rows : List (ℕ × List ℤ)
   pub whole : IsPlan f now rows
   pub only : (others : List (ℕ × List ℤ)) → IsPlan f now others → others ≡ rows
@@ -121,12 +147,14 @@ pub record Lists (f : ℕ → List ℤ) (now : ℕ) (before after : List ℤ) (c
   pub counted : count ≡ length rows
   -- "the bound on rows is 80"
   pub few : length rows ≤ 80
+  -- "the 17 of L3 becomes 65": with no link up, as in FAILSAFE
+  pub fewDown : up ≡ false → length rows ≤ 65
 
 -- the device that calls lead to, beside what the history of those calls tells
 pub record FromHistory (s : Settings) (calls : List Call) : Type 0 where
   -- "a plan that fits its buffer lists every later second the clock can show at which the control state, a limit or a setpoint would change"
   pub plan : (out : List ℤ) → planNumber (run s calls) (length out) ≡ 0
-      → Lists (valuesAt (told s calls)) (clockBy (history s calls)) out (planSlice (run s calls) out) (planAnswer (run s calls) (length out) .count)
+      → Lists (valuesAt (told s calls)) (anyUp (told s calls .zones)) (clockBy (history s calls)) out (planSlice (run s calls) out) (planAnswer (run s calls) (length out) .count)
   -- ".. if only the clock moved": moved by its own call, it shows what the rows say
   pub moving : Moving (run s calls)
   -- "Those values come from the history alone": the control state and all ten quantities, phase by phase too, at every second

@@ -3,6 +3,7 @@ pub mod History
 pub mod Accepted
 pub mod Tests
 pub mod Answers
+pub mod Later
 pub mod ReleasedSlot
 pub mod Moving
 pub mod Demands

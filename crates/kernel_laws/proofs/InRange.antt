@@ -19,7 +19,7 @@ use Rattle.wire_fields.specs.Fields.{mostValue, most32}
 use Rattle.wire_requests.specs.WrittenRequests.{requestNumber, requestWide, requestUnserved, isServed, commandWide}
 use Rattle.wire_messages.specs.Numbers.{servedCommand, servedAt}
 use Rattle.wire_responses.specs.Responses.{isStatus, stands}
-use Rattle.wire_responses.specs.WrittenResponses.{goesWith, fits, amountUpTo, isNothing, limitInRange, setpointInRange, currentInRange, responseFits, responseNumber, statusFits, statusNumber}
+use Rattle.wire_responses.specs.WrittenResponses.{goesWith, fits, amountUpTo, isNothing, limitInRange, setpointInRange, currentInRange, responseFits, responseNumber, statusAlone}
 use Rattle.device_store.specs.Sizes.{valueEnd}
 use Rattle.device_store.specs.Zones.{upTo, joined, zoneOf, anyUp}
 use Rattle.device_store.specs.Words.{settingsOf, clockOf, overrideOf, zonesOf}
@@ -155,7 +155,15 @@ response-writable ws z t r e =
       outcome-fits (situationOf (commandAfter ws z t (r .command))) t (commandNumber ws z t (r .command)) (isCapped (settingsOf ws) (r .command)) (r .command) (s .1),
     )
 
--- and so can the answer to a frame that is not served
-pub status-writable : (i : ℕ) → leb i most32 ≡ true → statusNumber i 4 ≡ 0
-unfolding statusNumber statusFits isStatus firstOf
-status-writable i h = rw h
+no-result : (c : ℕ) → stands c 4 ≡ false
+unfolding stands
+no-result c = go (eqb c 1)
+  where
+    go : (b : Bool) → (false || (b && false)) ≡ false
+    go true = refl
+    go false = refl
+
+-- and so can the answer to a frame that is not served, for every command that is: none has a result at status 4
+pub unserved-writable : (i c : ℕ) → leb i most32 ≡ true → servedCommand c ≡ true → responseNumber c (statusAlone i 4) ≡ 0
+unfolding responseNumber responseFits isStatus fits firstOf
+unserved-writable i c h served = rw (served, h, no-result c)

@@ -6,7 +6,7 @@ use mathlib.Core.List.{[], _∷_}
 use mathlib.Core.Option.{Option, some, none}
 use native.Mathlib.Omega.{arith}
 use lib.ListN.{length, length-append}
-use lib.Dec.{leb, eqb}
+use lib.Dec.{eqb}
 use lib.IntN.{pos, negsuc}
 use borrow.Author.Tests.{leb-true, ltb-false, eqb-true}
 use Rattle.wire_bytes.specs.Bytes.{bytesOf}
@@ -37,12 +37,12 @@ use Rattle.wire_responses.specs.Sizes.{longestResponse}
 use Rattle.wire_requests.specs.WrittenSettings.{targetField, durationAmount, settingOfLimits, settingOfSetpoints, settingFields, currentLimitFields}
 use Rattle.wire_requests.specs.WrittenRequests.{commandFields, requestFields, requestItem, requestNumber, requestWide, requestUnserved, commandWide, aimWide, isServed}
 use Rattle.wire_messages.specs.Numbers.{servedAt, servedCommand}
-use Rattle.wire_responses.specs.WrittenResponses.{limitFields, setpointFields, currentFields, clearFields, outcomeItem, responseFields, responseItem, responseNumber, responseFits, fits, goesWith, limitInRange, currentInRange, amountUpTo, isNothing, statusAlone, statusFits, statusNumber}
+use Rattle.wire_responses.specs.WrittenResponses.{limitFields, setpointFields, currentFields, clearFields, outcomeItem, responseFields, responseItem, responseNumber, responseFits, fits, goesWith, limitInRange, currentInRange, amountUpTo, isNothing}
 use Rattle.wire_responses.specs.Responses.{stands, isStatus}
-use Rattle.wire_laws.specs.Longest.{RequestLongest, RequestReached, ResponseLongest, ResponseReached, StatusLongest}
+use Rattle.wire_laws.specs.Longest.{RequestLongest, RequestReached, ResponseLongest, ResponseReached}
 use Rattle.wire_laws.proofs.Maps.{count-fields}
 use Rattle.wire_laws.proofs.RequestBack.{request-ranges, request-served, is-served, wire-served, command-few, duration-range, wide-parts, wide-setpoints, wide-currents}
-use Rattle.wire_laws.proofs.ResponseBack.{limit-range, limit-few, setpoint-few, current-few, clear-few, status-small, response-ranges, no-test, one-test}
+use Rattle.wire_laws.proofs.ResponseBack.{limit-range, limit-few, setpoint-few, current-few, clear-few, status-small, response-ranges, no-test}
 
 -- HEADS
 len-1 : (v : ℕ) → v < 24 → headLen v ≤ 1
@@ -250,12 +250,6 @@ response-longest c r e =
     let f = no-test (servedCommand c) (responseFits c r) e .1 in
     let g = response-ranges r c f in
     response-long r (g .0) (status-small (r .status) (g .1)) (outcome-long c (r .status) (r .outcome) (g .2))
-
-pub status-longest : StatusLongest
-unfolding statusNumber statusFits
-status-longest i s e =
-    let x = one-test (statusFits i s) e in
-    response-long (statusAlone i s) (leb-true i most32 (and-left _ _ x)) (status-small s (and-left _ _ (and-right (leb i most32) _ x))) (nothing-long Outcome.Nothing refl)
 
 -- THE LONGEST ARE AS LONG
 pub request-reached : RequestReached

@@ -19,10 +19,10 @@ use Rattle.wire_messages.specs.declared.Response.{Response}
 use Rattle.wire_fields.specs.Fields.{mapItem, Fields, present, mapIn, needed, most32, mostValue, successIn}
 use Rattle.wire_messages.specs.Numbers.{servedCommand}
 use Rattle.wire_responses.specs.Responses.{isStatus, stands, statusIn, limitResultIn, setpointResultIn, currentResultIn, outcomeIn, noResult, resultIn, responseIn, answerOf, readResponse}
-use Rattle.wire_responses.specs.WrittenResponses.{limitFields, setpointFields, currentFields, clearFields, outcomeItem, responseFields, responseItem, amountUpTo, limitInRange, setpointInRange, currentInRange, goesWith, isNothing, fits, responseFits, responseNumber, statusAlone, statusFits, statusNumber}
+use Rattle.wire_responses.specs.WrittenResponses.{limitFields, setpointFields, currentFields, clearFields, outcomeItem, responseFields, responseItem, amountUpTo, limitInRange, setpointInRange, currentInRange, goesWith, isNothing, fits, responseFits, responseNumber}
 use Rattle.wire_fields.specs.Puts.{fieldBytes}
 use Rattle.wire_output.specs.Writing.{itemFrame}
-use Rattle.wire_laws.specs.RoundTrips.{ResponseReadsBack, StatusReadsBack, OneResponse}
+use Rattle.wire_laws.specs.RoundTrips.{ResponseReadsBack, OneResponse}
 use Rattle.wire_responses.specs.declared.reading.Answer.{Answer}
 use Rattle.wire_fields.proofs.Joined.{no-both, and-left, and-right}
 use Rattle.wire_laws.proofs.Maps.{Ascending, fieldAt, values, OkField, OkFields, ShortFields, ok-map, map-short}
@@ -315,18 +315,6 @@ no-test true true e = (refl, refl)
 pub response-reads-back : ResponseReadsBack
 unfolding responseNumber
 response-reads-back c r e = let x = no-test (servedCommand c) (responseFits c r) e in answer-back r c (x .1) (x .0)
-
-pub one-test : (a : Bool) → firstOf ((not a, 3) ∷ []) ≡ 0 → a ≡ true
-unfolding firstOf
-one-test true e = refl
-one-test false e = absurd (let z : _≡_ {A = ℕ} 3 0 = e in omega arith)
-
-pub status-reads-back : StatusReadsBack
-unfolding statusNumber statusFits responseFits fits
-status-reads-back i s c e sv st =
-    let x = one-test (statusFits i s) e in
-    let b = and-right (leb i most32) _ x in
-    answer-back (statusAlone i s) c (rw (and-left (leb i most32) _ x, and-left (isStatus s) _ b, st)) sv
 
 pub one-response : OneResponse
 one-response c r q er eq same =

@@ -6,7 +6,7 @@ use lib.ListN.{length}
 use Rattle.wire_messages.specs.declared.Request.{Request}
 use Rattle.wire_messages.specs.declared.Response.{Response}
 use Rattle.wire_requests.specs.WrittenRequests.{requestItem, requestNumber}
-use Rattle.wire_responses.specs.WrittenResponses.{responseItem, responseNumber, statusAlone, statusNumber}
+use Rattle.wire_responses.specs.WrittenResponses.{responseItem, responseNumber}
 use Rattle.wire_output.specs.Writing.{itemFrame}
 use Rattle.wire_requests.specs.Sizes.{longestRequest}
 use Rattle.wire_responses.specs.Sizes.{longestResponse}
@@ -24,7 +24,3 @@ ResponseLongest = (c : ℕ) (r : Response) → responseNumber c r ≡ 0 → leng
 
 abbrev pub ResponseReached : Type 0
 ResponseReached = (c : ℕ) × (r : Response) × (responseNumber c r ≡ 0) × (length (itemFrame (responseItem r)) ≡ longestResponse)
-
--- nor is an answer without a result
-abbrev pub StatusLongest : Type 0
-StatusLongest = (i s : ℕ) → statusNumber i s ≡ 0 → length (itemFrame (responseItem (statusAlone i s))) ≤ longestResponse

@@ -19,11 +19,10 @@ use Rattle.wire_messages.specs.declared.Command.{Command}
 use Rattle.wire_messages.specs.declared.Request.{Request}
 use Rattle.wire_messages.specs.declared.Response.{Response}
 use Rattle.wire_prefix.specs.Prefix.{frameOf, framed, payloadIn, mostPayload}
-use Rattle.wire_messages.specs.Numbers.{servedCommand}
 use Rattle.wire_requests.specs.Requests.{readRequest}
 use Rattle.wire_requests.specs.WrittenRequests.{requestItem, requestNumber}
-use Rattle.wire_responses.specs.Responses.{stands, readResponse}
-use Rattle.wire_responses.specs.WrittenResponses.{responseItem, responseNumber, statusAlone, statusNumber}
+use Rattle.wire_responses.specs.Responses.{readResponse}
+use Rattle.wire_responses.specs.WrittenResponses.{responseItem, responseNumber}
 use Rattle.wire_output.specs.Writing.{itemFrame, writingNumber, leftBy}
 use Rattle.wire_requests.specs.declared.reading.Reading.{Reading}
 use Rattle.wire_responses.specs.declared.reading.Answer.{Answer}
@@ -73,11 +72,6 @@ RequestReadsBack = (r : Request) → Command64 (r .command) → requestNumber r 
 
 abbrev pub ResponseReadsBack : Type 0
 ResponseReadsBack = (c : ℕ) (r : Response) → responseNumber c r ≡ 0 → readResponse c (itemFrame (responseItem r)) ≡ Answer.Is r
-
--- an answer without a result reads back for each command for which none stands at its status
-abbrev pub StatusReadsBack : Type 0
-StatusReadsBack =
-    (i s c : ℕ) → statusNumber i s ≡ 0 → servedCommand c ≡ true → stands c s ≡ false → readResponse c (itemFrame (responseItem (statusAlone i s))) ≡ Answer.Is (statusAlone i s)
 
 -- only one frame is written for a message, and one message for a frame
 abbrev pub OneRequest : Type 0

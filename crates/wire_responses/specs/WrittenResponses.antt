@@ -3,7 +3,7 @@ use Prim.Native.Nat.{ℕ}
 use mathlib.Core.Bool.{Bool, true, false, cond, not, _&&_, _||_}
 use mathlib.Core.List.{[], _∷_}
 use mathlib.Core.Option.{Option, some, none}
-use lib.Dec.{ltb, leb, eqb}
+use lib.Dec.{leb, eqb}
 use Rattle.wire_cbor.specs.Item.{Item}
 use Rattle.wire_messages.specs.Numbers.{servedCommand}
 use Rattle.refusals.specs.Refusals.{firstOf, BAD_MESSAGE, NOT_SERVED}
@@ -87,12 +87,6 @@ responseFits command r = leb (r .id) most32 && (isStatus (r .status) && fits com
 unfoldable pub responseNumber : ℕ → Response → ℕ
 responseNumber command r = firstOf ((not (servedCommand command), NOT_SERVED) ∷ (not (responseFits command r), BAD_MESSAGE) ∷ [])
 
--- an answer with a status and no result, which names no command; status 0 has a result for every command
+-- a response with a status and no result: the same for every command
 abbrev pub statusAlone : ℕ → ℕ → Response
 statusAlone i status = record { id = i; status = status; outcome = Outcome.Nothing }
-
-unfoldable pub statusFits : ℕ → ℕ → Bool
-statusFits i status = leb i most32 && (isStatus status && ltb 0 status)
-
-unfoldable pub statusNumber : ℕ → ℕ → ℕ
-statusNumber i status = firstOf ((not (statusFits i status), BAD_MESSAGE) ∷ [])
