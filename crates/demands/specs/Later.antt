@@ -28,6 +28,7 @@ use Rattle.rescue_walk.specs.Walk.{rescued, runs}
 use Rattle.rescue_walk.specs.Rescue.{most, number, written, answer}
 use Rattle.demands.specs.Tests.{missing}
 use Rattle.demands.specs.Answers.{ByTests}
+use Rattle.refusals.specs.Refusals.{BAD_CBOR, BAD_LENGTH, BAD_MESSAGE, BAD_TIME, NO_SPACE}
 
 -- L1: A SCRAP TAKEN
 -- "a room under 2,052"
@@ -45,7 +46,7 @@ fourthBad r room scrap =
 
 -- 15 "tested first"; 1 "at counts no call leaves" and once closed; 1 "at the fourth byte of a bad length"
 unfoldable pub receiveTests : Record → List ℕ → List ℕ → List (Bool × ℕ)
-receiveTests r room scrap = (smallRoom room, 15) ∷ (not (isOpen r), 1) ∷ (fourthBad r room scrap, 1) ∷ []
+receiveTests r room scrap = (smallRoom room, NO_SPACE) ∷ (not (isOpen r), BAD_LENGTH) ∷ (fourthBad r room scrap, BAD_LENGTH) ∷ []
 
 -- the last of these tests is the one that refuses
 unfoldable pub closes : Record → List ℕ → List ℕ → Bool
@@ -69,7 +70,7 @@ pub record ReceivesWords (ws cs room scrap : List ℕ) (n : ℕ) : Type 0 where
 -- L9: MEASUREMENT
 -- "1 for a payload length outside 1 to 2,048, then 2, 3"
 unfoldable pub payloadTests : List ℕ → List (Bool × ℕ)
-payloadTests payload = (not (lengthFits payload), 1) ∷ (missing (payloadOf payload), 2) ∷ (missing (cellsOf payload), 3) ∷ []
+payloadTests payload = (not (lengthFits payload), BAD_LENGTH) ∷ (missing (payloadOf payload), BAD_CBOR) ∷ (missing (cellsOf payload), BAD_MESSAGE) ∷ []
 
 -- the payload that words say
 abbrev pub measured : List ℕ → List ℕ
@@ -78,7 +79,7 @@ measured words = encode (itemOf (held words))
 -- ".. 3 and 15": a mark that means nothing or a number out of its range, then a payload longer than the buffer
 unfoldable pub measuredTests : List ℕ → ℕ → List (Bool × ℕ)
 measuredTests words room =
-    (not (marksFit words 36 0 && rowsFit rows (held words)), 3) ∷ (not (leb (length (measured words)) room), 15) ∷ []
+    (not (marksFit words 36 0 && rowsFit rows (held words)), BAD_MESSAGE) ∷ (not (leb (length (measured words)) room), NO_SPACE) ∷ []
 
 pub record ReadsMeasurement (payload words : List ℕ) : Type 0 where
   pub numbered : ByTests (readNumber payload) (payloadTests payload)
@@ -93,7 +94,7 @@ pub record WritesMeasurement (words out : List ℕ) : Type 0 where
 -- "5 for a step back", which a step of 2^31 or more is, "or where the seconds would pass the end"; the first reading has no step
 unfoldable pub tickTests : Front → ℕ → List (Bool × ℕ)
 tickTests f k =
-    (f .begun && leb (2 ^ 31) (stepOf (f .last) k), 5) ∷ (f .begun && ltb END (f .seconds + (f .remainder + stepOf (f .last) k) / 1000), 5) ∷ []
+    (f .begun && leb (2 ^ 31) (stepOf (f .last) k), BAD_TIME) ∷ (f .begun && ltb END (f .seconds + (f .remainder + stepOf (f .last) k) / 1000), BAD_TIME) ∷ []
 
 -- "A refused reading changes nothing"
 pub record ReadsTick (f : Front) (k : ℕ) : Type 0 where
@@ -103,7 +104,7 @@ pub record ReadsTick (f : Front) (k : ℕ) : Type 0 where
 -- L6: THE PLAIN PLAN
 -- "15 exactly when there are more rows than records": the rows of the plan
 unfoldable pub plainTests : List ℕ → ℕ → List (Bool × ℕ)
-plainTests device room = (ltb room (length (rowsFrom device)), 15) ∷ []
+plainTests device room = (ltb room (length (rowsFrom device)), NO_SPACE) ∷ []
 
 pub record PlansPlainly (device : List ℕ) (records : List Row) : Type 0 where
   pub numbered : ByTests (plainAnswer device (length records) .number) (plainTests device (length records))
@@ -113,7 +114,7 @@ pub record PlansPlainly (device : List ℕ) (records : List Row) : Type 0 where
 -- L12: RESCUE
 -- "an input above the size is 1, tested first"; "15 for output or report without room"
 unfoldable pub rescueTests : List ℕ → ℕ → ℕ → List (Bool × ℕ)
-rescueTests script out report = (ltb most (length script), 1) ∷ (ltb out (length (rescued script)) || ltb report (length (runs script)), 15) ∷ []
+rescueTests script out report = (ltb most (length script), BAD_LENGTH) ∷ (ltb out (length (rescued script)) || ltb report (length (runs script)), NO_SPACE) ∷ []
 
 -- "nothing written": n is the call's number
 pub record Rescues (script out report : List ℕ) (n : ℕ) : Type 0 where
