@@ -22,7 +22,7 @@ use Rattle.wire_cbor.specs.Item.{itemsAt, pairsAt, fromHead, itemAt, payloadOf}
 use Rattle.wire_heads.specs.Key.{keyAt}
 use Rattle.wire_cbor.specs.Find.{valueOf}
 use Rattle.wire_prefix.specs.Prefix.{framed}
-use Rattle.wire_fields.specs.Fields.{upTo as fieldUpTo}
+use Rattle.wire_fields.specs.Fields.{numberUpTo}
 use Rattle.wire_fields.specs.Fields.{truth, mapIn, signed, needed, optional, amountIn, valueIn}
 use Rattle.wire_requests.specs.Requests.{envelopeIn, commandIn, fromEnvelope, fromPayload, readRequest}
 use Rattle.wire_messages.specs.Numbers.{servedCommand, servedAt}
@@ -82,12 +82,12 @@ abbrev request : ℕ → Command → Request
 request i c = record { id = i; endpoint = 1; feature = 5; command = c }
 
 first-read : readRequest frame3 ≡ Reading.Is (request 1 (limit 11040000 60))
-unfolding numberAt infoOf widthOf argAt headAt itemsAt keyAt pairsAt fromHead itemAt payloadOf valueOf framed fieldUpTo truth mapIn signed needed optional amountIn valueIn
+unfolding numberAt infoOf widthOf argAt headAt itemsAt keyAt pairsAt fromHead itemAt payloadOf valueOf framed numberUpTo truth mapIn signed needed optional amountIn valueIn
     envelopeIn servedCommand servedAt settingIn limitsFrom commandIn fromEnvelope fromPayload readRequest bind
 first-read = refl
 
 second-read : readRequest frame9 ≡ Reading.Is (request 2 (limit 4600000 20))
-unfolding numberAt infoOf widthOf argAt headAt itemsAt keyAt pairsAt fromHead itemAt payloadOf valueOf framed fieldUpTo truth mapIn signed needed optional amountIn valueIn
+unfolding numberAt infoOf widthOf argAt headAt itemsAt keyAt pairsAt fromHead itemAt payloadOf valueOf framed numberUpTo truth mapIn signed needed optional amountIn valueIn
     envelopeIn servedCommand servedAt settingIn limitsFrom commandIn fromEnvelope fromPayload readRequest bind
 second-read = refl
 

@@ -19,7 +19,7 @@ use Rattle.bench_script.specs.Bench.{Answered, numbered, answered, recordAnswer
 use Rattle.bench_script.specs.declared.calls.Call.{Call}
 use Rattle.bench_script.proofs.Plays.{played-bound}
 use Rattle.bench_script.proofs.Rooms.{frame-number, frame-after}
-use Rattle.kernel_laws.specs.Sent.{Sent, numberOf}
+use Rattle.kernel_laws.specs.Sent.{Sent, sentNumber}
 use Rattle.kernel_laws.specs.Sent as sent
 use Rattle.kernel_laws.proofs.EitherWay.{any-two}
 use Rattle.bench_laws.specs.OtherOrder.{IsFrame, line, OtherOrder}
@@ -91,7 +91,7 @@ abbrev lent : ℕ → List ℕ → Sent
 lent z bytes = record { zone = z; bytes = bytes; room = mostFrame }
 
 with-room : (ws : List ℕ) (z t : ℕ) (bytes : List ℕ)
-    → answered ws t bytes (Call.Frame z) ≡ numbered (numberOf ws t (lent z bytes)) (sent.behind ws t (lent z bytes))
+    → answered ws t bytes (Call.Frame z) ≡ numbered (sentNumber ws t (lent z bytes)) (sent.behind ws t (lent z bytes))
 unfolding answered
 with-room ws z t bytes = rw (frame-number ws z t bytes mostFrame (omega arith), frame-after ws z t bytes mostFrame (omega arith))
 
@@ -117,9 +117,9 @@ unfolding numbered
 left-words n us = refl
 
 frame-first : (ws a x : List ℕ) (r : Record) (t : ℕ) → IsFrame a r → r .time ≡ t
-    → script ws (a ++ x) ≡ behind (line (numberOf ws t (lent (r .zone) (bodyOf a r)))) (script (sent.behind ws t (lent (r .zone) (bodyOf a r))) x)
+    → script ws (a ++ x) ≡ behind (line (sentNumber ws t (lent (r .zone) (bodyOf a r)))) (script (sent.behind ws t (lent (r .zone) (bodyOf a r))) x)
 frame-first ws a x r t f e =
-    let n = numberOf ws t (lent (r .zone) (bodyOf a r)) in
+    let n = sentNumber ws t (lent (r .zone) (bodyOf a r)) in
     let us = sent.behind ws t (lent (r .zone) (bodyOf a r)) in
     let l = length-append a x in
     let c = frame-call a x r f ws ∙ ap (λ (k : ℕ). answered ws k (bodyOf a r) (Call.Frame (r .zone))) e ∙ with-room ws (r .zone) t (bodyOf a r) in
@@ -136,16 +136,16 @@ other-order ws a b s q r size p o apart same =
     let t = q .time in
     let two = any-two ws t f g size apart (omega arith) (omega arith) in
     record {
-      one = numberOf ws t f;
-      other = numberOf ws t g;
+      one = sentNumber ws t f;
+      other = sentNumber ws t g;
       rest = script (sent.behind (sent.behind ws t f) t g) s;
       first =
           frame-first ws a (b ++ s) q t p refl
-          ∙ ap (behind (line (numberOf ws t f))) (frame-first (sent.behind ws t f) b s r t o (sym same))
-          ∙ ap (λ (n : ℕ). behind (line (numberOf ws t f)) (behind (line n) (script (sent.behind (sent.behind ws t f) t g) s))) (two .second);
+          ∙ ap (behind (line (sentNumber ws t f))) (frame-first (sent.behind ws t f) b s r t o (sym same))
+          ∙ ap (λ (n : ℕ). behind (line (sentNumber ws t f)) (behind (line n) (script (sent.behind (sent.behind ws t f) t g) s))) (two .second);
       second =
           frame-first ws b (a ++ s) r t o (sym same)
-          ∙ ap (behind (line (numberOf ws t g))) (frame-first (sent.behind ws t g) a s q t p refl)
-          ∙ ap (λ (n : ℕ). behind (line (numberOf ws t g)) (behind (line n) (script (sent.behind (sent.behind ws t g) t f) s))) (sym (two .first))
-          ∙ ap (λ (us : List ℕ). behind (line (numberOf ws t g)) (behind (line (numberOf ws t f)) (script us s))) (sym (two .states));
+          ∙ ap (behind (line (sentNumber ws t g))) (frame-first (sent.behind ws t g) a s q t p refl)
+          ∙ ap (λ (n : ℕ). behind (line (sentNumber ws t g)) (behind (line n) (script (sent.behind (sent.behind ws t g) t f) s))) (sym (two .first))
+          ∙ ap (λ (us : List ℕ). behind (line (sentNumber ws t g)) (behind (line (sentNumber ws t f)) (script us s))) (sym (two .states));
     }

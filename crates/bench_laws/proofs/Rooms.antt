@@ -8,7 +8,7 @@ use lib.Seq.{length-take-le}
 use borrow.Author.Tests.{le-ltb}
 use Rattle.rescue_walk.specs.Walk.{recordLen, Piece, copied, passed, pass, walk, kept, runsFrom, runCount, rescued, runs}
 use Rattle.bench_laws.specs.Sound.{runFirst}
-use Rattle.rescue_walk.specs.Rescue.{most, number}
+use Rattle.rescue_walk.specs.Rescue.{longestScript, number}
 use Rattle.bench_laws.specs.Laws.{Enough}
 use Rattle.rescue_walk.proofs.Begins.{found}
 use Rattle.rescue_walk.proofs.Walks.{Walk, ended, skips, gives, walks}
@@ -59,4 +59,4 @@ enough s out report l o r =
     let b = few-runs (walks s) in
     let c = slack-le (runFirst (walk s)) in
     let d = runs-two (walk s) 0 in
-    rw (le-ltb most (length s) l, le-ltb out (length (kept (walk s))) (omega arith), le-ltb report (length (runsFrom 0 (walk s))) (omega arith))
+    rw (le-ltb longestScript (length s) l, le-ltb out (length (kept (walk s))) (omega arith), le-ltb report (length (runsFrom 0 (walk s))) (omega arith))

@@ -6,7 +6,7 @@ use mathlib.Core.Bool.{true}
 use mathlib.Core.List.{List, []}
 use lib.ListN.{length}
 use Rattle.rescue_walk.specs.Walk.{Piece, walk, rescued, runs}
-use Rattle.rescue_walk.specs.Rescue.{most, number}
+use Rattle.rescue_walk.specs.Rescue.{longestScript, number}
 use Rattle.bench_script.specs.Bench.{benchText}
 use Rattle.bench_laws.specs.Sound.{joined, apart, faithful, sound}
 use Rattle.bench_laws.specs.Answers.{copies, Answers, letterless}
@@ -50,4 +50,4 @@ Once = (s : List ℕ) → (rescued (rescued s) ≡ rescued s) × (runs (rescued 
 
 -- rooms that are always enough: 16,384 bytes and 2 * 1,490 numbers
 abbrev pub Enough : Type 0
-Enough = (s : List ℕ) (out report : ℕ) → length s ≤ most → most ≤ out → 2980 ≤ report → number s out report ≡ 0
+Enough = (s : List ℕ) (out report : ℕ) → length s ≤ longestScript → longestScript ≤ out → 2980 ≤ report → number s out report ≡ 0

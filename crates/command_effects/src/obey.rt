@@ -158,7 +158,7 @@ pub fn obeyed(s: Settings, c: Command, t: u64, zone: Zone) -> Zone
     let old = zone.held;
     let held = helds_after(s, c, until_of(t, duration_of(c)), old);
     Zone {
-        seat: zone.seat,
+        precedence: zone.precedence,
         up: zone.up,
         held: held,
     }

@@ -10,8 +10,8 @@ use Rattle.device_store.specs.declared.Settings.{Settings}
 use Rattle.device_store.specs.Quantities.{helds, isLimit, isSetpoint, isCurrent, directionOf}
 use Rattle.command_fields.specs.Fields.{fieldAbove}
 use Rattle.command_by_quantity.specs.Says.{says, isSet, aimField}
-use Rattle.command_tests.specs.Asked.{someIs}
-use Rattle.command_tests.specs.declared.asks.Question.{Question}
+use Rattle.command_tests.specs.Asked.{someFieldIs}
+use Rattle.command_tests.specs.declared.asks.FieldTest.{FieldTest}
 use Rattle.command_tests.proofs.Quantities.{some-none}
 use Rattle.command_tests.specs.Content.{isCapped}
 
@@ -26,7 +26,7 @@ module _ (top : ℕ) where
   clears true (Aim.One e) d = null (eqb e d)
   clears false a d = refl
 
-pub capped : (s : Settings) (c : Command) → (isSet c && someIs Question.Above s c) ≡ isCapped s c
+pub capped : (s : Settings) (c : Command) → (isSet c && someFieldIs FieldTest.AboveMaximum s c) ≡ isCapped s c
 unfolding isCapped says
 capped s (Command.SetLimit m) = refl
 capped s (Command.ClearLimit a) = sym (some-none _ (λ q. clears _ (isLimit q) a (directionOf q)) helds)

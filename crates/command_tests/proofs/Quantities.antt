@@ -14,8 +14,8 @@ use Rattle.wire_messages.specs.declared.Command.{Command}
 use Rattle.device_store.specs.declared.Settings.{Settings}
 use Rattle.device_store.specs.Quantities.{helds, isLimit, isSetpoint, isCurrent, directionOf, phaseOf}
 use Rattle.command_by_quantity.specs.Says.{says, someOf, limitField, setpointField, phaseField}
-use Rattle.command_tests.specs.Asked.{isSo, someIs}
-use Rattle.command_tests.specs.declared.asks.Question.{Question}
+use Rattle.command_tests.specs.Asked.{isSo, someFieldIs}
+use Rattle.command_tests.specs.declared.asks.FieldTest.{FieldTest}
 
 -- a test that none passes, and one that two quantities or three decide
 pub some-none : (p : ℕ → Bool) → ((q : ℕ) → p q ≡ false) → (n : ℕ) → someOf p n ≡ false
@@ -53,15 +53,15 @@ module _ (p : ℕ → Bool) where
   unfolding someOf
   setpoints-decide h = rw (h 0 refl, h 1 refl, h 4 refl, h 5 refl, h 6 refl, h 7 refl, h 8 refl, h 9 refl) (two-behind (p 2) (p 3))
 
-module _ (k : Question) (s : Settings) where
+module _ (k : FieldTest) (s : Settings) where
   absent : (q : ℕ) → isSo k s Field.Absent q ≡ false
-  absent q = elim k [ Question.Named ↦ refl | Question.Negative ↦ refl | Question.Beyond ↦ refl | Question.Outside ↦ refl | Question.Above ↦ refl ]
+  absent q = elim k [ FieldTest.Named ↦ refl | FieldTest.Negative ↦ refl | FieldTest.UnsupportedDirection ↦ refl | FieldTest.MissingPhase ↦ refl | FieldTest.AboveMaximum ↦ refl ]
 
-  pub of-limits : (m : Limits) → (isSo k s (limitField m 0) 0 || isSo k s (limitField m 1) 1) ≡ someIs k s (Command.SetLimit m)
+  pub of-limits : (m : Limits) → (isSo k s (limitField m 0) 0 || isSo k s (limitField m 1) 1) ≡ someFieldIs k s (Command.SetLimit m)
   unfolding says
   of-limits m = limits-decide (λ q. isSo k s (says (Command.SetLimit m) q) q) (λ q e. rw e (absent q))
 
-  pub of-setpoints : (m : Setpoints) → (isSo k s (setpointField m 0) 2 || isSo k s (setpointField m 1) 3) ≡ someIs k s (Command.SetSetpoint m)
+  pub of-setpoints : (m : Setpoints) → (isSo k s (setpointField m 0) 2 || isSo k s (setpointField m 1) 3) ≡ someFieldIs k s (Command.SetSetpoint m)
   unfolding says
   of-setpoints m = setpoints-decide (λ q. isSo k s (says (Command.SetSetpoint m) q) q) (λ q e. rw e (absent q))
 
@@ -85,17 +85,17 @@ module _ (k : Question) (s : Settings) where
       (three-behind (isSo k s (m .a) 5) (isSo k s (m .b) 7) (isSo k s (m .c) 9))
 
   module _ (m : CurrentLimits) where
-    turned : (d : ℕ) → m .direction ≡ d → someOf (mapped (m .phases) d) helds ≡ someIs k s (Command.SetCurrentLimits m)
+    turned : (d : ℕ) → m .direction ≡ d → someOf (mapped (m .phases) d) helds ≡ someFieldIs k s (Command.SetCurrentLimits m)
     unfolding says
     turned d e = ap (λ (i : ℕ). someOf (mapped (m .phases) i) helds) (sym e)
 
-    pub map-consumption : m .direction ≡ 0 → (isSo k s (m .phases .a) 4 || (isSo k s (m .phases .b) 6 || isSo k s (m .phases .c) 8)) ≡ someIs k s (Command.SetCurrentLimits m)
+    pub map-consumption : m .direction ≡ 0 → (isSo k s (m .phases .a) 4 || (isSo k s (m .phases .b) 6 || isSo k s (m .phases .c) 8)) ≡ someFieldIs k s (Command.SetCurrentLimits m)
     map-consumption e = of-consumption (m .phases) ∙ turned 0 e
 
-    pub map-production : m .direction ≡ 1 → (isSo k s (m .phases .a) 5 || (isSo k s (m .phases .b) 7 || isSo k s (m .phases .c) 9)) ≡ someIs k s (Command.SetCurrentLimits m)
+    pub map-production : m .direction ≡ 1 → (isSo k s (m .phases .a) 5 || (isSo k s (m .phases .b) 7 || isSo k s (m .phases .c) 9)) ≡ someFieldIs k s (Command.SetCurrentLimits m)
     map-production e = of-production (m .phases) ∙ turned 1 e
 
-    pub map-none : (m .direction ≡ 0 → ⊥) → (m .direction ≡ 1 → ⊥) → false ≡ someIs k s (Command.SetCurrentLimits m)
+    pub map-none : (m .direction ≡ 0 → ⊥) → (m .direction ≡ 1 → ⊥) → false ≡ someFieldIs k s (Command.SetCurrentLimits m)
     unfolding says
     map-none n o =
         sym (some-none (mapped (m .phases) (m .direction))

@@ -1,4 +1,4 @@
-// One question asked of what a command says: of all quantities only those that its own fields are of can answer it.
+// One test tried on what a command says: of all quantities only those that its own fields are of can pass it.
 use command_by_quantity::top_of;
 use command_fields::field_above;
 use command_fields::field_names;
@@ -21,15 +21,15 @@ ghost use mathlib.Core.Path.{_≡_};
 ghost use mathlib.Core.Bool.{_&&_, _||_};
 ghost use Rattle.device_store.specs.Quantities.{helds};
 ghost use Rattle.command_by_quantity.specs.Says.{isSet};
-ghost use Rattle.command_tests.specs.Asked.{beyond, outside, isSo, someIs};
+ghost use Rattle.command_tests.specs.Asked.{beyond, outside, isSo, someFieldIs};
 
 // Named at all, below 0, of a direction that is not supported, of a phase from the count up, above the most that it may be.
-pub enum Question {
+pub enum FieldTest {
     Named,
     Negative,
-    Beyond,
-    Outside,
-    Above,
+    UnsupportedDirection,
+    MissingPhase,
+    AboveMaximum,
 }
 
 // A quantity that is named though its direction is not supported.
@@ -54,20 +54,20 @@ fn is_outside(count: u64, f: Field, q: usize) -> bool
     false
 }
 
-fn is_so(k: Question, s: Settings, f: Field, q: usize) -> bool
+fn is_so(k: FieldTest, s: Settings, f: Field, q: usize) -> bool
     ensures { λ r. ⌜ r ≡ isSo k s f q ⌝ }
 {
     match k {
-        Question::Named => field_names(f),
-        Question::Negative => field_negative(f),
-        Question::Beyond => is_beyond(s.directions, f, q),
-        Question::Outside => is_outside(s.phases, f, q),
-        Question::Above => field_above(top_of(s, q), f),
+        FieldTest::Named => field_names(f),
+        FieldTest::Negative => field_negative(f),
+        FieldTest::UnsupportedDirection => is_beyond(s.directions, f, q),
+        FieldTest::MissingPhase => is_outside(s.phases, f, q),
+        FieldTest::AboveMaximum => field_above(top_of(s, q), f),
     }
 }
 
 // So of one of two fields, of quantity q and of the next.
-fn of_two(k: Question, s: Settings, a: Field, b: Field, q: usize) -> bool
+fn of_two(k: FieldTest, s: Settings, a: Field, b: Field, q: usize) -> bool
     requires { ⌜ q < helds ⌝ }
     ensures { λ r. ⌜ r ≡ isSo k s a q || isSo k s b (q + 1) ⌝ }
 {
@@ -78,7 +78,7 @@ fn of_two(k: Question, s: Settings, a: Field, b: Field, q: usize) -> bool
 }
 
 // So of one of three phases, of quantity q and of every second behind it.
-fn of_phases(k: Question, s: Settings, m: Phases, q: usize) -> bool
+fn of_phases(k: FieldTest, s: Settings, m: Phases, q: usize) -> bool
     requires { ⌜ q < helds ⌝ }
     ensures { λ r. ⌜ r ≡ isSo k s (m .a) q || (isSo k s (m .b) (q + 2) || isSo k s (m .c) (q + 4)) ⌝ }
 {
@@ -95,8 +95,8 @@ fn of_phases(k: Question, s: Settings, m: Phases, q: usize) -> bool
 }
 
 // A map of a direction that is none says nothing.
-fn of_currents(k: Question, s: Settings, m: CurrentLimits) -> bool
-    ensures { λ r. ⌜ r ≡ someIs k s (Command.SetCurrentLimits m) ⌝ }
+fn of_currents(k: FieldTest, s: Settings, m: CurrentLimits) -> bool
+    ensures { λ r. ⌜ r ≡ someFieldIs k s (Command.SetCurrentLimits m) ⌝ }
 {
     let phases = m.phases;
     if m.direction == 0 {
@@ -109,8 +109,8 @@ fn of_currents(k: Question, s: Settings, m: CurrentLimits) -> bool
 }
 
 // Whether it is so of some quantity of a Set command: only the quantities that its fields are of are asked.
-pub fn some_is(k: Question, s: Settings, c: Command) -> bool
-    ensures { λ r. ⌜ r ≡ isSet c && someIs k s c ⌝ }
+pub fn some_field_is(k: FieldTest, s: Settings, c: Command) -> bool
+    ensures { λ r. ⌜ r ≡ isSet c && someFieldIs k s c ⌝ }
 {
     match c {
         Command::SetLimit(m) => of_two(k, s, limit_field(m, 0), limit_field(m, 1), 0),

@@ -1,6 +1,6 @@
 // What is asked of a command itself, whatever zone it comes from: one test for each number.
-use crate::asks::Question;
-use crate::asks::some_is;
+use crate::asks::FieldTest;
+use crate::asks::some_field_is;
 use command_by_quantity::Kind;
 use command_by_quantity::aim_of;
 use command_by_quantity::is_set;
@@ -49,7 +49,7 @@ fn is_unsupported(s: Settings, c: Command) -> bool
         if aim_unsupported(s.directions, aim_of(c)) {
             return true;
         }
-        return some_is(Question::Beyond, s, c);
+        return some_field_is(FieldTest::UnsupportedDirection, s, c);
     }
     true
 }
@@ -91,11 +91,11 @@ fn is_invalid(s: Settings, c: Command) -> bool
     ensures { λ r. ⌜ r ≡ invalid s c ⌝ }
 {
     if is_set(c) {
-        if some_is(Question::Negative, s, c) {
+        if some_field_is(FieldTest::Negative, s, c) {
             return true;
         }
-        if some_is(Question::Named, s, c) {
-            return some_is(Question::Outside, s, c);
+        if some_field_is(FieldTest::Named, s, c) {
+            return some_field_is(FieldTest::MissingPhase, s, c);
         }
         return true; // nothing is named
     }
@@ -131,5 +131,5 @@ pub fn content_number(s: Settings, overridden: u64, c: Command) -> u64
 pub fn is_capped(s: Settings, c: Command) -> bool
     ensures { λ r. ⌜ r ≡ isCapped s c ⌝ }
 {
-    some_is(Question::Above, s, c)
+    some_field_is(FieldTest::AboveMaximum, s, c)
 }

@@ -9,7 +9,7 @@ use lib.Dec.{eqb}
 use lib.ListN.{length, getD, take, drop}
 use lib.Seq.{drop-cons, drop-length}
 use borrow.Author.Tests.{lt-ltb, le-ltb, le-leb, lt-leb, eq-eqb, ne-eqb}
-use Rattle.console_words.specs.Numbers.{upTo, noNumber, numberOf, numberIn}
+use Rattle.console_words.specs.Numbers.{atMostLargest, noNumber, numberOf, numberIn}
 use Rattle.console_words.specs.Spans.{startOf, sameBytes}
 use Rattle.console_words.specs.declared.numbers.Number.{Number}
 
@@ -32,16 +32,16 @@ module _ (ends : List ℕ) (k : ℕ) where
   unfolding startOf
   start-first e = rw e refl
 
-  start-next : (j : ℕ) → k ≡ suc j → startOf ends k ≡ upTo (getD ends j 0 + 1)
+  start-next : (j : ℕ) → k ≡ suc j → startOf ends k ≡ atMostLargest (getD ends j 0 + 1)
   unfolding startOf
   start-next j e = rw e refl
 
   pub start-behind : (e : ℕ) → (k ≡ 0 → ⊥) → e ≡ getD ends (k - 1) 0 → e < 18446744073709551615 → e + 1 ≡ startOf ends k
-  unfolding upTo
+  unfolding atMostLargest
   start-behind e z g h = rw (start-next (k - 1) (omega arith), ← g, lt-ltb (e + 1) 18446744073709551616 (omega arith)) refl
 
   pub start-last : (e : ℕ) → (k ≡ 0 → ⊥) → e ≡ getD ends (k - 1) 0 → 18446744073709551615 ≤ e → 18446744073709551615 ≡ startOf ends k
-  unfolding upTo
+  unfolding atMostLargest
   start-last e z g h = rw (start-next (k - 1) (omega arith), ← g, le-ltb (e + 1) 18446744073709551616 (omega arith)) refl
 
 -- two words

@@ -9,15 +9,15 @@ use lib.Dec.{eqb}
 use lib.ListN.{length, getD, drop, drop-of-length-le}
 use lib.Seq.{drop-cons}
 use borrow.Author.Tests.{lt-ltb, le-ltb, eq-eqb, ne-eqb}
-use Rattle.console_words.specs.Numbers.{isDigit, upTo, noNumber, digitsFrom, digitsOf, negated, numberOf}
+use Rattle.console_words.specs.Numbers.{isDigit, atMostLargest, noNumber, digitsFrom, digitsOf, negated, numberOf}
 use Rattle.console_words.specs.declared.numbers.Number.{Number}
 
-pub large : (v d : ℕ) → d < 16 → (18446744073709551615 - d) / 10 < v → 18446744073709551615 ≡ upTo (10 * v + d)
-unfolding upTo
+pub large : (v d : ℕ) → d < 16 → (18446744073709551615 - d) / 10 < v → 18446744073709551615 ≡ atMostLargest (10 * v + d)
+unfolding atMostLargest
 large v d s h = rw (le-ltb (10 * v + d) 18446744073709551616 (omega arith))
 
-pub fits : (v d : ℕ) → d < 16 → v ≤ (18446744073709551615 - d) / 10 → 10 * v + d ≡ upTo (10 * v + d)
-unfolding upTo
+pub fits : (v d : ℕ) → d < 16 → v ≤ (18446744073709551615 - d) / 10 → 10 * v + d ≡ atMostLargest (10 * v + d)
+unfolding atMostLargest
 fits v d s h = rw (lt-ltb (10 * v + d) 18446744073709551616 (omega arith))
 
 pub no-minus : (s : List ℕ) → length s ≤ 0 → false ≡ eqb (getD s 0 0) 45
@@ -47,7 +47,7 @@ module _ (s : List ℕ) where
     unfolding digitsFrom
     digits-broken r h e z = z ∙ (rw (drop-cons s i 0, e) at inv)
 
-    pub digits-turn : (w : ℕ) → i < length s → isDigit (getD s i 0) ≡ true → w ≡ upTo (10 * v + getD s i 0 % 16) → digitsFrom w (drop (i + 1) s) ≡ q
+    pub digits-turn : (w : ℕ) → i < length s → isDigit (getD s i 0) ≡ true → w ≡ atMostLargest (10 * v + getD s i 0 % 16) → digitsFrom w (drop (i + 1) s) ≡ q
     unfolding digitsFrom
     digits-turn w h e z = rw (add-one i, z) (rw (drop-cons s i 0, e) at inv)
 

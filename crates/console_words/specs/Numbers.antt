@@ -11,8 +11,8 @@ unfoldable pub isDigit : ℕ → Bool
 isDigit b = leb 48 b && leb b 57
 
 -- the largest word stands for every number that 64 bits do not hold
-unfoldable pub upTo : ℕ → ℕ
-upTo n = cond (ltb n 18446744073709551616) n 18446744073709551615
+unfoldable pub atMostLargest : ℕ → ℕ
+atMostLargest n = cond (ltb n 18446744073709551616) n 18446744073709551615
 
 unfoldable pub noNumber : Number
 noNumber = record { good = false; negative = false; value = 0 }
@@ -20,7 +20,7 @@ noNumber = record { good = false; negative = false; value = 0 }
 -- the number that digits say behind those of v; the low four bits of a digit are its value
 unfoldable pub digitsFrom : ℕ → List ℕ → Number
 digitsFrom v [] = record { good = true; negative = false; value = v }
-digitsFrom v (b ∷ s) = cond (isDigit b) (digitsFrom (upTo (10 * v + b % 16)) s) noNumber
+digitsFrom v (b ∷ s) = cond (isDigit b) (digitsFrom (atMostLargest (10 * v + b % 16)) s) noNumber
 
 -- at least one digit, leading zeros allowed
 unfoldable pub digitsOf : List ℕ → Number

@@ -5,7 +5,7 @@ use mathlib.Core.List.{List, [], _∷_}
 use lib.Dec.{leb, eqb}
 use lib.ListN.{length, getD, take, drop}
 use lib.Seq.{sets}
-use Rattle.console_words.specs.Numbers.{upTo}
+use Rattle.console_words.specs.Numbers.{atMostLargest}
 use Rattle.console_words.specs.declared.spans.Bounds.{Bounds}
 
 -- the position of the first byte b of a text that stands at p, or its end
@@ -37,7 +37,7 @@ endsAfter s ends = sets ends 0 (take (length ends) (wordEnds s))
 -- a word starts past the space behind the one before it
 unfoldable pub startOf : List ℕ → ℕ → ℕ
 startOf ends zero = 0
-startOf ends (suc k) = upTo (getD ends k 0 + 1)
+startOf ends (suc k) = atMostLargest (getD ends k 0 + 1)
 
 unfoldable pub spanOf : List ℕ → ℕ → Bounds
 spanOf ends k = record { from = startOf ends k; to = getD ends k 0 }

@@ -4,7 +4,7 @@ ghost use Prim.Native.Nat.{_+_, _*_, _%_};
 ghost use lib.ListN.{drop};
 ghost use lib.Dec.{eqb};
 ghost use lib.ListN.{getD};
-ghost use Rattle.console_words.specs.Numbers.{isDigit, upTo, noNumber, digitsFrom, digitsOf, negated, numberOf, numberIn};
+ghost use Rattle.console_words.specs.Numbers.{isDigit, atMostLargest, noNumber, digitsFrom, digitsOf, negated, numberOf, numberIn};
 ghost use Rattle.console_words.specs.declared.numbers.Number.{Number};
 
 const MOST: u64 = 18446744073709551615;
@@ -36,7 +36,7 @@ fn is_digit(b: u8) -> bool
 
 // The low four bits of a digit are its value.
 fn with_digit(value: u64, b: u8) -> u64
-    ensures { λ r. ⌜ r ≡ upTo (10 * value + b % 16) ⌝ }
+    ensures { λ r. ⌜ r ≡ atMostLargest (10 * value + b % 16) ⌝ }
 {
     let digit = (b % 16) as u64;
     if (MOST - digit) / 10 < value {

@@ -24,7 +24,7 @@ use Rattle.wire_requests.specs.declared.reading.Reading.{Reading}
 use Rattle.wire_responses.specs.declared.reading.Answer.{Answer}
 use Rattle.device_store.specs.Zones.{any}
 use Rattle.report.specs.declared.Inputs.{Inputs}
-use Rattle.report.specs.Report.{numberOf}
+use Rattle.report.specs.Report.{reportNumber}
 use Rattle.demands.specs.Tests.{missing, mapOf, envelopeOf, unserved, parametersOf, readTests, answerTests, writeRequestTests, writeResponseTests, reportTests}
 use Rattle.demands.specs.Answers.{ByTests}
 use Rattle.demands.proofs.FirstTests.{each, first-append, by-tests}
@@ -100,8 +100,8 @@ pub writes-response : (command : ℕ) (r : Response) (room : ℕ)
 writes-response command r room = by-tests _ (writeResponseTests command r room) (write-response-first command r room) (unfold writeResponseTests any in refl)
 
 -- THE REPORT
-pub reports : (i : Inputs) (attributes : List ℕ) (room : ℕ) → ByTests (numberOf i attributes room) (reportTests i attributes room)
-unfolding numberOf reportTests
+pub reports : (i : Inputs) (attributes : List ℕ) (room : ℕ) → ByTests (reportNumber i attributes room) (reportTests i attributes room)
+unfolding reportNumber reportTests
 reports i attributes room = by-tests _ (reportTests i attributes room) refl (unfold any in refl)
 
 -- THE MESSAGE'S ID: that of the envelope

@@ -15,7 +15,7 @@ use Rattle.device_calls.specs.Start.{startNumber, startAfter}
 use Rattle.device_store.proofs.Effects.{fresh-settings, fresh-clock, fresh-override}
 use Rattle.plan.specs.Plan.{rowsFrom, planTests, planNumber, planAnswer, planSlice}
 use Rattle.report.specs.declared.Inputs.{Inputs}
-use Rattle.report.specs.Report.{numberOf, reportOf, pairsAfter}
+use Rattle.report.specs.Report.{reportNumber, reportOf, pairsAfter}
 use Rattle.demands.specs.Accepted.{startedWith, InPairs}
 use Rattle.demands.specs.Answers.{ByTests, Starts}
 use Rattle.demands.specs.Demands.{Demand1}
@@ -34,10 +34,10 @@ no-rows : (ws : List ℕ) (out : List ℤ) → planNumber ws (length out) ≢ 0 
 unfolding planSlice planAnswer
 no-rows ws out p = let e = ne-eqb (planNumber ws (length out)) 0 p in (rw e, rw e)
 
-no-pairs : (i : Inputs) (attributes out : List ℕ) → numberOf i attributes (length out) ≢ 0
+no-pairs : (i : Inputs) (attributes out : List ℕ) → reportNumber i attributes (length out) ≢ 0
     → (pairsAfter i attributes out ≡ out) × (reportOf i attributes (length out) .count ≡ 0)
 unfolding pairsAfter reportOf
-no-pairs i attributes out p = let e = ne-eqb (numberOf i attributes (length out)) 0 p in (rw e, rw e)
+no-pairs i attributes out p = let e = ne-eqb (reportNumber i attributes (length out)) 0 p in (rw e, rw e)
 
 starts : (s : Settings) → InPairs s → Starts s
 unfolding startAfter startedWith

@@ -23,7 +23,7 @@ use Rattle.kernel.specs.Frame.{responseTo, responseFrame, frameAnswer, frameOut
 use Rattle.report.specs.declared.Inputs.{Inputs}
 use Rattle.report.specs.Lists.{front}
 use Rattle.report.specs.Rules.{breaches}
-use Rattle.report.specs.Report.{numberOf, reportOf, flat, pairsAfter}
+use Rattle.report.specs.Report.{reportNumber, reportOf, flat, pairsAfter}
 use Rattle.report.proofs.Laws.{exact, ordered}
 use Rattle.demands.specs.Answers.{Written, Determined}
 use Rattle.demands.proofs.Codecs.{id-read, id-unserved}
@@ -49,7 +49,7 @@ unserved : (ws : List ℕ) (z t : ℕ) (bytes out : List ℕ) (i : ℕ) → read
 unfolding frameOut frameAnswer responseFrame
 unserved ws z t bytes out i e = record { buffer = rw e; counted = rw e }
 
-reported : (i : Inputs) (attributes out : List ℕ) → numberOf i attributes (length out) ≡ 0
+reported : (i : Inputs) (attributes out : List ℕ) → reportNumber i attributes (length out) ≡ 0
     → (pairsAfter i attributes out ≡ flat (breaches i attributes) ++ drop (length (flat (breaches i attributes))) out) × (reportOf i attributes (length out) .count ≡ length (breaches i attributes))
 unfolding pairsAfter reportOf front
 reported i attributes out e = (rw e, rw e)

@@ -55,10 +55,10 @@ asks : (ws : List ℕ) (f : ℕ → List ℤ) → ((t : ℕ) → valuesAt (situa
 unfolding askAnswer
 asks ws f v now c = rw c (v now)
 
--- a seat gives back the id and the rank that made it
-seats : (s : Settings) (zs : List Zone) (h : Log) → Same s zs h → (z : ℕ) → joinedBy h z ≡ true → (idOf (recordBy s h z) ≡ z) × (rankOf (recordBy s h z) ≡ newest (saysRank z) 0 h)
+-- a precedence gives back the id and the rank that made it
+precedences : (s : Settings) (zs : List Zone) (h : Log) → Same s zs h → (z : ℕ) → joinedBy h z ≡ true → (idOf (recordBy s h z) ≡ z) × (rankOf (recordBy s h z) ≡ newest (saysRank z) 0 h)
 unfolding recordBy idOf rankOf
-seats s zs h k z e =
+precedences s zs h k z e =
     let b = k .back z e in
     let l : z ≤ 255 = subst (λ (n : ℕ). n ≤ 255) (b .3) (id-high (at zs (b .1))) in
     (omega arith, omega arith)
@@ -78,7 +78,7 @@ demand-3 s k calls =
       numbers = number-same (startedWith s) d h a;
       planNumbers = plan-number-same (startedWith s) d h a;
       responses = λ z t bytes out. unfold frameOut in ap (putWhole out 0) (response-same (startedWith s) d h a z t (readRequest bytes));
-      seats = seats (startedWith s) (zonesOf d) h (a .zones);
+      precedences = precedences (startedWith s) (zonesOf d) h (a .zones);
       eight = at-most (startedWith s) (zonesOf d) h (a .zones);
       slots = released-slot s k calls;
     }

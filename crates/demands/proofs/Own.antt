@@ -12,7 +12,7 @@ use Rattle.device_store.specs.declared.Held.{Held}
 use Rattle.device_store.specs.declared.Settings.{Settings}
 use Rattle.command_effects.specs.declared.actions.Action.{Action}
 use Rattle.device_store.specs.Sizes.{helds}
-use Rattle.device_store.specs.Zones.{nothing, seatOf}
+use Rattle.device_store.specs.Zones.{nothing, precedenceOf}
 use Rattle.command_effects.specs.Effects.{action, untilOf}
 use Rattle.command_effects.specs.Says.{durationOf}
 use Rattle.demands.specs.History.{Told, joins, leaves, links, commands, overrides, passes, Entry, Log, about, newest, of, saysRank, saysUp, said, saysHeld, upBy, heldBy, recordBy}
@@ -65,7 +65,7 @@ pub record-own : (s : Settings) (h : Log) (z : ℕ) → recordBy s (ownSince z h
 unfolding recordBy upBy heldBy
 record-own s h z =
     let l = upTo-cong (λ q. newest (saysHeld s z q) nothing (ownSince z h)) (λ q. newest (saysHeld s z q) nothing h) helds (λ q k. own-newest z (saysHeld s z q) nothing (own-held s z q) h) in
-    λ i. record { seat = seatOf z (own-newest z (saysRank z) 0 (own-rank z) h i); up = own-newest z (saysUp z) false (own-up z) h i; held = l i }
+    λ i. record { precedence = precedenceOf z (own-newest z (saysRank z) 0 (own-rank z) h i); up = own-newest z (saysUp z) false (own-up z) h i; held = l i }
 
 -- a value and its end are of one command, or nothing is held
 pub set-together : (s : Settings) (h : Log) (z q : ℕ) → (heldBy s h z q ≡ nothing) ⊎ SetTogether s h z q (heldBy s h z q)

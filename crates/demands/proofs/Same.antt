@@ -23,7 +23,7 @@ use Rattle.demands.proofs.Claims.{Within, OneId}
 abbrev pub at : List Zone → ℕ → Zone
 at zs i = getD zs i freeZone
 
--- "id 1 to 255": no seat has a larger one
+-- "id 1 to 255": no precedence has a larger one
 pub id-high : (x : Zone) → idOf x ≤ 255
 unfolding idOf
 id-high x = omega arith

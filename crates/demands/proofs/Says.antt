@@ -11,7 +11,7 @@ use Rattle.device_store.specs.declared.Held.{Held}
 use Rattle.device_store.specs.declared.Settings.{Settings}
 use Rattle.command_effects.specs.declared.actions.Action.{Action}
 use Rattle.device_store.specs.Sizes.{helds}
-use Rattle.device_store.specs.Zones.{upTo, nothing, seatOf, newZone, linked, heldOf}
+use Rattle.device_store.specs.Zones.{upTo, nothing, precedenceOf, newZone, linked, heldOf}
 use Rattle.command_effects.specs.Effects.{action, untilOf, done, obeyed}
 use Rattle.command_effects.specs.Says.{durationOf}
 use Rattle.demands.specs.History.{Told, joins, leaves, links, commands, overrides, passes, Log, newest, of, saysJoined, saysRank, saysUp, said, saysHeld, joinedBy, upBy, heldBy, recordBy, about}
@@ -48,7 +48,7 @@ record-other s h z t e p =
     let r = passed-over (saysRank z) 0 h t e (n .rank) in
     let u = passed-over (saysUp z) false h t e (n .up) in
     let l = upTo-cong (λ q. newest (saysHeld s z q) nothing ((t, e) ∷ h)) (λ q. newest (saysHeld s z q) nothing h) helds (λ q k. passed-over (saysHeld s z q) nothing h t e (n .held s q)) in
-    λ i. record { seat = seatOf z (r i); up = u i; held = l i }
+    λ i. record { precedence = precedenceOf z (r i); up = u i; held = l i }
 
 -- a call of zone z
 pub joined-join : (h : Log) (z t k : ℕ) → joinedBy ((t, joins z k) ∷ h) z ≡ true
@@ -94,7 +94,7 @@ unfolding recordBy upBy newest of saysRank saysUp obeyed
 record-command s h z t c =
     let l = upTo-cong (heldBy s ((t, commands z c) ∷ h) z) (λ q. done (action s c q) (untilOf t (durationOf c)) (heldOf (recordBy s h z) q)) helds
     (λ q k. held-command s h z t q c ∙ ap (done (action s c q) (untilOf t (durationOf c))) (sym (held-of s h z q k))) in
-    λ i. record { seat = seatOf z (newest (saysRank z) 0 h); up = newest (saysUp z) false h; held = l i }
+    λ i. record { precedence = precedenceOf z (newest (saysRank z) 0 h); up = newest (saysUp z) false h; held = l i }
 
 pub record-size : (s : Settings) (h : Log) (z : ℕ) → length (recordBy s h z .held) ≡ helds
 unfolding recordBy

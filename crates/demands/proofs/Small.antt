@@ -18,7 +18,7 @@ use Rattle.wire_messages.specs.declared.Phases.{Phases}
 use Rattle.wire_messages.specs.declared.CurrentLimits.{CurrentLimits}
 use Rattle.wire_messages.specs.declared.Command.{Command}
 use Rattle.wire_prefix.specs.Prefix.{framed, payloadIn}
-use Rattle.wire_fields.specs.Fields.{mapIn, upTo, needed, optional, inRange, signed, most32, valueIn, amountIn, aimIn}
+use Rattle.wire_fields.specs.Fields.{mapIn, numberUpTo, needed, optional, inRange, signed, most32, valueIn, amountIn, aimIn}
 use Rattle.wire_fields.specs.ByPhase.{onlyPhases, eachPhase, byPhase, phasesFrom, phasesIn}
 use Rattle.wire_requests.specs.Settings.{settingIn, targetOf, limitsFrom, setpointsFrom, currentLimitsIn}
 use Rattle.wire_messages.specs.declared.set_parameters.Setting.{Setting}
@@ -111,7 +111,7 @@ small-setting null ps =
     every-bind SmallField SmallSetting (valueIn null (valueOf ps 1)) _ (small-value null (valueOf ps 1)) (λ c hc.
     every-bind SmallField SmallSetting (valueIn null (valueOf ps 2)) _ (small-value null (valueOf ps 2)) (λ p hp.
     any-bind SmallSetting (amountIn most32 (valueOf ps 3)) _ (λ d.
-    any-bind SmallSetting (needed (upTo 255) (valueOf ps 4)) _ (λ k. (hc, hp)))))
+    any-bind SmallSetting (needed (numberUpTo 255) (valueOf ps 4)) _ (λ k. (hc, hp)))))
 
 small-cond : (b : Bool) (f g : Field) → SmallField f → SmallField g → SmallField (cond b f g)
 small-cond true f g h k = h
@@ -152,9 +152,9 @@ small-currents : (ps : Pairs) → Every (λ (m : CurrentLimits). SmallPhases (m 
 unfolding currentLimitsIn
 small-currents ps =
     every-bind SmallPhases (λ (m : CurrentLimits). SmallPhases (m .phases)) (phasesIn true (valueOf ps 1)) _ (small-phases true (valueOf ps 1)) (λ f h.
-    any-bind (λ (m : CurrentLimits). SmallPhases (m .phases)) (needed (upTo 1) (valueOf ps 2)) _ (λ x.
+    any-bind (λ (m : CurrentLimits). SmallPhases (m .phases)) (needed (numberUpTo 1) (valueOf ps 2)) _ (λ x.
     any-bind (λ (m : CurrentLimits). SmallPhases (m .phases)) (amountIn most32 (valueOf ps 3)) _ (λ d.
-    any-bind (λ (m : CurrentLimits). SmallPhases (m .phases)) (needed (upTo 255) (valueOf ps 4)) _ (λ k. h))))
+    any-bind (λ (m : CurrentLimits). SmallPhases (m .phases)) (needed (numberUpTo 255) (valueOf ps 4)) _ (λ k. h))))
 
 -- a command says of a quantity what its field is, or nothing
 small-says : (c : Command) → ((q : ℕ) → SmallField (fieldAt c q)) → SmallCommand c

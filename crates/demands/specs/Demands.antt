@@ -34,7 +34,7 @@ use Rattle.plan.specs.Plan.{numbersOf, front, rowsFrom, planTests, planNumber, 
 use Rattle.kernel.specs.Frame.{frameNumber, frameAnswer, frameOut}
 use Rattle.report.specs.declared.Inputs.{Inputs}
 use Rattle.report.specs.Rules.{breaches}
-use Rattle.report.specs.Report.{numberOf, reportOf, flat, pairsAfter}
+use Rattle.report.specs.Report.{reportNumber, reportOf, flat, pairsAfter}
 use Rattle.report.specs.Statements.{Exact, Ordered}
 use Rattle.receiver.specs.declared.record.Record.{Record}
 use Rattle.receiver.specs.Receive.{received}
@@ -65,7 +65,7 @@ pub record Demand1 : Type 0 where
   pub writeRequests : (r : Request) (room : ℕ) → ByTests (writingNumber (requestNumber r) (itemFrame (requestItem r)) room) (writeRequestTests r room)
   pub writeResponses : (command : ℕ) (r : Response) (room : ℕ)
       → ByTests (writingNumber (responseNumber command r) (itemFrame (responseItem r)) room) (writeResponseTests command r room)
-  pub reports : (i : Inputs) (attributes : List ℕ) (room : ℕ) → ByTests (numberOf i attributes room) (reportTests i attributes room)
+  pub reports : (i : Inputs) (attributes : List ℕ) (room : ℕ) → ByTests (reportNumber i attributes room) (reportTests i attributes room)
   -- ".. and writes nothing except the response frame where the table allows one"
   pub frame : (device : List ℕ) (z t : ℕ) (bytes out : List ℕ)
       → Responds (frameNumber device z t bytes (length out)) out (frameOut device z t bytes out) (frameAnswer device z t bytes (length out) .length)
@@ -74,13 +74,13 @@ pub record Demand1 : Type 0 where
       → (planSlice device out ≡ out) × (planAnswer device (length out) .count ≡ 0)
   pub write : (n : ℕ) (frame out : List ℕ) → writingNumber n frame (length out) ≢ 0
       → (leftBy n frame out ≡ out) × (writtenOf n frame (length out) .length ≡ 0)
-  pub report : (i : Inputs) (attributes out : List ℕ) → numberOf i attributes (length out) ≢ 0
+  pub report : (i : Inputs) (attributes out : List ℕ) → reportNumber i attributes (length out) ≢ 0
       → (pairsAfter i attributes out ≡ out) × (reportOf i attributes (length out) .count ≡ 0)
   -- the number in an answer is the one above
   pub frameAnswers : (device : List ℕ) (z t : ℕ) (bytes : List ℕ) (room : ℕ) → frameAnswer device z t bytes room .number ≡ frameNumber device z t bytes room
   pub planAnswers : (device : List ℕ) (room : ℕ) → planAnswer device room .number ≡ planNumber device room
   pub writeAnswers : (n : ℕ) (frame : List ℕ) (room : ℕ) → writtenOf n frame room .number ≡ writingNumber n frame room
-  pub reportAnswers : (i : Inputs) (attributes : List ℕ) (room : ℕ) → reportOf i attributes room .number ≡ numberOf i attributes room
+  pub reportAnswers : (i : Inputs) (attributes : List ℕ) (room : ℕ) → reportOf i attributes room .number ≡ reportNumber i attributes room
   -- "A fresh device's clock is 0"; "A refused start hands back a fresh device" with settings of its own
   pub start : (s : Settings) → InPairs s → Starts s
   -- the calls of document 02, likewise: their numbers by its tests, and what a refusal leaves of all that was lent
@@ -133,7 +133,7 @@ pub record Demand2 : Type 0 where
   pub exact : Exact
   pub ordered : Ordered
   -- an accepted report's buffer has these pairs at its front and is else as it was; its answer is their number
-  pub reported : (i : Inputs) (attributes out : List ℕ) → numberOf i attributes (length out) ≡ 0
+  pub reported : (i : Inputs) (attributes out : List ℕ) → reportNumber i attributes (length out) ≡ 0
       → (pairsAfter i attributes out ≡ flat (breaches i attributes) ++ drop (length (flat (breaches i attributes))) out) × (reportOf i attributes (length out) .count ≡ length (breaches i attributes))
 
 -- DEMAND 3
@@ -169,7 +169,7 @@ pub record FromHistory (s : Settings) (calls : List Call) : Type 0 where
   pub responses : (z t : ℕ) (bytes out : List ℕ)
       → frameOut (run s calls) z t bytes out ≡ putWhole out 0 (responseFrameBy (startedWith s) (history s calls) z t (readRequest bytes))
   -- the record of a joined zone has its id and the rank that it joined with
-  pub seats : (z : ℕ) → joinedBy (history s calls) z ≡ true
+  pub precedences : (z : ℕ) → joinedBy (history s calls) z ≡ true
       → (idOf (recordBy (startedWith s) (history s calls) z) ≡ z) × (rankOf (recordBy (startedWith s) (history s calls) z) ≡ newest (saysRank z) 0 (history s calls))
   -- "Zones: 8 joined at once"
   pub eight : length (told s calls .zones) ≤ 8

@@ -10,7 +10,7 @@ use Rattle.device_store.specs.declared.Zone.{Zone}
 use Rattle.device_store.specs.declared.Settings.{Settings}
 use Rattle.command_effects.specs.declared.actions.Action.{Action}
 use Rattle.device_store.specs.Sizes.{helds}
-use Rattle.device_store.specs.Zones.{upTo, nothing, seatOf}
+use Rattle.device_store.specs.Zones.{upTo, nothing, precedenceOf}
 use Rattle.device_holds.specs.Holds.{Situation}
 use Rattle.device_holds.specs.Links.{sinceAfter}
 use Rattle.command_effects.specs.Effects.{action, untilOf}
@@ -122,7 +122,7 @@ unfoldable pub heldBy : Settings → Log → ℕ → ℕ → Held
 heldBy s h z q = newest (saysHeld s z q) nothing h
 
 unfoldable pub recordBy : Settings → Log → ℕ → Zone
-recordBy s h z = record { seat = seatOf z (newest (saysRank z) 0 h); up = upBy h z; held = upTo (heldBy s h z) helds }
+recordBy s h z = record { precedence = precedenceOf z (newest (saysRank z) 0 h); up = upBy h z; held = upTo (heldBy s h z) helds }
 
 -- the joined zones of ids 1 to n, "id 1 to 255"
 unfoldable pub zonesTo : Settings → Log → ℕ → List Zone

@@ -25,7 +25,7 @@ use Rattle.plan.specs.Plan.{rowsFrom}
 use Rattle.plan_plain.specs.declared.Row.{Row}
 use Rattle.plan_plain.specs.Records.{plainAnswer, plainSlice}
 use Rattle.rescue_walk.specs.Walk.{rescued, runs}
-use Rattle.rescue_walk.specs.Rescue.{most, number, written, answer}
+use Rattle.rescue_walk.specs.Rescue.{longestScript, number, written, answer}
 use Rattle.demands.specs.Tests.{missing}
 use Rattle.demands.specs.Answers.{ByTests}
 use Rattle.refusals.specs.Refusals.{BAD_CBOR, BAD_LENGTH, BAD_MESSAGE, BAD_TIME, NO_SPACE}
@@ -114,7 +114,7 @@ pub record PlansPlainly (device : List ℕ) (records : List Row) : Type 0 where
 -- L12: RESCUE
 -- "an input above the size is 1, tested first"; "15 for output or report without room"
 unfoldable pub rescueTests : List ℕ → ℕ → ℕ → List (Bool × ℕ)
-rescueTests script out report = (ltb most (length script), BAD_LENGTH) ∷ (ltb out (length (rescued script)) || ltb report (length (runs script)), NO_SPACE) ∷ []
+rescueTests script out report = (ltb longestScript (length script), BAD_LENGTH) ∷ (ltb out (length (rescued script)) || ltb report (length (runs script)), NO_SPACE) ∷ []
 
 -- "nothing written": n is the call's number
 pub record Rescues (script out report : List ℕ) (n : ℕ) : Type 0 where

@@ -47,7 +47,7 @@ module _ (ws : List ℕ) (z t : ℕ) (c : Command) where
   may-command e =
       passed (isUnserved c) (late (clockOf ws) t) (joined (zonesOf ws) z) (zoneOf (zonesOf ws) z .up) _ e
 
-  -- THE DECISION, FROM THE SEAT
+  -- THE DECISION, FROM THE PRECEDENCE
   abbrev numberAt : ℕ → ℕ
   numberAt i =
       firstOf (commandTests (clockOf ws) (ltb i slots) (getD (zonesOf ws) i freeZone .up) (settingsOf ws) (overrideOf ws) t c)

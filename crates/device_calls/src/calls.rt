@@ -63,7 +63,7 @@ fn new_zone(zone: u64, rank: u64) -> Zone
     ensures { λ r. ⌜ r ≡ newZone zone rank ⌝ }
 {
     Zone {
-        seat: rank * IDS + zone,
+        precedence: rank * IDS + zone,
         up: true,
         held: [Held { value: 0, until: 0 }; HELDS],
     }
@@ -134,7 +134,7 @@ fn told(d: &State, slot: usize, up: bool) -> Zone
     let x = device_store::zone_at(d, slot);
     let held = x.held;
     Zone {
-        seat: x.seat,
+        precedence: x.precedence,
         up: up,
         held: held,
     }

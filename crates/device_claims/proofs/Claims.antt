@@ -10,42 +10,42 @@ use borrow.Author.Tests.{lt-ltb, le-ltb, le-leb, lt-leb, ltb-true, ltb-false, eq
 use lib.Dec.{ltb, leb, eqb}
 use lib.ListN.{length, getD, set, take, replicate, length-set}
 use lib.Seq.{take-suc, take-all, getD-set-same, getD-set-other}
-use Rattle.device_store.specs.Quantities.{lows, leads, isSetpoint, lowAt, leadAt}
+use Rattle.device_store.specs.Quantities.{lowest-values, leading-setpoints, isSetpoint, lowAt, leadAt}
 use Rattle.device_store.specs.Sizes.{most}
-use Rattle.device_store.specs.Zones.{upTo, seatOf, idOf, rankOf, freeZone, isJoined, heldOf}
+use Rattle.device_store.specs.Zones.{upTo, precedenceOf, idOf, rankOf, freeZone, isJoined, heldOf}
 use Rattle.device_claims.specs.Claim.{Claim, noClaim, claimOf, goesBefore, better, winner}
 use Rattle.device_claims.specs.Ends.{zoneDues, heldDues}
 use Rattle.device_store.specs.Smaller.{nearer}
 use Rattle.device_store.specs.Smaller.{lesser}
-use Rattle.device_claims.specs.Pass.{takes, numberOf, placeOf, turns, lowStep, leadStep, lowsWith, leadsWith, Bounded, Stands, LowsMet, LeadsMet, Adds}
+use Rattle.device_claims.specs.Pass.{takes, claimNumber, placeOf, turns, lowStep, leadStep, lowestValuesWith, leadingSetpointsWith, Bounded, Stands, LowestValuesMet, LeadingSetpointsMet, Adds}
 use Rattle.device_store.specs.declared.Held.{Held}
 use Rattle.device_store.specs.declared.Zone.{Zone}
-use Rattle.device_claims.specs.declared.passes.Lows.{Lows}
-use Rattle.device_claims.specs.declared.passes.Leads.{Leads}
+use Rattle.device_claims.specs.declared.passes.LowestValues.{LowestValues}
+use Rattle.device_claims.specs.declared.passes.LeadingSetpoints.{LeadingSetpoints}
 use Rattle.device_claims.proofs.Places.{low-no-setpoint, lead-setpoint}
 
--- by rank and then by id is the order of seats
-seat-order : (k i l j : ℕ) → i < 256 → j < 256 → (ltb k l || (eqb k l && ltb i j)) ≡ ltb (seatOf i k) (seatOf j l)
-seat-order k i l j a b = go (ltb k l) (eqb k l) (ltb i j) refl refl refl
+-- by rank and then by id is the order of precedences
+precedence-order : (k i l j : ℕ) → i < 256 → j < 256 → (ltb k l || (eqb k l && ltb i j)) ≡ ltb (precedenceOf i k) (precedenceOf j l)
+precedence-order k i l j a b = go (ltb k l) (eqb k l) (ltb i j) refl refl refl
   where
-    go : (u v w : Bool) → ltb k l ≡ u → eqb k l ≡ v → ltb i j ≡ w → (u || (v && w)) ≡ ltb (seatOf i k) (seatOf j l)
-    go true v w p q r = let h : k < l = ltb-true k l p in sym (lt-ltb (seatOf i k) (seatOf j l) (omega arith))
+    go : (u v w : Bool) → ltb k l ≡ u → eqb k l ≡ v → ltb i j ≡ w → (u || (v && w)) ≡ ltb (precedenceOf i k) (precedenceOf j l)
+    go true v w p q r = let h : k < l = ltb-true k l p in sym (lt-ltb (precedenceOf i k) (precedenceOf j l) (omega arith))
     go false true true p q r =
         let h : k ≡ l = eqb-true k l q in
         let m : i < j = ltb-true i j r in
-        sym (lt-ltb (seatOf i k) (seatOf j l) (omega arith))
+        sym (lt-ltb (precedenceOf i k) (precedenceOf j l) (omega arith))
     go false true false p q r =
         let h : k ≡ l = eqb-true k l q in
         let m : j ≤ i = ltb-false i j r in
-        sym (le-ltb (seatOf i k) (seatOf j l) (omega arith))
+        sym (le-ltb (precedenceOf i k) (precedenceOf j l) (omega arith))
     go false false w p q r =
         let h : l ≤ k = ltb-false k l p in
         let m : k ≡ l → ⊥ = eqb-false k l q in
-        sym (le-ltb (seatOf i k) (seatOf j l) (omega arith))
+        sym (le-ltb (precedenceOf i k) (precedenceOf j l) (omega arith))
 
-seat-of : (x : Zone) → seatOf (idOf x) (rankOf x) ≡ x .seat
+precedence-of : (x : Zone) → precedenceOf (idOf x) (rankOf x) ≡ x .precedence
 unfolding idOf rankOf
-seat-of x = omega arith
+precedence-of x = omega arith
 
 small-id : (x : Zone) → idOf x < 256
 unfolding idOf
@@ -62,15 +62,15 @@ module _ (t q : ℕ) (a : Claim) (x : Zone) (joined : isJoined x ≡ true) where
   claim = record { there = true; value = heldOf x q .value; rank = rankOf x; id = idOf x }
 
   -- the smaller of two limits
-  pub limit-more : isSetpoint q ≡ false → (n : ℕ) → n ≡ numberOf a → heldOf x q .value ≤ most
-      → cond (ltb t (heldOf x q .until)) (lesser (heldOf x q .value) n) n ≡ numberOf (better q a (claimOf t q x))
-  unfolding better claimOf goesBefore lesser numberOf
+  pub limit-more : isSetpoint q ≡ false → (n : ℕ) → n ≡ claimNumber a → heldOf x q .value ≤ most
+      → cond (ltb t (heldOf x q .until)) (lesser (heldOf x q .value) n) n ≡ claimNumber (better q a (claimOf t q x))
+  unfolding better claimOf goesBefore lesser claimNumber
   limit-more l n e h = rw (joined, l) (go (ltb t (heldOf x q .until)))
     where
       v : ℕ
       v = heldOf x q .value
 
-      more : (w y z : Bool) → a .there ≡ w → ltb (a .value) v ≡ y → ltb v n ≡ z → n ≡ cond w (a .value) most → cond z v n ≡ numberOf (cond (not (w && y)) claim a)
+      more : (w y z : Bool) → a .there ≡ w → ltb (a .value) v ≡ y → ltb v n ≡ z → n ≡ cond w (a .value) most → cond z v n ≡ claimNumber (cond (not (w && y)) claim a)
       more true true true p r s f = absurd (omega (arith, ltb-true (a .value) v r, ltb-true v n s))
       more true true false p r s f = e
       more true false true p r s f = refl
@@ -78,37 +78,37 @@ module _ (t q : ℕ) (a : Claim) (x : Zone) (joined : isJoined x ≡ true) where
       more false y true p r s f = refl
       more false y false p r s f = omega (arith, ltb-false v n s)
 
-      go : (b : Bool) → cond b (cond (ltb v n) v n) n ≡ numberOf (cond (cond b claim noClaim .there && not (a .there && ltb (a .value) (cond b claim noClaim .value))) (cond b claim noClaim) a)
+      go : (b : Bool) → cond b (cond (ltb v n) v n) n ≡ claimNumber (cond (cond b claim noClaim .there && not (a .there && ltb (a .value) (cond b claim noClaim .value))) (cond b claim noClaim) a)
       go true = more (a .there) (ltb (a .value) v) (ltb v n) refl refl refl e
       go false = e
 
-  -- the setpoint of the smaller seat
-  pub lead-more : isSetpoint q ≡ true → (k n : ℕ) → Stands a k n → x .seat ≤ most
-      → Stands (better q a (claimOf t q x)) (cond (takes t (heldOf x q .until) (x .seat) k) (x .seat) k) (cond (takes t (heldOf x q .until) (x .seat) k) (heldOf x q .value) n)
-  unfolding better claimOf goesBefore takes numberOf placeOf
+  -- the setpoint of the smaller precedence
+  pub lead-more : isSetpoint q ≡ true → (k n : ℕ) → Stands a k n → x .precedence ≤ most
+      → Stands (better q a (claimOf t q x)) (cond (takes t (heldOf x q .until) (x .precedence) k) (x .precedence) k) (cond (takes t (heldOf x q .until) (x .precedence) k) (heldOf x q .value) n)
+  unfolding better claimOf goesBefore takes claimNumber placeOf
   lead-more l k n s h = rw (joined, l) (go (ltb t (heldOf x q .until)))
     where
       v : ℕ
       v = heldOf x q .value
 
-      theirs : Stands claim (x .seat) v
-      theirs = record { place = sym (seat-of x); number = refl; small = small-id x }
+      theirs : Stands claim (x .precedence) v
+      theirs = record { place = sym (precedence-of x); number = refl; small = small-id x }
 
-      more : (w : Bool) → a .there ≡ w → k ≡ cond w (seatOf (a .id) (a .rank)) most → (y : Bool) → ltb (seatOf (a .id) (a .rank)) (x .seat) ≡ y
-          → Stands (cond (not (w && y)) claim a) (cond (leb (x .seat) k) (x .seat) k) (cond (leb (x .seat) k) v n)
-      more true p f true r = let m : k < x .seat = omega (arith, ltb-true (seatOf (a .id) (a .rank)) (x .seat) r) in rw (lt-leb (x .seat) k m) s
-      more true p f false r = let m : x .seat ≤ k = omega (arith, ltb-false (seatOf (a .id) (a .rank)) (x .seat) r) in rw (le-leb (x .seat) k m) theirs
-      more false p f y r = let m : x .seat ≤ k = omega arith in rw (le-leb (x .seat) k m) theirs
+      more : (w : Bool) → a .there ≡ w → k ≡ cond w (precedenceOf (a .id) (a .rank)) most → (y : Bool) → ltb (precedenceOf (a .id) (a .rank)) (x .precedence) ≡ y
+          → Stands (cond (not (w && y)) claim a) (cond (leb (x .precedence) k) (x .precedence) k) (cond (leb (x .precedence) k) v n)
+      more true p f true r = let m : k < x .precedence = omega (arith, ltb-true (precedenceOf (a .id) (a .rank)) (x .precedence) r) in rw (lt-leb (x .precedence) k m) s
+      more true p f false r = let m : x .precedence ≤ k = omega (arith, ltb-false (precedenceOf (a .id) (a .rank)) (x .precedence) r) in rw (le-leb (x .precedence) k m) theirs
+      more false p f y r = let m : x .precedence ≤ k = omega arith in rw (le-leb (x .precedence) k m) theirs
 
-      order : (ltb (a .rank) (rankOf x) || (eqb (a .rank) (rankOf x) && ltb (a .id) (idOf x))) ≡ ltb (seatOf (a .id) (a .rank)) (x .seat)
-      order = seat-order (a .rank) (a .id) (rankOf x) (idOf x) (s .small) (small-id x) ∙ ap (λ (m : ℕ). ltb (seatOf (a .id) (a .rank)) m) (seat-of x)
+      order : (ltb (a .rank) (rankOf x) || (eqb (a .rank) (rankOf x) && ltb (a .id) (idOf x))) ≡ ltb (precedenceOf (a .id) (a .rank)) (x .precedence)
+      order = precedence-order (a .rank) (a .id) (rankOf x) (idOf x) (s .small) (small-id x) ∙ ap (λ (m : ℕ). ltb (precedenceOf (a .id) (a .rank)) m) (precedence-of x)
 
       told : Bool → Claim
       told b = cond b claim noClaim
 
       go : (b : Bool) → Stands (cond (told b .there && not (a .there && (ltb (a .rank) (told b .rank) || (eqb (a .rank) (told b .rank) && ltb (a .id) (told b .id))))) (told b) a)
-          (cond (b && leb (x .seat) k) (x .seat) k) (cond (b && leb (x .seat) k) v n)
-      go true = rw order (more (a .there) refl (s .place) (ltb (seatOf (a .id) (a .rank)) (x .seat)) refl)
+          (cond (b && leb (x .precedence) k) (x .precedence) k) (cond (b && leb (x .precedence) k) v n)
+      go true = rw order (more (a .there) refl (s .place) (ltb (precedenceOf (a .id) (a .rank)) (x .precedence)) refl)
       go false = s
 
 -- A RUN OF STEPS: each changes one place at most
@@ -179,97 +179,97 @@ unfolding zoneDues
 free-ends next t x at n g e = rw e
 
 module _ (t : ℕ) (x : Zone) (e : isJoined x ≡ false) where
-  pub free-lows : (g : Lows) → Adds LowsMet t x g g × (g .next ≡ foldl (nearer t) (g .next) (zoneDues lowAt lows x))
-  free-lows g = (
+  pub free-lowest-values : (g : LowestValues) → Adds LowestValuesMet t x g g × (g .next ≡ foldl (nearer t) (g .next) (zoneDues lowAt lowest-values x))
+  free-lowest-values g = (
     λ f m. record { size = m .size; low = λ k h. rw (free-keeps t (lowAt k) (f (lowAt k)) x e) (m .low k h) },
-    free-ends (λ (g : Lows). g .next) t x lowAt lows g e,
+    free-ends (λ (g : LowestValues). g .next) t x lowAt lowest-values g e,
   )
 
-  pub free-leads : (g : Leads) → Adds LeadsMet t x g g × (g .next ≡ foldl (nearer t) (g .next) (zoneDues leadAt leads x))
-  free-leads g = (
-    λ f m. record { seatSize = m .seatSize; leadSize = m .leadSize; lead = λ k h. rw (free-keeps t (leadAt k) (f (leadAt k)) x e) (m .lead k h) },
-    free-ends (λ (g : Leads). g .next) t x leadAt leads g e,
+  pub free-leading-setpoints : (g : LeadingSetpoints) → Adds LeadingSetpointsMet t x g g × (g .next ≡ foldl (nearer t) (g .next) (zoneDues leadAt leading-setpoints x))
+  free-leading-setpoints g = (
+    λ f m. record { precedenceSize = m .precedenceSize; leadSize = m .leadSize; lead = λ k h. rw (free-keeps t (leadAt k) (f (leadAt k)) x e) (m .lead k h) },
+    free-ends (λ (g : LeadingSetpoints). g .next) t x leadAt leading-setpoints g e,
   )
 
 -- A JOINED ZONE: all its limits are met, all its setpoints
 module _ (t : ℕ) (x : Zone) (e : isJoined x ≡ true) where
-  abbrev lowTurn : ℕ → Lows → Lows
+  abbrev lowTurn : ℕ → LowestValues → LowestValues
   lowTurn k = lowStep t (heldOf x (lowAt k)) k
 
-  low-is : (k : ℕ) (g : Lows) → lowTurn k g .low ≡ cond (ltb t (heldOf x (lowAt k) .until)) (set (g .low) k (lesser (heldOf x (lowAt k) .value) (getD (g .low) k 0))) (g .low)
+  low-is : (k : ℕ) (g : LowestValues) → lowTurn k g .low ≡ cond (ltb t (heldOf x (lowAt k) .until)) (set (g .low) k (lesser (heldOf x (lowAt k) .value) (getD (g .low) k 0))) (g .low)
   unfolding lowStep
   low-is k g = refl
 
-  low-next : (k : ℕ) (g : Lows) → lowTurn k g .next ≡ nearer t (g .next) (heldOf x (lowAt k) .until)
+  low-next : (k : ℕ) (g : LowestValues) → lowTurn k g .next ≡ nearer t (g .next) (heldOf x (lowAt k) .until)
   unfolding lowStep
   low-next k g = refl
 
-  pub lows-add : (g : Lows) → Bounded x lows → Adds LowsMet t x g (lowsWith t x lows g)
-  lows-add g a f m =
-      let array : Lows → List ℕ = λ (g : Lows). g .low in
-      let taken : ℕ → Lows → Bool = λ (k : ℕ) (g : Lows). ltb t (heldOf x (lowAt k) .until) in
-      let v : ℕ → Lows → ℕ = λ (k : ℕ) (g : Lows). lesser (heldOf x (lowAt k) .value) (getD (g .low) k 0) in
+  pub lowest-values-add : (g : LowestValues) → Bounded x lowest-values → Adds LowestValuesMet t x g (lowestValuesWith t x lowest-values g)
+  lowest-values-add g a f m =
+      let array : LowestValues → List ℕ = λ (g : LowestValues). g .low in
+      let taken : ℕ → LowestValues → Bool = λ (k : ℕ) (g : LowestValues). ltb t (heldOf x (lowAt k) .until) in
+      let v : ℕ → LowestValues → ℕ = λ (k : ℕ) (g : LowestValues). lesser (heldOf x (lowAt k) .value) (getD (g .low) k 0) in
       record {
-        size = turns-size lowTurn array taken v low-is g lows ∙ m .size;
+        size = turns-size lowTurn array taken v low-is g lowest-values ∙ m .size;
         low = λ k h.
-            turns-below lowTurn array taken v low-is g lows k h (omega (arith, m .size))
+            turns-below lowTurn array taken v low-is g lowest-values k h (omega (arith, m .size))
             ∙ rw (turns-above lowTurn array taken v low-is g k k (omega arith))
             (limit-more t (lowAt k) (f (lowAt k)) x e (low-no-setpoint k) (getD (g .low) k 0) (m .low k h) (a k h));
       }
 
-  pub lows-end : (g : Lows) → lowsWith t x lows g .next ≡ foldl (nearer t) (g .next) (zoneDues lowAt lows x)
+  pub lowest-values-end : (g : LowestValues) → lowestValuesWith t x lowest-values g .next ≡ foldl (nearer t) (g .next) (zoneDues lowAt lowest-values x)
   unfolding zoneDues
-  lows-end g = rw e (turns-next t lowTurn (λ (g : Lows). g .next) (λ k. heldOf x (lowAt k) .until) low-next lows g)
+  lowest-values-end g = rw e (turns-next t lowTurn (λ (g : LowestValues). g .next) (λ k. heldOf x (lowAt k) .until) low-next lowest-values g)
 
-  abbrev leadTurn : ℕ → Leads → Leads
-  leadTurn k = leadStep t (heldOf x (leadAt k)) (x .seat) k
+  abbrev leadTurn : ℕ → LeadingSetpoints → LeadingSetpoints
+  leadTurn k = leadStep t (heldOf x (leadAt k)) (x .precedence) k
 
-  abbrev leadTaken : ℕ → Leads → Bool
-  leadTaken k g = takes t (heldOf x (leadAt k) .until) (x .seat) (getD (g .seat) k 0)
+  abbrev leadTaken : ℕ → LeadingSetpoints → Bool
+  leadTaken k g = takes t (heldOf x (leadAt k) .until) (x .precedence) (getD (g .precedence) k 0)
 
-  seat-is : (k : ℕ) (g : Leads) → leadTurn k g .seat ≡ cond (leadTaken k g) (set (g .seat) k (x .seat)) (g .seat)
+  precedence-is : (k : ℕ) (g : LeadingSetpoints) → leadTurn k g .precedence ≡ cond (leadTaken k g) (set (g .precedence) k (x .precedence)) (g .precedence)
   unfolding leadStep
-  seat-is k g = refl
+  precedence-is k g = refl
 
-  lead-is : (k : ℕ) (g : Leads) → leadTurn k g .lead ≡ cond (leadTaken k g) (set (g .lead) k (heldOf x (leadAt k) .value)) (g .lead)
+  lead-is : (k : ℕ) (g : LeadingSetpoints) → leadTurn k g .lead ≡ cond (leadTaken k g) (set (g .lead) k (heldOf x (leadAt k) .value)) (g .lead)
   unfolding leadStep
   lead-is k g = refl
 
-  lead-next : (k : ℕ) (g : Leads) → leadTurn k g .next ≡ nearer t (g .next) (heldOf x (leadAt k) .until)
+  lead-next : (k : ℕ) (g : LeadingSetpoints) → leadTurn k g .next ≡ nearer t (g .next) (heldOf x (leadAt k) .until)
   unfolding leadStep
   lead-next k g = refl
 
-  pub leads-add : (g : Leads) → x .seat ≤ most → Adds LeadsMet t x g (leadsWith t x leads g)
-  leads-add g s f m =
-      let seats : Leads → List ℕ = λ (g : Leads). g .seat in
-      let values : Leads → List ℕ = λ (g : Leads). g .lead in
-      let seat : ℕ → Leads → ℕ = λ (k : ℕ) (g : Leads). x .seat in
-      let value : ℕ → Leads → ℕ = λ (k : ℕ) (g : Leads). heldOf x (leadAt k) .value in
+  pub leading-setpoints-add : (g : LeadingSetpoints) → x .precedence ≤ most → Adds LeadingSetpointsMet t x g (leadingSetpointsWith t x leading-setpoints g)
+  leading-setpoints-add g s f m =
+      let precedences : LeadingSetpoints → List ℕ = λ (g : LeadingSetpoints). g .precedence in
+      let values : LeadingSetpoints → List ℕ = λ (g : LeadingSetpoints). g .lead in
+      let precedence : ℕ → LeadingSetpoints → ℕ = λ (k : ℕ) (g : LeadingSetpoints). x .precedence in
+      let value : ℕ → LeadingSetpoints → ℕ = λ (k : ℕ) (g : LeadingSetpoints). heldOf x (leadAt k) .value in
       record {
-        seatSize = turns-size leadTurn seats leadTaken seat seat-is g leads ∙ m .seatSize;
-        leadSize = turns-size leadTurn values leadTaken value lead-is g leads ∙ m .leadSize;
+        precedenceSize = turns-size leadTurn precedences leadTaken precedence precedence-is g leading-setpoints ∙ m .precedenceSize;
+        leadSize = turns-size leadTurn values leadTaken value lead-is g leading-setpoints ∙ m .leadSize;
         lead = λ k h.
             rw (
-              turns-below leadTurn seats leadTaken seat seat-is g leads k h (omega (arith, m .seatSize)),
-              turns-below leadTurn values leadTaken value lead-is g leads k h (omega (arith, m .leadSize)),
-              turns-above leadTurn seats leadTaken seat seat-is g k k (omega arith),
+              turns-below leadTurn precedences leadTaken precedence precedence-is g leading-setpoints k h (omega (arith, m .precedenceSize)),
+              turns-below leadTurn values leadTaken value lead-is g leading-setpoints k h (omega (arith, m .leadSize)),
+              turns-above leadTurn precedences leadTaken precedence precedence-is g k k (omega arith),
             )
-            (lead-more t (leadAt k) (f (leadAt k)) x e (lead-setpoint k h) (getD (g .seat) k 0) (getD (g .lead) k 0) (m .lead k h) s);
+            (lead-more t (leadAt k) (f (leadAt k)) x e (lead-setpoint k h) (getD (g .precedence) k 0) (getD (g .lead) k 0) (m .lead k h) s);
       }
 
-  pub leads-end : (g : Leads) → leadsWith t x leads g .next ≡ foldl (nearer t) (g .next) (zoneDues leadAt leads x)
+  pub leading-setpoints-end : (g : LeadingSetpoints) → leadingSetpointsWith t x leading-setpoints g .next ≡ foldl (nearer t) (g .next) (zoneDues leadAt leading-setpoints x)
   unfolding zoneDues
-  leads-end g = rw e (turns-next t leadTurn (λ (g : Leads). g .next) (λ k. heldOf x (leadAt k) .until) lead-next leads g)
+  leading-setpoints-end g = rw e (turns-next t leadTurn (λ (g : LeadingSetpoints). g .next) (λ k. heldOf x (leadAt k) .until) lead-next leading-setpoints g)
 
 -- the loops over the limits and the setpoints of one zone
-pub lows-turn : (t : ℕ) (x : Zone) (k : ℕ) (g₀ g r : Lows) (h : Held) → g ≡ lowsWith t x k g₀ → h ≡ heldOf x (lowAt k) → r ≡ lowStep t h k g → r ≡ lowsWith t x (k + 1) g₀
+pub lowest-values-turn : (t : ℕ) (x : Zone) (k : ℕ) (g₀ g r : LowestValues) (h : Held) → g ≡ lowestValuesWith t x k g₀ → h ≡ heldOf x (lowAt k) → r ≡ lowStep t h k g → r ≡ lowestValuesWith t x (k + 1) g₀
 unfolding turns
-lows-turn t x k g₀ g r h e p q = q ∙ rw (p, e, add-one k)
+lowest-values-turn t x k g₀ g r h e p q = q ∙ rw (p, e, add-one k)
 
-pub leads-turn : (t : ℕ) (x : Zone) (k : ℕ) (g₀ g r : Leads) (h : Held) (s : ℕ) → g ≡ leadsWith t x k g₀ → h ≡ heldOf x (leadAt k) → s ≡ x .seat
-    → r ≡ leadStep t h s k g → r ≡ leadsWith t x (k + 1) g₀
+pub leading-setpoints-turn : (t : ℕ) (x : Zone) (k : ℕ) (g₀ g r : LeadingSetpoints) (h : Held) (s : ℕ) → g ≡ leadingSetpointsWith t x k g₀ → h ≡ heldOf x (leadAt k) → s ≡ x .precedence
+    → r ≡ leadStep t h s k g → r ≡ leadingSetpointsWith t x (k + 1) g₀
 unfolding turns
-leads-turn t x k g₀ g r h s e p i q = q ∙ rw (p, i, e, add-one k)
+leading-setpoints-turn t x k g₀ g r h s e p i q = q ∙ rw (p, i, e, add-one k)
 
 -- what holds of all below k and of k holds of all below k + 1
 pub below-turn : (P : ℕ → Type 0) (k : ℕ) → ((j : ℕ) → j < k → P j) → P k → (j : ℕ) → j < k + 1 → P j
@@ -285,34 +285,34 @@ all-most zero k h = absurd (omega arith)
 all-most (suc n) zero h = refl
 all-most (suc n) (suc k) h = all-most n k (omega arith)
 
-pub none-lows : (n : ℕ) → LowsMet (record { low = replicate lows most; next = n }) (λ q. noClaim)
-unfolding numberOf
-none-lows n = record { size = refl; low = λ k h. all-most lows k h }
+pub none-lowest-values : (n : ℕ) → LowestValuesMet (record { low = replicate lowest-values most; next = n }) (λ q. noClaim)
+unfolding claimNumber
+none-lowest-values n = record { size = refl; low = λ k h. all-most lowest-values k h }
 
-pub none-leads : (n : ℕ) → LeadsMet (record { seat = replicate leads most; lead = replicate leads most; next = n }) (λ q. noClaim)
-unfolding numberOf placeOf
-none-leads n =
+pub none-leading-setpoints : (n : ℕ) → LeadingSetpointsMet (record { precedence = replicate leading-setpoints most; lead = replicate leading-setpoints most; next = n }) (λ q. noClaim)
+unfolding claimNumber placeOf
+none-leading-setpoints n =
     record {
-      seatSize = refl;
+      precedenceSize = refl;
       leadSize = refl;
-      lead = λ k h. record { place = all-most leads k h; number = all-most leads k h; small = omega arith };
+      lead = λ k h. record { place = all-most leading-setpoints k h; number = all-most leading-setpoints k h; small = omega arith };
     }
 
 -- ALL ZONES, by the kind of quantity: what its numbers stand for, and when the k-th of it ends
 abbrev pub Along : {G : Type 0} → (G → (ℕ → Claim) → Type 0) → Type 0
 Along {G} P = (g : G) (f h : ℕ → Claim) → ((q : ℕ) → h q ≡ f q) → P g f → P g h
 
-abbrev pub lowNext : Lows → ℕ
+abbrev pub lowNext : LowestValues → ℕ
 lowNext g = g .next
 
-abbrev pub leadNext : Leads → ℕ
+abbrev pub leadNext : LeadingSetpoints → ℕ
 leadNext g = g .next
 
-pub lows-along : Along LowsMet
-lows-along g f h e m = record { size = m .size; low = λ k l. rw (e (lowAt k)) (m .low k l) }
+pub lowest-values-along : Along LowestValuesMet
+lowest-values-along g f h e m = record { size = m .size; low = λ k l. rw (e (lowAt k)) (m .low k l) }
 
-pub leads-along : Along LeadsMet
-leads-along g f h e m = record { seatSize = m .seatSize; leadSize = m .leadSize; lead = λ k l. rw (e (leadAt k)) (m .lead k l) }
+pub leading-setpoints-along : Along LeadingSetpointsMet
+leading-setpoints-along g f h e m = record { precedenceSize = m .precedenceSize; leadSize = m .leadSize; lead = λ k l. rw (e (leadAt k)) (m .lead k l) }
 
 module _ (at : ℕ → ℕ) (n : ℕ) where
   dues-more : (zs : List Zone) (x : Zone) → heldDues at n (zs ++ (x ∷ [])) ≡ heldDues at n zs ++ zoneDues at n x

@@ -2,7 +2,7 @@
 use Prim.Native.Nat.{ℕ}
 use mathlib.Core.Bool.{cond}
 use mathlib.Core.List.{List, [], _∷_, _++_}
-use Rattle.device_store.specs.Quantities.{lows, leads, lowAt, leadAt}
+use Rattle.device_store.specs.Quantities.{lowest-values, leading-setpoints, lowAt, leadAt}
 use Rattle.device_store.specs.Zones.{upTo, heldOf, isJoined}
 use Rattle.device_store.specs.declared.Zone.{Zone}
 
@@ -14,9 +14,9 @@ unfoldable pub heldDues : (ℕ → ℕ) → ℕ → List Zone → List ℕ
 heldDues at n [] = []
 heldDues at n (x ∷ xs) = zoneDues at n x ++ heldDues at n xs
 
--- the ends of all that go by the smallest, and of all that go by the seat
+-- the ends of all that go by the smallest, and of all that go by the precedence
 abbrev pub lowDues : List Zone → List ℕ
-lowDues zs = heldDues lowAt lows zs
+lowDues zs = heldDues lowAt lowest-values zs
 
 abbrev pub leadDues : List Zone → List ℕ
-leadDues zs = heldDues leadAt leads zs
+leadDues zs = heldDues leadAt leading-setpoints zs

@@ -1,9 +1,9 @@
-// What the zones claim at a second: the passes over them, one for the smallest values and one for the first seats.
+// What the zones claim at a second: the passes over them, one for the smallest values and one for the first precedences.
 mod passes; // passes.rt: the passes
 
-pub use passes::Leads;
-pub use passes::Lows;
-pub use passes::leads_at;
-pub use passes::leads_with;
-pub use passes::lows_at;
-pub use passes::lows_with;
+pub use passes::LeadingSetpoints;
+pub use passes::LowestValues;
+pub use passes::leading_setpoints_at;
+pub use passes::leading_setpoints_with;
+pub use passes::lowest_values_at;
+pub use passes::lowest_values_with;

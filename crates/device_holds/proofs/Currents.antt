@@ -32,7 +32,7 @@ fold-alike t q (x ∷ zs) (y ∷ ys) a e h = rw (h 0) (fold-alike t q zs ys (bet
 module _ (a b : Situation) (same : ButForCurrents a b) (t : ℕ) where
   joined-alike : Alike isJoined (a .zones) (b .zones)
   unfolding isJoined idOf
-  joined-alike i = rw (same .seats i)
+  joined-alike i = rw (same .precedences i)
 
   up-alike : Alike isUp (a .zones) (b .zones)
   unfolding isUp
@@ -40,7 +40,7 @@ module _ (a b : Situation) (same : ButForCurrents a b) (t : ℕ) where
 
   claim-alike : (q : ℕ) → isLimit q ≡ true → Alike (claimOf t q) (a .zones) (b .zones)
   unfolding claimOf isJoined idOf rankOf
-  claim-alike q l i = rw (same .seats i, same .limits i q l)
+  claim-alike q l i = rw (same .precedences i, same .limits i q l)
 
   winner-alike : (q : ℕ) → isLimit q ≡ true → winner t q (a .zones) ≡ winner t q (b .zones)
   unfolding winner

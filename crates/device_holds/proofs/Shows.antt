@@ -19,12 +19,12 @@ use Rattle.device_store.specs.Zones.{upTo, anyJoined, anyUp}
 use Rattle.device_holds.specs.Links.{linkRow}
 use Rattle.device_holds.specs.Holds.{Claim, winner, amountOf, Situation, inFailsafe, smallestWith, failsafeValue, valueAt, present, stateAt, shown, valuesAt}
 use Rattle.device_holds.specs.Dues.{lowDues, leadDues, dues, nearer, nearest}
-use Rattle.device_claims.specs.Pass.{numberOf, LowsMet, LeadsMet}
+use Rattle.device_claims.specs.Pass.{claimNumber, LowestValuesMet, LeadingSetpointsMet}
 use Rattle.device_table.specs.Rows.{valuesUp, valuesNone, safeNumber, shownSafe, valuesDown}
 use Rattle.device_table.specs.States.{stateUp, stateDown}
 use Rattle.device_table.specs.Leaves.{topOf, shownBelow, numberIn, shownIn}
-use Rattle.device_claims.specs.declared.passes.Lows.{Lows}
-use Rattle.device_claims.specs.declared.passes.Leads.{Leads}
+use Rattle.device_claims.specs.declared.passes.LowestValues.{LowestValues}
+use Rattle.device_claims.specs.declared.passes.LeadingSetpoints.{LeadingSetpoints}
 use Rattle.device_claims.proofs.Places.{setpoint-place, no-setpoint, limit-at, current-at}
 
 below-shown : (has d v : ℕ) → shownBelow (topOf has d) v ≡ cond (supports has d) (shown (Is v)) (negsuc 0)
@@ -36,8 +36,8 @@ below-shown has d v = go (supports has d)
     go false = rw (le-ltb v 0 (omega arith))
 
 -- the largest word shows as absent
-number-shown : (a : Claim) → shown (Is (numberOf a)) ≡ shown (amountOf a)
-unfolding shown numberOf
+number-shown : (a : Claim) → shown (Is (claimNumber a)) ≡ shown (amountOf a)
+unfolding shown claimNumber
 number-shown a = go (a .there)
   where
     go : (b : Bool) → shown (Is (cond b (a .value) most)) ≡ shown (cond b (Is (a .value)) Absent)
@@ -60,11 +60,11 @@ module _ (s : Situation) (t : ℕ) where
 
   -- SOME ZONE UP
   module _ (up : anyUp (s .zones) ≡ true) where
-    value-up : (q n : ℕ) → n ≡ numberOf (winner t q (s .zones)) → shownBelow (topOf has (directionOf q)) n ≡ shown (valueAt s t q)
+    value-up : (q n : ℕ) → n ≡ claimNumber (winner t q (s .zones)) → shownBelow (topOf has (directionOf q)) n ≡ shown (valueAt s t q)
     unfolding valueAt shown
     value-up q n e = below-shown has (directionOf q) n ∙ rw (up, e) (go (supports has (directionOf q)))
       where
-        go : (b : Bool) → cond b (shown (Is (numberOf (winner t q (s .zones))))) (negsuc 0) ≡ shown (cond b (amountOf (winner t q (s .zones))) Absent)
+        go : (b : Bool) → cond b (shown (Is (claimNumber (winner t q (s .zones))))) (negsuc 0) ≡ shown (cond b (amountOf (winner t q (s .zones))) Absent)
         go true = number-shown (winner t q (s .zones))
         go false = refl
 
@@ -77,13 +77,13 @@ module _ (s : Situation) (t : ℕ) where
         go false true = refl
         go false false = refl
 
-    module _ (a : Lows) (b : Leads) (m : LowsMet a (λ q. winner t q (s .zones))) (n : LeadsMet b (λ q. winner t q (s .zones))) where
-      number-up : (q : ℕ) → q < helds → numberIn (a .low) (b .lead) q ≡ numberOf (winner t q (s .zones))
+    module _ (a : LowestValues) (b : LeadingSetpoints) (m : LowestValuesMet a (λ q. winner t q (s .zones))) (n : LeadingSetpointsMet b (λ q. winner t q (s .zones))) where
+      number-up : (q : ℕ) → q < helds → numberIn (a .low) (b .lead) q ≡ claimNumber (winner t q (s .zones))
       unfolding numberIn
       number-up q h = go (isLimit q) (isSetpoint q) refl refl
         where
           go : (l p : Bool) → isLimit q ≡ l → isSetpoint q ≡ p
-              → cond l (getD (a .low) q 0) (cond p (getD (b .lead) (q - 2) 0) (getD (a .low) (q - 2) 0)) ≡ numberOf (winner t q (s .zones))
+              → cond l (getD (a .low) q 0) (cond p (getD (b .lead) (q - 2) 0) (getD (a .low) (q - 2) 0)) ≡ claimNumber (winner t q (s .zones))
           go true p e d = let k : q < 2 = ltb-true q 2 e in rw (limit-at q k) at (m .low q (omega arith))
           go false true e d =
               let k : (2 ≤ q) × (q < 4) = setpoint-place q d in
@@ -120,7 +120,7 @@ module _ (s : Situation) (t : ℕ) where
         limit : ℕ
         limit = smallestWith (getD (s .settings .failsafe) q 0) (best q)
 
-        go : (b l p : Bool) → cond b (shown (Is (cond l limit (cond p most (numberOf (best q)))))) (negsuc 0) ≡ shown (cond b (cond l (Is limit) (cond p Absent (amountOf (best q)))) Absent)
+        go : (b l p : Bool) → cond b (shown (Is (cond l limit (cond p most (claimNumber (best q)))))) (negsuc 0) ≡ shown (cond b (cond l (Is limit) (cond p Absent (amountOf (best q)))) Absent)
         go true true p = refl
         go true false true = refl
         go true false false = number-shown (best q)

@@ -94,7 +94,7 @@ pub record ButForLinks (a b : Situation) : Type 0 where
   pub settings : a .settings ≡ b .settings
   pub override : a .override ≡ b .override
   pub slots : length (a .zones) ≡ length (b .zones)
-  pub seats : (i : ℕ) → getD (a .zones) i freeZone .seat ≡ getD (b .zones) i freeZone .seat
+  pub precedences : (i : ℕ) → getD (a .zones) i freeZone .precedence ≡ getD (b .zones) i freeZone .precedence
   pub held : (i : ℕ) → getD (a .zones) i freeZone .held ≡ getD (b .zones) i freeZone .held
 
 -- "Losing the link must not loosen a limit": while the failsafe lasts, a power or current limit that held with a link up holds without one, and is no larger
@@ -110,7 +110,7 @@ pub record ButForCurrents (a b : Situation) : Type 0 where
   pub override : a .override ≡ b .override
   pub since : a .since ≡ b .since
   pub slots : length (a .zones) ≡ length (b .zones)
-  pub seats : (i : ℕ) → getD (a .zones) i freeZone .seat ≡ getD (b .zones) i freeZone .seat
+  pub precedences : (i : ℕ) → getD (a .zones) i freeZone .precedence ≡ getD (b .zones) i freeZone .precedence
   pub links : (i : ℕ) → getD (a .zones) i freeZone .up ≡ getD (b .zones) i freeZone .up
   pub limits : (i q : ℕ) → isLimit q ≡ true → heldOf (getD (a .zones) i freeZone) q ≡ heldOf (getD (b .zones) i freeZone) q
 

@@ -45,7 +45,7 @@ fn id_with(d: &State, slot: usize, zone: Zone, i: usize) -> u64
     ensures { λ r. ⌜ r ≡ idOf (getD (set (zonesOf (now (d .entry))) slot zone) i freeZone) ⌝ }
 {
     if i == slot {
-        return zone.seat % IDS;
+        return zone.precedence % IDS;
     }
     device_store::id_at(d, i)
 }

@@ -2,12 +2,12 @@
 use crate::View;
 use crate::links::link_row;
 use crate::links::link_row_with;
-use device_claims::Leads;
-use device_claims::Lows;
-use device_claims::leads_at;
-use device_claims::leads_with;
-use device_claims::lows_at;
-use device_claims::lows_with;
+use device_claims::LeadingSetpoints;
+use device_claims::LowestValues;
+use device_claims::leading_setpoints_at;
+use device_claims::leading_setpoints_with;
+use device_claims::lowest_values_at;
+use device_claims::lowest_values_with;
 use device_store::END;
 use device_store::State;
 use device_store::VALUES;
@@ -28,10 +28,14 @@ pub fn values_at(d: &State, t: u64) -> [i64; VALUES]
 {
     let n = link_row(d);
     if n == 2 {
-        return values_up(d, lows_at(d, t, END), leads_at(d, t, END));
+        return values_up(
+            d,
+            lowest_values_at(d, t, END),
+            leading_setpoints_at(d, t, END),
+        );
     }
     if n == 1 {
-        return values_down(d, lows_at(d, t, END), t);
+        return values_down(d, lowest_values_at(d, t, END), t);
     }
     values_none(d)
 }
@@ -44,9 +48,9 @@ pub fn values_with(d: &State, slot: usize, zone: Zone, t: u64) -> [i64; VALUES]
     if n == 0 {
         return values_none(d);
     }
-    let a = lows_with(d, slot, zone, t);
+    let a = lowest_values_with(d, slot, zone, t);
     if n == 2 {
-        return values_up(d, a, leads_with(d, slot, zone, t));
+        return values_up(d, a, leading_setpoints_with(d, slot, zone, t));
     }
     values_down(d, a, t)
 }
@@ -57,15 +61,15 @@ pub fn view_at(d: &State, t: u64) -> View
 {
     let n = link_row(d);
     if n == 2 {
-        let a = lows_at(d, t, END);
-        let b = leads_at(d, t, a.next);
+        let a = lowest_values_at(d, t, END);
+        let b = leading_setpoints_at(d, t, a.next);
         return View {
             values: values_up(d, a, b),
             next: b.next,
         };
     }
     if n == 1 {
-        let g = lows_at(d, t, failsafe_end(since(d), settings_at(d).duration, t));
+        let g = lowest_values_at(d, t, failsafe_end(since(d), settings_at(d).duration, t));
         return View {
             values: values_down(d, g, t),
             next: g.next,

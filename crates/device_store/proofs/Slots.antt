@@ -36,7 +36,7 @@ module _ {A : Type 0} (p : A → Bool) where
   first-new (y ∷ l) zero x h e n = rw e
   first-new (y ∷ l) (suc i) x h e n = new-at y l i x (first-new l i x (le-of-suc-le-suc h) e) (p y) refl n
 
--- a new zone's id and rank, from its seat
+-- a new zone's id and rank, from its precedence
 pub new-id : (z k : ℕ) → z < 256 → idOf (newZone z k) ≡ z
 unfolding idOf
 new-id z k h = omega arith

@@ -53,7 +53,7 @@ module _ (ws : List ℕ) (i q : ℕ) where
   held-free h = rw (zones-past ws i h) (same-all helds q nothing)
 
 -- what the stores of a record leave
-pub stored : (ws s₁ s₂ s₃ : List ℕ) (i b : ℕ) (x : Zone) → i < slots → s₁ ≡ set ws (base i) (x .seat) → b ≡ bit (x .up) → s₂ ≡ set s₁ (base i + 1) b
+pub stored : (ws s₁ s₂ s₃ : List ℕ) (i b : ℕ) (x : Zone) → i < slots → s₁ ≡ set ws (base i) (x .precedence) → b ≡ bit (x .up) → s₂ ≡ set s₁ (base i + 1) b
     → s₃ ≡ sets s₂ (base i + 2) (heldWords (x .held)) → s₃ ≡ putZone ws i x
 unfolding putZone
 stored ws s₁ s₂ s₃ i b x h e₁ eb e₂ e₃ =

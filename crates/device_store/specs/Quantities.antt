@@ -40,12 +40,12 @@ phaseOf q = (q - currents) / 2
 abbrev pub currentAt : ℕ → ℕ → ℕ
 currentAt p d = currents + 2 * p + d
 
--- how many go by the smallest value, and how many by the seat; the k-th of each
-abbrev pub lows : ℕ
-lows = helds - setpoints
+-- how many go by the smallest value, and how many by the precedence; the k-th of each
+abbrev pub lowest-values : ℕ
+lowest-values = helds - setpoints
 
-abbrev pub leads : ℕ
-leads = setpoints
+abbrev pub leading-setpoints : ℕ
+leading-setpoints = setpoints
 
 unfoldable pub lowAt : ℕ → ℕ
 lowAt k = cond (ltb k limits) k (k + setpoints)

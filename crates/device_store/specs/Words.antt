@@ -49,7 +49,7 @@ heldIn ws p q = record { value = getD ws (p + 2 * q) 0; until = getD ws (p + 2 *
 unfoldable pub zoneAt : List ℕ → ℕ → Zone
 zoneAt ws i =
     record {
-      seat = getD ws (base i) 0;
+      precedence = getD ws (base i) 0;
       up = ltb 0 (getD ws (base i + 1) 0);
       held = upTo (heldIn ws (base i + 2)) helds;
     }
@@ -66,7 +66,7 @@ heldWords [] = []
 heldWords (h ∷ hs) = h .value ∷ h .until ∷ heldWords hs
 
 abbrev pub zoneWords : Zone → List ℕ
-zoneWords x = x .seat ∷ bit (x .up) ∷ heldWords (x .held)
+zoneWords x = x .precedence ∷ bit (x .up) ∷ heldWords (x .held)
 
 -- the words with a record stored in slot i; as they were where there is no such slot
 unfoldable pub putZone : List ℕ → ℕ → Zone → List ℕ

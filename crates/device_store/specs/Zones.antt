@@ -27,31 +27,31 @@ any p (x ∷ xs) = p x || any p xs
 abbrev pub nothing : Held
 nothing = record { value = 0; until = 0 }
 
--- a zone's id and rank in one number, its seat: the better rank, then the smaller id, is the smaller seat
-abbrev pub seatOf : ℕ → ℕ → ℕ
-seatOf z k = k * ids + z
+-- a zone's id and rank in one number, its precedence: the better rank, then the smaller id, is the smaller precedence
+abbrev pub precedenceOf : ℕ → ℕ → ℕ
+precedenceOf z k = k * ids + z
 
 unfoldable pub idOf : Zone → ℕ
-idOf x = x .seat % ids
+idOf x = x .precedence % ids
 
 unfoldable pub rankOf : Zone → ℕ
-rankOf x = x .seat / ids
+rankOf x = x .precedence / ids
 
 -- a slot that no zone has
 abbrev pub freeZone : Zone
-freeZone = record { seat = 0; up = false; held = replicate helds nothing }
+freeZone = record { precedence = 0; up = false; held = replicate helds nothing }
 
 -- "Joining brings the link up"; a new zone holds nothing
 abbrev pub newZone : ℕ → ℕ → Zone
-newZone z k = record { seat = seatOf z k; up = true; held = replicate helds nothing }
+newZone z k = record { precedence = precedenceOf z k; up = true; held = replicate helds nothing }
 
 -- a zone with its link told to be u
 abbrev pub linked : Zone → Bool → Zone
-linked x u = record { seat = x .seat; up = u; held = x .held }
+linked x u = record { precedence = x .precedence; up = u; held = x .held }
 
 -- a zone with other held values
 abbrev pub holding : Zone → List Held → Zone
-holding x hs = record { seat = x .seat; up = x .up; held = hs }
+holding x hs = record { precedence = x .precedence; up = x .up; held = hs }
 
 -- a slot is a zone's, and that zone's link is up
 unfoldable pub isJoined : Zone → Bool

@@ -114,7 +114,7 @@ pub fn free_zone() -> Zone
     ensures { λ r. ⌜ r ≡ freeZone ⌝ }
 {
     Zone {
-        seat: 0,
+        precedence: 0,
         up: false,
         held: [Held { value: 0, until: 0 }; HELDS],
     }
@@ -127,7 +127,7 @@ pub fn zone_at(d: &State, slot: usize) -> Zone
     if slot < SLOTS {
         let at = HEAD + slot * ZONE;
         return Zone {
-            seat: word(d, at),
+            precedence: word(d, at),
             up: 0 < word(d, at + 1),
             held: helds_in(d, at + 2),
         };
@@ -159,9 +159,9 @@ pub fn held_at(d: &State, slot: usize, q: usize) -> Held
     Held { value: 0, until: 0 }
 }
 
-// The seat in a slot, 0 in a free one.
-pub fn seat_at(d: &State, slot: usize) -> u64
-    ensures { λ r. ⌜ r ≡ getD (zonesOf (now (d .entry))) slot freeZone .seat ⌝ }
+// The precedence in a slot, 0 in a free one.
+pub fn precedence_at(d: &State, slot: usize) -> u64
+    ensures { λ r. ⌜ r ≡ getD (zonesOf (now (d .entry))) slot freeZone .precedence ⌝ }
 {
     part(d, slot, 0)
 }

@@ -11,7 +11,7 @@ pub use lenses::id_at;
 pub use lenses::is_joined;
 pub use lenses::is_manager;
 pub use lenses::overridden;
-pub use lenses::seat_at;
+pub use lenses::precedence_at;
 pub use lenses::settings_at;
 pub use lenses::since;
 pub use lenses::slot_of;
@@ -23,9 +23,9 @@ pub use puts::apply_head;
 pub use puts::fresh;
 pub use quantities::CURRENTS;
 pub use quantities::HELDS;
-pub use quantities::LEADS;
+pub use quantities::LEADING_SETPOINTS;
 pub use quantities::LIMITS;
-pub use quantities::LOWS;
+pub use quantities::LOWEST_VALUES;
 pub use quantities::PHASES;
 pub use quantities::SETPOINTS;
 pub use quantities::direction_of;
@@ -54,7 +54,7 @@ pub const WORDS: usize = HEAD + SLOTS * ZONE;
 
 pub type State = [u64; WORDS];
 
-// One more than the largest id: a seat is rank * IDS + id.
+// One more than the largest id: a precedence is rank * IDS + id.
 pub const IDS: u64 = 256;
 
 // The largest word: the end of what holds until replaced, and a contractual maximum that is none.
@@ -71,9 +71,9 @@ pub struct Held {
     pub until: u64,
 }
 
-// A slot's whole record. The seat is rank * IDS + id, so that setpoints are told apart by one number; id 0 is a free slot.
+// A slot's whole record. The precedence is rank * IDS + id, so that setpoints are told apart by one number; id 0 is a free slot.
 pub struct Zone {
-    pub seat: u64,
+    pub precedence: u64,
     pub up: bool,
     pub held: [Held; HELDS],
 }

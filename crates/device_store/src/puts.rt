@@ -61,7 +61,7 @@ fn put_zone(d: &mut State, slot: usize, zone: Zone)
     if slot < SLOTS {
         let at = HEAD + slot * ZONE;
         let hs = zone.held;
-        put_word(d, at, zone.seat);
+        put_word(d, at, zone.precedence);
         put_word(d, at + 1, bit_of(zone.up));
         put_helds(d, at + 2, hs);
     }

@@ -16,10 +16,10 @@ pub const HELDS: usize = LIMITS + SETPOINTS + 2 * PHASES;
 // Where the current limits begin.
 pub const CURRENTS: usize = LIMITS + SETPOINTS;
 
-// How many quantities go by the smallest value (power and current limits), and how many by the seat (the setpoints).
-pub const LOWS: usize = HELDS - SETPOINTS;
+// How many quantities go by the smallest value (power and current limits), and how many by the precedence (the setpoints).
+pub const LOWEST_VALUES: usize = HELDS - SETPOINTS;
 
-pub const LEADS: usize = SETPOINTS;
+pub const LEADING_SETPOINTS: usize = SETPOINTS;
 
 // A power limit.
 pub fn is_limit(q: usize) -> bool

@@ -13,8 +13,8 @@ use Rattle.device_store.specs.Zones.{upTo}
 use Rattle.device_store.specs.Words.{settingsOf, sinceOf, overrideOf}
 use Rattle.device_store.specs.declared.Settings.{Settings}
 use Rattle.device_claims.specs.Claim.{Claim}
-use Rattle.device_claims.specs.Pass.{numberOf, LowsMet}
-use Rattle.device_claims.specs.declared.passes.Lows.{Lows}
+use Rattle.device_claims.specs.Pass.{claimNumber, LowestValuesMet}
+use Rattle.device_claims.specs.declared.passes.LowestValues.{LowestValues}
 use Rattle.device_table.specs.States.{stateUp, stateDown}
 use Rattle.device_table.specs.Leaves.{topOf, shownBelow, shownIn}
 use Rattle.device_table.specs.Smallest.{smallestWith}
@@ -28,7 +28,7 @@ unfoldable pub valuesNone : ℕ → List ℤ
 valuesNone o = stateDown o ∷ upTo (λ q. negsuc 0) helds
 
 unfoldable pub safeNumber : Settings → (ℕ → Claim) → ℕ → ℕ
-safeNumber s f q = cond (isLimit q) (smallestWith (getD (s .failsafe) q 0) (f q)) (cond (isSetpoint q) most (numberOf (f q)))
+safeNumber s f q = cond (isLimit q) (smallestWith (getD (s .failsafe) q 0) (f q)) (cond (isSetpoint q) most (claimNumber (f q)))
 
 unfoldable pub shownSafe : Settings → (ℕ → Claim) → ℕ → ℤ
 shownSafe s f q = shownBelow (topOf (s .directions) (directionOf q)) (safeNumber s f q)
@@ -38,8 +38,8 @@ valuesDown s o safe f = cond safe (pos FAILSAFE ∷ upTo (shownSafe s f) helds) 
 
 -- the number `low` stands for a claim: the smaller of it and the failsafe limit
 abbrev pub SafeLow : ℕ → ℕ → ℕ → Type 0
-SafeLow safe low r = (a : Claim) → low ≡ numberOf a → r ≡ smallestWith safe a
+SafeLow safe low r = (a : Claim) → low ≡ claimNumber a → r ≡ smallestWith safe a
 
 -- the numbers g stand for the limits' claims: the values of zones joined and none up
-abbrev pub ShowsDown : List ℕ → ℕ → Lows → List ℤ → Type 0
-ShowsDown ws t g v = (f : ℕ → Claim) → LowsMet g f → v ≡ valuesDown (settingsOf ws) (overrideOf ws) (ltb t (sinceOf ws + settingsOf ws .duration)) f
+abbrev pub ShowsDown : List ℕ → ℕ → LowestValues → List ℤ → Type 0
+ShowsDown ws t g v = (f : ℕ → Claim) → LowestValuesMet g f → v ≡ valuesDown (settingsOf ws) (overrideOf ws) (ltb t (sinceOf ws + settingsOf ws .duration)) f

@@ -3,9 +3,9 @@
 use device_store::CURRENTS;
 use device_store::END;
 use device_store::HELDS;
-use device_store::LEADS;
+use device_store::LEADING_SETPOINTS;
 use device_store::LIMITS;
-use device_store::LOWS;
+use device_store::LOWEST_VALUES;
 use device_store::SETPOINTS;
 use device_store::VALUE_END;
 use device_store::VALUES;
@@ -50,7 +50,7 @@ fn shown_below(top: u64, v: u64) -> i64
 }
 
 // What the passes have met for quantity q.
-fn number_of(low: [u64; LOWS], lead: [u64; LEADS], q: usize) -> u64
+fn number_of(low: [u64; LOWEST_VALUES], lead: [u64; LEADING_SETPOINTS], q: usize) -> u64
     requires { ⌜ q < helds ⌝ }
     ensures { λ r. ⌜ r ≡ numberIn low lead q ⌝ }
 {
@@ -64,7 +64,7 @@ fn number_of(low: [u64; LOWS], lead: [u64; LEADS], q: usize) -> u64
 }
 
 // A row behind its first place. A bound for each direction stands for a test for each value.
-pub fn row(has: u64, low: [u64; LOWS], lead: [u64; LEADS]) -> [i64; VALUES]
+pub fn row(has: u64, low: [u64; LOWEST_VALUES], lead: [u64; LEADING_SETPOINTS]) -> [i64; VALUES]
     ensures { λ r. ⌜ (length r ≡ 1 + helds) × Filled (shownIn has low lead) r helds ⌝ }
 {
     let tops = [top_of(has, 0), top_of(has, 1)];

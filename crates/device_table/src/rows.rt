@@ -3,9 +3,9 @@ use crate::control_state::state_down;
 use crate::control_state::state_up;
 use crate::leaves::failsafe_holds;
 use crate::leaves::row;
-use device_claims::Leads;
-use device_claims::Lows;
-use device_store::LEADS;
+use device_claims::LeadingSetpoints;
+use device_claims::LowestValues;
+use device_store::LEADING_SETPOINTS;
 use device_store::MOST;
 use device_store::State;
 use device_store::VALUES;
@@ -19,7 +19,7 @@ ghost use Rattle.device_store.specs.Words.{overrideOf, settingsOf};
 ghost use Rattle.device_table.specs.Rows.{valuesUp, valuesNone, SafeLow, ShowsDown};
 
 // The first row: some zone up.
-pub fn values_up(d: &State, a: Lows, b: Leads) -> [i64; VALUES]
+pub fn values_up(d: &State, a: LowestValues, b: LeadingSetpoints) -> [i64; VALUES]
     ensures { λ r. ⌜ r ≡ valuesUp (settingsOf (now (d .entry)) .directions) (overrideOf (now (d .entry))) (a .low) (b .lead) ⌝ }
 {
     let low = a.low;
@@ -46,7 +46,7 @@ fn safe_low(safe: u64, low: u64) -> u64
 }
 
 // Zones joined and none up: the second row while the failsafe lasts, the third behind it.
-pub fn values_down(d: &State, g: Lows, t: u64) -> [i64; VALUES]
+pub fn values_down(d: &State, g: LowestValues, t: u64) -> [i64; VALUES]
     ensures { λ r. ⌜ ShowsDown (now (d .entry)) t g r ⌝ }
 {
     let s = settings_at(d);
@@ -54,7 +54,7 @@ pub fn values_down(d: &State, g: Lows, t: u64) -> [i64; VALUES]
         let mut low = g.low;
         low[0] = safe_low(s.failsafe[0], low[0]);
         low[1] = safe_low(s.failsafe[1], low[1]);
-        let mut v = row(s.directions, low, [MOST; LEADS]);
+        let mut v = row(s.directions, low, [MOST; LEADING_SETPOINTS]);
         v[0] = FAILSAFE;
         return v;
     }

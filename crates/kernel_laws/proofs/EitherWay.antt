@@ -13,7 +13,7 @@ use Rattle.device_holds.specs.Holds.{situationOf, valuesAt}
 use Rattle.device_calls.specs.Commands.{commandNumber, commandAnswer}
 use Rattle.kernel.specs.Frame.{responseTo, obeyedBy}
 use Rattle.kernel_laws.proofs.Others.{others-number, either-order, command-length, command-settings}
-use Rattle.kernel_laws.specs.Sent.{Sent, numberOf, behind, Roomy}
+use Rattle.kernel_laws.specs.Sent.{Sent, sentNumber, behind, Roomy}
 use Rattle.kernel_laws.specs.SameSecond.{TwoControllers, AnyTwo, StatusByContent, responseWith, valuesBehind, OnlyValuesDiffer, LastShown}
 use Rattle.kernel_laws.proofs.Roomy.{statusOf, number-is, behind-is}
 
@@ -57,7 +57,7 @@ behind-length ws t f h = ap (λ (l : List ℕ). length l) (behind-is ws t f h) �
 
 module _ (ws : List ℕ) (t : ℕ) (f g : Sent) (size : length ws ≡ words) (apart : f .zone ≢ g .zone) (h : Roomy f) (k : Roomy g) where
   -- another zone's frame before it leaves a frame's number alone
-  pub number-left : numberOf (behind ws t g) t f ≡ numberOf ws t f
+  pub number-left : sentNumber (behind ws t g) t f ≡ sentNumber ws t f
   number-left =
       number-is (behind ws t g) t f h
       ∙ ap (λ (l : List ℕ). statusOf l (f .zone) t (readRequest (f .bytes))) (behind-is ws t g k)

@@ -7,7 +7,7 @@ use lib.ListN.{length}
 use Rattle.device_store.specs.Sizes.{words}
 use Rattle.device_calls.specs.Calls.{askAnswer}
 use Rattle.plan.specs.Plan.{rowsFrom}
-use Rattle.kernel_laws.specs.Sent.{Sent, numberOf, behind, endOf, numbersOf, Reordered, none, below, swapped, through, Roomy, Every, each, Different, beside}
+use Rattle.kernel_laws.specs.Sent.{Sent, sentNumber, behind, endOf, numbersOf, Reordered, none, below, swapped, through, Roomy, Every, each, Different, beside}
 use Rattle.kernel_laws.specs.SameSecond.{EveryOrder}
 use Rattle.kernel_laws.proofs.EitherWay.{behind-length, number-left, any-two}
 
@@ -35,18 +35,18 @@ end-again ws t size d e (through r q) = end-again ws t size d e r ∙ end-again 
 
 -- the numbers: a frame before them leaves those of the others as they would be without it
 numbers-left : (ws : List ℕ) (t : ℕ) (f : Sent) (fs : List Sent) → length ws ≡ words → Roomy f → Every (λ g. f .zone ≢ g .zone) fs → Every Roomy fs
-    → map (numberOf (behind ws t f) t) fs ≡ map (numberOf ws t) fs
+    → map (sentNumber (behind ws t f) t) fs ≡ map (sentNumber ws t) fs
 numbers-left ws t f [] size h a e = refl
 numbers-left ws t f (g ∷ gs) size h (each a b) (each k e) =
     let n = number-left ws t g f size (λ q. a (sym q)) k h in
     let m = numbers-left ws t f gs size h b e in
     λ i. n i ∷ m i
 
-pub numbers-alone : (ws : List ℕ) (t : ℕ) (fs : List Sent) → length ws ≡ words → Different fs → Every Roomy fs → numbersOf ws t fs ≡ map (numberOf ws t) fs
+pub numbers-alone : (ws : List ℕ) (t : ℕ) (fs : List Sent) → length ws ≡ words → Different fs → Every Roomy fs → numbersOf ws t fs ≡ map (sentNumber ws t) fs
 unfolding numbersOf
 numbers-alone ws t [] size d e = refl
 numbers-alone ws t (f ∷ fs) size (beside a d) (each h e) =
-    ap (λ (ns : List ℕ). numberOf ws t f ∷ ns)
+    ap (λ (ns : List ℕ). sentNumber ws t f ∷ ns)
     (numbers-alone (behind ws t f) t fs (behind-length ws t f h ∙ size) d e ∙ numbers-left ws t f fs size h a e)
 
 pub every-order : EveryOrder

@@ -15,7 +15,7 @@ use Rattle.device_store.specs.Words.{after}
 use Rattle.device_calls.specs.Commands.{commandNumber, commandAfter}
 use Rattle.kernel.specs.Frame.{responseFrame, numberFrom, obeyedBy, afterFrom, frameNumber, frameAfter}
 use Rattle.kernel_laws.proofs.Readable.{responses-short}
-use Rattle.kernel_laws.specs.Sent.{Sent, numberOf, behind, Roomy}
+use Rattle.kernel_laws.specs.Sent.{Sent, sentNumber, behind, Roomy}
 
 -- the number of what a frame reads as, where there is room
 unfoldable pub statusOf : List ℕ → ℕ → ℕ → Reading → ℕ
@@ -56,7 +56,7 @@ module _ (ws : List ℕ) (t : ℕ) (f : Sent) (h : Roomy f) where
   fits : length (responseFrame ws (f .zone) t (readRequest (f .bytes))) ≤ f .room
   fits = let s = responses-short ws (f .zone) t (f .bytes) in omega arith
 
-  pub number-is : numberOf ws t f ≡ statusOf ws (f .zone) t (readRequest (f .bytes))
+  pub number-is : sentNumber ws t f ≡ statusOf ws (f .zone) t (readRequest (f .bytes))
   unfolding frameNumber
   number-is = number-fits ws (f .zone) t (f .room) (readRequest (f .bytes)) fits
 

@@ -10,7 +10,7 @@ use Rattle.wire_cbor.specs.Item.{Item, Pairs, payloadOf}
 use Rattle.wire_cbor.specs.Find.{valueOf}
 use Rattle.wire_messages.specs.declared.Command.{Command}
 use Rattle.wire_prefix.specs.Prefix.{framed, payloadIn}
-use Rattle.wire_fields.specs.Fields.{upTo, mapIn, needed, most32}
+use Rattle.wire_fields.specs.Fields.{numberUpTo, mapIn, needed, most32}
 use Rattle.wire_requests.specs.Requests.{Envelope, envelopeIn, commandIn, withCommand, fromEnvelope, fromPayload, readRequest}
 use Rattle.wire_messages.specs.Numbers.{servedAt, servedCommand}
 use Rattle.wire_requests.specs.declared.reading.Reading.{Reading}
@@ -18,8 +18,8 @@ use Rattle.wire_requests.specs.declared.reading.Reading.{Reading}
 never : {X : Type 0} → _≡_ {A = ℕ} 0 1 → X
 never z = absurd (omega arith)
 
-number-kept : (most v : ℕ) (o : Option Item) → needed (upTo most) o ≡ some v → leb v most ≡ true
-unfolding needed upTo
+number-kept : (most v : ℕ) (o : Option Item) → needed (numberUpTo most) o ≡ some v → leb v most ≡ true
+unfolding needed numberUpTo
 number-kept most v (some (Item.uint w)) e = go (leb w most) refl e
   where
     go : (b : Bool) → leb w most ≡ b → cond b (some w) none ≡ some v → leb v most ≡ true
@@ -42,10 +42,10 @@ bound none f b e = never (cc)
 id-kept : (ps : Pairs) (e : Envelope) → envelopeIn ps ≡ some e → leb (e .id) most32 ≡ true
 unfolding envelopeIn
 id-kept ps e h =
-    let i = bound (needed (upTo most32) (valueOf ps 1)) _ e h in
-    let p = bound (needed (upTo 255) (valueOf ps 2)) _ e (i .2) in
-    let f = bound (needed (upTo 65535) (valueOf ps 3)) _ e (p .2) in
-    let c = bound (needed (upTo 65535) (valueOf ps 4)) _ e (f .2) in
+    let i = bound (needed (numberUpTo most32) (valueOf ps 1)) _ e h in
+    let p = bound (needed (numberUpTo 255) (valueOf ps 2)) _ e (i .2) in
+    let f = bound (needed (numberUpTo 65535) (valueOf ps 3)) _ e (p .2) in
+    let c = bound (needed (numberUpTo 65535) (valueOf ps 4)) _ e (f .2) in
     let m = bound (needed mapIn (valueOf ps 5)) _ e (c .2) in
     let q : i .0 ≡ e .id = let w = m .2 in cc in
     rw (← q) (number-kept most32 (i .0) (valueOf ps 1) (i .1))

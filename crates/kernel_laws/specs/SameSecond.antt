@@ -22,7 +22,7 @@ use Rattle.device_calls.specs.Calls.{askAnswer}
 use Rattle.device_calls.specs.Commands.{commandNumber, commandAfter}
 use Rattle.plan.specs.Plan.{rowsFrom}
 use Rattle.kernel.specs.Frame.{responseTo}
-use Rattle.kernel_laws.specs.Sent.{Sent, numberOf, behind, endOf, numbersOf, Reordered, Roomy, Every, Different}
+use Rattle.kernel_laws.specs.Sent.{Sent, sentNumber, behind, endOf, numbersOf, Reordered, Roomy, Every, Different}
 
 -- WHAT L13 ASKS OF A FRAME on a device
 pub record Commands (ws : List ℕ) (f : Sent) : Type 0 where
@@ -52,8 +52,8 @@ pub record EitherWay (ws : List ℕ) (t : ℕ) (f g : Sent) : Type 0 where
   -- "both orders end in equal states"
   pub states : behind (behind ws t f) t g ≡ behind (behind ws t g) t f
   -- "each command gets the same status in both"
-  pub first : numberOf ws t f ≡ numberOf (behind ws t g) t f
-  pub second : numberOf (behind ws t f) t g ≡ numberOf ws t g
+  pub first : sentNumber ws t f ≡ sentNumber (behind ws t g) t f
+  pub second : sentNumber (behind ws t f) t g ≡ sentNumber ws t g
 
 -- L13, as it was asked
 abbrev pub TwoControllers : Type 0
@@ -68,8 +68,8 @@ AnyTwo =
 pub record SameEnd (ws : List ℕ) (t : ℕ) (fs gs : List Sent) : Type 0 where
   pub states : endOf ws t fs ≡ endOf ws t gs
   -- each frame gets the number that it would get if it came first
-  pub numbers : numbersOf ws t fs ≡ map (numberOf ws t) fs
-  pub again : numbersOf ws t gs ≡ map (numberOf ws t) gs
+  pub numbers : numbersOf ws t fs ≡ map (sentNumber ws t) fs
+  pub again : numbersOf ws t gs ≡ map (sentNumber ws t) gs
   -- so what holds at the end, and the plan from there, are the same
   pub holds : askAnswer (endOf ws t fs) ≡ askAnswer (endOf ws t gs)
   pub plan : rowsFrom (endOf ws t fs) ≡ rowsFrom (endOf ws t gs)
@@ -89,7 +89,7 @@ pub record TestedAlike (vs ws : List ℕ) (z : ℕ) : Type 0 where
 
 abbrev pub StatusByContent : Type 0
 StatusByContent =
-    (vs ws : List ℕ) (t : ℕ) (f : Sent) → TestedAlike vs ws (f .zone) → Roomy f → numberOf vs t f ≡ numberOf ws t f
+    (vs ws : List ℕ) (t : ℕ) (f : Sent) → TestedAlike vs ws (f .zone) → Roomy f → sentNumber vs t f ≡ sentNumber ws t f
 
 -- WHAT MAY HANG ON THE ORDER: "Effective values inside the responses may differ". A response on a device, but for these
 unfoldable pub responseWith : List ℕ → ℕ → ℕ → Request → List ℤ → Response

@@ -12,8 +12,8 @@ pub record Sent : Type 0 where
   pub room : ℕ
 
 -- its number at second t, and the device behind it: what the contract of the frame call cites
-abbrev pub numberOf : List ℕ → ℕ → Sent → ℕ
-numberOf ws t f = frameNumber ws (f .zone) t (f .bytes) (f .room)
+abbrev pub sentNumber : List ℕ → ℕ → Sent → ℕ
+sentNumber ws t f = frameNumber ws (f .zone) t (f .bytes) (f .room)
 
 abbrev pub behind : List ℕ → ℕ → Sent → List ℕ
 behind ws t f = frameAfter ws (f .zone) t (f .bytes) (f .room)
@@ -25,7 +25,7 @@ endOf ws t (f ∷ fs) = endOf (behind ws t f) t fs
 
 unfoldable pub numbersOf : List ℕ → ℕ → List Sent → List ℕ
 numbersOf ws t [] = []
-numbersOf ws t (f ∷ fs) = numberOf ws t f ∷ numbersOf (behind ws t f) t fs
+numbersOf ws t (f ∷ fs) = sentNumber ws t f ∷ numbersOf (behind ws t f) t fs
 
 -- the same frames in another order: neighbours change places, again and again
 pub data Reordered : List Sent → List Sent → Type 0 where

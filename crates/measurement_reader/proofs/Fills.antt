@@ -12,7 +12,7 @@ use borrow.Author.Tests.{eq-eqb, ne-eqb}
 use Rattle.wire_heads.specs.Head.{headAt}
 use Rattle.wire_cbor.specs.Item.{Item, Got, got, bad, itemAt, endOf, pastOf}
 use Rattle.wire_cbor.specs.Find.{seekAt}
-use Rattle.wire_cbor.specs.Scan.{sight}
+use Rattle.wire_cbor.specs.Scan.{head}
 use Rattle.wire_heads.specs.declared.reading.Head.{Head}
 use Rattle.wire_cbor.specs.declared.items.End.{End}
 use Rattle.wire_cbor.specs.declared.pairs.Stop.{Stop}
@@ -20,7 +20,7 @@ use Rattle.measurement_table.specs.Cells.{Cell, blanks}
 use Rattle.measurement_table.specs.Words.{place, placeOf, flat}
 use Rattle.measurement_reader.specs.Walk.{placeOr, Filled, numberBy, numberFrom, cellAt, nextAt, cellsAt, phasesFrom}
 use Rattle.wire_fields.specs.Ranges.{within}
-use Rattle.wire_fields.specs.Sights.{numberSeen}
+use Rattle.wire_fields.specs.KeyHeads.{numberSeen}
 use Rattle.wire_fields.specs.declared.ranges.Range.{Range}
 use Rattle.wire_fields.proofs.Joined.{no-both}
 use Rattle.measurement_table.specs.declared.words.Place.{Place}
@@ -35,7 +35,7 @@ module _ (g : Range) (m n : ℕ) where
   unfolding numberBy within
   by-tests = refl
 
-  pub number-out : numberSeen g (sight m n) ≡ false → place 3 0 ≡ placeOr (Option·map (λ z. some z) (numberBy g m n))
+  pub number-out : numberSeen g (head m n) ≡ false → place 3 0 ≡ placeOr (Option·map (λ z. some z) (numberBy g m n))
   unfolding placeOr
   number-out e = go (eqb m 0) (eqb m 1) (leb n (g .high)) (ltb n (g .below)) e ∙ by-tests
     where
@@ -46,7 +46,7 @@ module _ (g : Range) (m n : ℕ) where
       go false true x false f = refl
       go false false x y f = refl
 
-  pub number-uint : numberSeen g (sight m n) ≡ true → m ≡ 0 → place 1 n ≡ placeOr (Option·map (λ z. some z) (numberBy g m n))
+  pub number-uint : numberSeen g (head m n) ≡ true → m ≡ 0 → place 1 n ≡ placeOr (Option·map (λ z. some z) (numberBy g m n))
   unfolding placeOr placeOf
   number-uint e z = go (eqb m 0) (eqb m 1) (leb n (g .high)) (ltb n (g .below)) e (eq-eqb m 0 z) ∙ by-tests
     where
@@ -55,7 +55,7 @@ module _ (g : Range) (m n : ℕ) where
       go true b false y f h = absurd (no-both (sym f))
       go false b x y f h = absurd (no-both (sym h))
 
-  pub number-nint : numberSeen g (sight m n) ≡ true → (m ≡ 0 → ⊥) → place 2 n ≡ placeOr (Option·map (λ z. some z) (numberBy g m n))
+  pub number-nint : numberSeen g (head m n) ≡ true → (m ≡ 0 → ⊥) → place 2 n ≡ placeOr (Option·map (λ z. some z) (numberBy g m n))
   unfolding placeOr placeOf
   number-nint e z = go (eqb m 0) (eqb m 1) (leb n (g .high)) (ltb n (g .below)) e (ne-eqb m 0 z) ∙ by-tests
     where

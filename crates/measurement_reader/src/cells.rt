@@ -1,7 +1,7 @@
 // One cell of a payload, and where the walk goes on behind it.
 use measurement_table::Place;
 use wire_cbor::End;
-use wire_cbor::Sight;
+use wire_cbor::KeyHead;
 use wire_fields::Range;
 use wire_fields::is_in;
 use wire_heads::Head;
@@ -21,7 +21,7 @@ const NOT_READ: Place = Place {
 fn number_of(range: Range, major: u64, n: u64) -> Place
     ensures { λ r. ⌜ r ≡ placeOr (Option·map (λ z. some z) (numberBy range major n)) ⌝ }
 {
-    let head = Sight {
+    let head = KeyHead {
         major: major,
         arg: n,
     };

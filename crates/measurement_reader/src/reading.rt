@@ -27,8 +27,8 @@ fn has_length(n: usize) -> bool
 fn is_item(s: &[u8]) -> bool
     ensures { λ r. ⌜ r ≡ isSome (payloadOf (now (s .entry))) ⌝ }
 {
-    let mut sights = [0u64; wire_cbor::WORDS];
-    wire_cbor::scan(s, 0, &mut sights)
+    let mut heads = [0u64; wire_cbor::WORDS];
+    wire_cbor::scan(s, 0, &mut heads)
 }
 
 // The rows of a payload, which is one item.

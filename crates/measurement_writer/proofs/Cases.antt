@@ -7,8 +7,8 @@ use native.Mathlib.Omega.{arith}
 use lib.IntN.{pos, negsuc}
 use borrow.Author.Tests.{eq-eqb}
 use Rattle.wire_cbor.specs.Item.{Item, Pairs, countPairs}
-use Rattle.wire_cbor.specs.Scan.{sightOf}
-use Rattle.wire_cbor.specs.declared.sights.Sight.{Sight}
+use Rattle.wire_cbor.specs.Scan.{keyHeadOf}
+use Rattle.wire_cbor.specs.declared.heads.KeyHead.{KeyHead}
 use Rattle.wire_fields.specs.Fields.{Fields, present}
 use Rattle.wire_fields.specs.Puts.{pairsOf}
 use Rattle.wire_fields.specs.ByPhase.{seenOf, phaseMap}
@@ -35,8 +35,8 @@ unfolding countPairs someMap
 no-map Pairs.empty z = refl
 no-map (Pairs.pair k i ps) z = absurd (omega arith)
 
-seen-cell : (c : Cell) → seenOf (sightOf (cellItem c)) ≡ pairsOf (cellItem c)
-unfolding cellItem sightOf
+seen-cell : (c : Cell) → seenOf (keyHeadOf (cellItem c)) ≡ pairsOf (cellItem c)
+unfolding cellItem keyHeadOf
 seen-cell none = refl
 seen-cell (some (pos n)) = refl
 seen-cell (some (negsuc n)) = refl
@@ -54,21 +54,21 @@ three-item : (ws : List ℕ) (i : ℕ) (r : Row) → r .1 ≡ 3
 unfolding rowItem phaseFields
 three-item ws i r l = rw (l, held-three ws i 3 refl) refl
 
-module _ (x y z : Cell) (a b c : Sight) (ae : a ≡ sightOf (cellItem x)) (be : b ≡ sightOf (cellItem y)) (ce : c ≡ sightOf (cellItem z)) where
+module _ (x y z : Cell) (a b c : KeyHead) (ae : a ≡ keyHeadOf (cellItem x)) (be : b ≡ keyHeadOf (cellItem y)) (ce : c ≡ keyHeadOf (cellItem z)) where
   pub three-count : seenOf a + (seenOf b + seenOf c) ≡ countPairs (present (three (cellItem x) (cellItem y) (cellItem z)))
   three-count = rw (ae, be, ce, seen-cell x, seen-cell y, seen-cell z, count-more, count-more, count-more, count-none) (omega arith)
 
 module _ (ws : List ℕ) (i : ℕ) (r : Row) where
-  module _ (l : r .1 ≡ 1) (a : Sight) (ae : a ≡ sightOf (cellItem (heldAt ws i))) where
-    no-pair : (c : Cell) → a ≡ sightOf (cellItem c) → a .major ≡ 8 → 0 ≡ pairsOf (cellItem c)
-    unfolding cellItem sightOf
+  module _ (l : r .1 ≡ 1) (a : KeyHead) (ae : a ≡ keyHeadOf (cellItem (heldAt ws i))) where
+    no-pair : (c : Cell) → a ≡ keyHeadOf (cellItem c) → a .major ≡ 8 → 0 ≡ pairsOf (cellItem c)
+    unfolding cellItem keyHeadOf
     no-pair none e z = refl
-    no-pair (some (pos n)) e z = absurd (omega (arith, ap (λ (x : Sight). x .major) e))
-    no-pair (some (negsuc n)) e z = absurd (omega (arith, ap (λ (x : Sight). x .major) e))
+    no-pair (some (pos n)) e z = absurd (omega (arith, ap (λ (x : KeyHead). x .major) e))
+    no-pair (some (negsuc n)) e z = absurd (omega (arith, ap (λ (x : KeyHead). x .major) e))
 
-    a-pair : (c : Cell) → a ≡ sightOf (cellItem c) → (a .major ≡ 8 → ⊥) → 1 ≡ pairsOf (cellItem c)
-    unfolding cellItem sightOf
-    a-pair none e z = absurd (z (ap (λ (x : Sight). x .major) e))
+    a-pair : (c : Cell) → a ≡ keyHeadOf (cellItem c) → (a .major ≡ 8 → ⊥) → 1 ≡ pairsOf (cellItem c)
+    unfolding cellItem keyHeadOf
+    a-pair none e z = absurd (z (ap (λ (x : KeyHead). x .major) e))
     a-pair (some z′) e z = refl
 
     pub one-absent : a .major ≡ 8 → 0 ≡ pairsOf (rowItem r (heldFrom ws (r .1) i))
@@ -80,7 +80,7 @@ module _ (ws : List ℕ) (i : ℕ) (r : Row) where
   pub item-one : r .1 ≡ 1 → cellItem (heldAt ws i) ≡ rowItem r (heldFrom ws (r .1) i)
   item-one l = sym (one-item ws i r l)
 
-  module _ (l : r .1 ≡ 3) (a b c : Sight) (ae : a ≡ sightOf (cellItem (heldAt ws i))) (be : b ≡ sightOf (cellItem (heldAt ws (i + 1)))) (ce : c ≡ sightOf (cellItem (heldAt ws (i + 2))))
+  module _ (l : r .1 ≡ 3) (a b c : KeyHead) (ae : a ≡ keyHeadOf (cellItem (heldAt ws i))) (be : b ≡ keyHeadOf (cellItem (heldAt ws (i + 1)))) (ce : c ≡ keyHeadOf (cellItem (heldAt ws (i + 2))))
       (n : ℕ) (ne : n ≡ seenOf a + (seenOf b + seenOf c)) where
     counted : n ≡ countPairs (present (three (cellItem (heldAt ws i)) (cellItem (heldAt ws (i + 1))) (cellItem (heldAt ws (i + 2)))))
     counted = ne ∙ three-count (heldAt ws i) (heldAt ws (i + 1)) (heldAt ws (i + 2)) a b c ae be ce

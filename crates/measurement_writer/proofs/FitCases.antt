@@ -7,10 +7,10 @@ use mathlib.Core.Option.{some, none}
 use native.Mathlib.Omega.{arith}
 use lib.IntN.{pos, negsuc}
 use Rattle.wire_cbor.specs.Item.{Item, isSome}
-use Rattle.wire_cbor.specs.Scan.{sight, noSight, sightOf}
-use Rattle.wire_cbor.specs.declared.sights.Sight.{Sight}
+use Rattle.wire_cbor.specs.Scan.{head, noKeyHead, keyHeadOf}
+use Rattle.wire_cbor.specs.declared.heads.KeyHead.{KeyHead}
 use Rattle.wire_fields.specs.Ranges.{within, numberIn, isNull, numeric}
-use Rattle.wire_fields.specs.Sights.{Tells}
+use Rattle.wire_fields.specs.KeyHeads.{Tells}
 use Rattle.wire_fields.specs.declared.ranges.Range.{Range}
 use Rattle.measurement_table.specs.Table.{rows, rangeOf}
 use Rattle.measurement_table.specs.Cells.{Cell, cellItem, cellFits, cellsFit, rowsFit}
@@ -23,20 +23,20 @@ mark-of e = ap (λ (x : Place). x .mark) e
 
 -- A CELL
 module _ (p : Place) where
-  pub see-above : (c : Cell) → p ≡ placeOf c → p .mark ≡ 1 → sight 0 (p .size) ≡ sightOf (cellItem c)
-  unfolding placeOf cellItem sightOf
+  pub see-above : (c : Cell) → p ≡ placeOf c → p .mark ≡ 1 → head 0 (p .size) ≡ keyHeadOf (cellItem c)
+  unfolding placeOf cellItem keyHeadOf
   see-above none e z = absurd (omega (arith, mark-of e))
   see-above (some (pos n)) e z = rw e
   see-above (some (negsuc n)) e z = absurd (omega (arith, mark-of e))
 
-  pub see-below : (c : Cell) → p ≡ placeOf c → p .mark ≡ 2 → sight 1 (p .size) ≡ sightOf (cellItem c)
-  unfolding placeOf cellItem sightOf
+  pub see-below : (c : Cell) → p ≡ placeOf c → p .mark ≡ 2 → head 1 (p .size) ≡ keyHeadOf (cellItem c)
+  unfolding placeOf cellItem keyHeadOf
   see-below none e z = absurd (omega (arith, mark-of e))
   see-below (some (pos n)) e z = absurd (omega (arith, mark-of e))
   see-below (some (negsuc n)) e z = rw e
 
-  pub see-none : (c : Cell) → p ≡ placeOf c → (p .mark ≡ 1 → ⊥) → (p .mark ≡ 2 → ⊥) → noSight ≡ sightOf (cellItem c)
-  unfolding placeOf cellItem sightOf
+  pub see-none : (c : Cell) → p ≡ placeOf c → (p .mark ≡ 1 → ⊥) → (p .mark ≡ 2 → ⊥) → noKeyHead ≡ keyHeadOf (cellItem c)
+  unfolding placeOf cellItem keyHeadOf
   see-none none e y z = refl
   see-none (some (pos n)) e y z = absurd (y (mark-of e))
   see-none (some (negsuc n)) e y z = absurd (z (mark-of e))
@@ -53,7 +53,7 @@ numeric-cell g (some (negsuc n)) = go (within g (negsuc n)) where
   go true = refl
   go false = refl
 
-pub cell-judged : (g : Range) (c : Cell) (k : Sight) → k ≡ sightOf (cellItem c) → (b : Bool) → Tells k (numeric g false) b → b ≡ cellFits g c
+pub cell-judged : (g : Range) (c : Cell) (k : KeyHead) → k ≡ keyHeadOf (cellItem c) → (b : Bool) → Tells k (numeric g false) b → b ≡ cellFits g c
 unfolding Tells
 cell-judged g c k e b t = sym (t (cellItem c) e) ∙ numeric-cell g c
 

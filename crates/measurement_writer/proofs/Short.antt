@@ -10,10 +10,10 @@ use Rattle.wire_bytes.specs.Bytes.{putWhole, pastWhole}
 use Rattle.wire_heads.specs.Head.{headBytes, headLen, headOf}
 use Rattle.wire_heads.proofs.Widths.{by-width, head-length, head-short}
 use Rattle.wire_cbor.specs.Item.{Item, encode, encodePairs, countPairs}
-use Rattle.wire_cbor.specs.Scan.{sightOf}
-use Rattle.wire_cbor.specs.declared.sights.Sight.{Sight}
+use Rattle.wire_cbor.specs.Scan.{keyHeadOf}
+use Rattle.wire_cbor.specs.declared.heads.KeyHead.{KeyHead}
 use Rattle.wire_fields.specs.Fields.{Fields, present}
-use Rattle.wire_fields.specs.Puts.{Puts, PutsField, pairBytes, fieldBytes, sightBytes, pairPieces, sightPieces}
+use Rattle.wire_fields.specs.Puts.{Puts, PutsField, pairBytes, fieldBytes, keyHeadBytes, pairPieces, keyHeadPieces}
 use Rattle.wire_fields.specs.ByPhase.{seenOf, phaseMap, PutsPhases}
 use Rattle.wire_fields.proofs.Added.{puts-none, puts-more, puts-head, puts-fit, flat-put, pairs-small, map-bytes, fields-more, fields-one, count-more, count-none}
 use Rattle.wire_fields.proofs.PhaseLaws.{puts-map}
@@ -84,8 +84,8 @@ map-short k x y z l =
     (omega (arith, head-length 0 k, key-short k l, head-length 5 n, small-short n (omega (arith, three-few x y z)), three-short x y z))
 
 -- ONE NUMBER
-pub one-put : (k : ℕ) → k < 256 → (c : Cell) (o : Option Item) → cellItem c ≡ o → (w : ℕ) → w ≡ 1 → (a : Sight) → a ≡ sightOf (cellItem c) → {s t : List ℕ} {p q : ℕ}
-    → PutsField s p (sightPieces k a) (sightBytes k a) t q → PutsShort s p (fieldBytes k o) (11 * w) t q
+pub one-put : (k : ℕ) → k < 256 → (c : Cell) (o : Option Item) → cellItem c ≡ o → (w : ℕ) → w ≡ 1 → (a : KeyHead) → a ≡ keyHeadOf (cellItem c) → {s t : List ℕ} {p q : ℕ}
+    → PutsField s p (keyHeadPieces k a) (keyHeadBytes k a) t q → PutsShort s p (fieldBytes k o) (11 * w) t q
 one-put k l c o oe w we a ae h =
     let x = flat-put k (cellItem c) (flat-cell c) a ae h .puts in
     rw (← oe, we) (shorts 11 (omega arith) (omega (arith, cell-short k c, key-short k l)) x)
@@ -95,12 +95,12 @@ pub three-left-out : (o : Option Item) → none ≡ o → (k n : ℕ) (s : List 
 unfolding fieldBytes
 three-left-out o e k n s p = rw (← e) (shorts-none s p n)
 
-pub three-put : (k : ℕ) → k < 256 → (x y z : Cell) (o : Option Item) → phaseMap (cellItem x) (cellItem y) (cellItem z) ≡ o → (w : ℕ) → w ≡ 3 → (a b c : Sight)
-    → a ≡ sightOf (cellItem x) → b ≡ sightOf (cellItem y) → c ≡ sightOf (cellItem z) → (n : ℕ) → n ≡ seenOf a + (seenOf b + seenOf c) → {s t u : List ℕ} {p q r : ℕ}
+pub three-put : (k : ℕ) → k < 256 → (x y z : Cell) (o : Option Item) → phaseMap (cellItem x) (cellItem y) (cellItem z) ≡ o → (w : ℕ) → w ≡ 3 → (a b c : KeyHead)
+    → a ≡ keyHeadOf (cellItem x) → b ≡ keyHeadOf (cellItem y) → c ≡ keyHeadOf (cellItem z) → (n : ℕ) → n ≡ seenOf a + (seenOf b + seenOf c) → {s t u : List ℕ} {p q r : ℕ}
     → PutsField s p (pairPieces k 5 n) (pairBytes k 5 n) t q → PutsPhases t q a b c u r → PutsShort s p (fieldBytes k o) (11 * w) u r
 three-put k l x y z o oe w we a b c ae be ce n ne h i =
-    let m : n ≡ seenOf (sightOf (cellItem x)) + (seenOf (sightOf (cellItem y)) + seenOf (sightOf (cellItem z))) = rw (ae, be, ce) at ne in
-    let j : PutsPhases _ _ (sightOf (cellItem x)) (sightOf (cellItem y)) (sightOf (cellItem z)) _ _ = rw (ae, be, ce) at i in
+    let m : n ≡ seenOf (keyHeadOf (cellItem x)) + (seenOf (keyHeadOf (cellItem y)) + seenOf (keyHeadOf (cellItem z))) = rw (ae, be, ce) at ne in
+    let j : PutsPhases _ _ (keyHeadOf (cellItem x)) (keyHeadOf (cellItem y)) (keyHeadOf (cellItem z)) _ _ = rw (ae, be, ce) at i in
     rw (← oe, we)
     (shorts 33 (omega arith) (map-short k x y z l) (puts-map k (cellItem x) (cellItem y) (cellItem z) (flat-cell x) (flat-cell y) (flat-cell z) m h j))
 

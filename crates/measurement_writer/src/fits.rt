@@ -1,5 +1,5 @@
 // Whether words can be written: each mark means something, and each number is in the range of its row.
-use crate::sights::cell_sight;
+use crate::heads::cell_key_head;
 use measurement_table::PLACES;
 use measurement_table::ROWS;
 use measurement_table::Row;
@@ -35,7 +35,7 @@ fn marks_fit(words: &Words) -> bool
 fn cell_fits(words: &Words, at: usize, range: Range) -> bool
     ensures { λ r. ⌜ r ≡ cellFits range (heldAt (now (words .entry)) at) ⌝ }
 {
-    is_number(cell_sight(words, at), range, false)
+    is_number(cell_key_head(words, at), range, false)
 }
 
 fn row_fits(words: &Words, place: usize, row: Row) -> bool

@@ -4,6 +4,6 @@ mod writing; // writing.rt: a payload, written
 
 // Words that hold a measurement, judged before they are written.
 mod fits; // fits.rt: marks and ranges, tested
-mod sights; // sights.rt: a cell as it is to be seen
+mod heads; // heads.rt: a cell as it is to be seen
 
 pub use writing::write_measurement;

@@ -1,13 +1,13 @@
 // The attributes that are there, counted and put one behind the other; absent ones are left out.
-use crate::sights::cell_sight;
+use crate::heads::cell_key_head;
 use measurement_table::ROWS;
 use measurement_table::Row;
 use measurement_table::Words;
 use measurement_table::row_at;
 use wire_fields::count_phases;
+use wire_fields::put_key_head;
 use wire_fields::put_map;
 use wire_fields::put_phases;
-use wire_fields::put_sight;
 ghost use mathlib.Core.Path.{_≡_};
 ghost use mathlib.Core.Bool.{true};
 ghost use Prim.Native.Nat.{_+_, _*_, _≤_};
@@ -26,15 +26,15 @@ fn count_row(words: &Words, place: usize, row: Row) -> u64
     requires { ⌜ (place + row .1 ≤ 36) × (shaped row ≡ true) ⌝ }
     ensures { λ r. ⌜ r ≡ pairsOf (rowItem row (heldFrom (now (words .entry)) (row .1) place)) ⌝ }
 {
-    let a = cell_sight(words, place);
+    let a = cell_key_head(words, place);
     if row.1 == 1 {
         if a.major == 8 {
             return 0;
         }
         return 1;
     }
-    let b = cell_sight(words, place + 1);
-    let c = cell_sight(words, place + 2);
+    let b = cell_key_head(words, place + 1);
+    let c = cell_key_head(words, place + 2);
     if count_phases(a, b, c) == 0 {
         return 0;
     }
@@ -63,9 +63,9 @@ fn put_three(out: &mut [u8], at: usize, words: &Words, place: usize, row: Row) -
     requires { ⌜ (place + row .1 ≤ 36) × (shaped row ≡ true) × (row .1 ≡ 3) ⌝ }
     ensures { λ r. ⌜ PutsShort (now (out .entry)) at (rowBytes (now (words .entry)) place row) (placeRoom * row .1) (now (out .exit)) r ⌝ }
 {
-    let a = cell_sight(words, place);
-    let b = cell_sight(words, place + 1);
-    let c = cell_sight(words, place + 2);
+    let a = cell_key_head(words, place);
+    let b = cell_key_head(words, place + 1);
+    let c = cell_key_head(words, place + 2);
     let n = count_phases(a, b, c);
     if n == 0 {
         return at;
@@ -80,8 +80,8 @@ fn put_row(out: &mut [u8], at: usize, words: &Words, place: usize, row: Row) -> 
     ensures { λ r. ⌜ PutsShort (now (out .entry)) at (rowBytes (now (words .entry)) place row) (placeRoom * row .1) (now (out .exit)) r ⌝ }
 {
     if row.1 == 1 {
-        let a = cell_sight(words, place);
-        return put_sight(out, at, row.0 as u64, a);
+        let a = cell_key_head(words, place);
+        return put_key_head(out, at, row.0 as u64, a);
     }
     put_three(out, at, words, place, row)
 }

@@ -3,8 +3,8 @@ use crate::fits::range_number;
 use crate::puts::put_payload;
 use measurement_table::Words;
 use wire_output::Written;
-use wire_output::deliver;
 use wire_output::refused;
+use wire_output::write_payload;
 ghost use mathlib.Core.Path.{_≡_};
 ghost use lib.ListN.{length};
 ghost use Rattle.wire_cbor.specs.Item.{encode};
@@ -26,5 +26,5 @@ pub fn write_measurement(words: &Words, out: &mut [u8]) -> Written
     }
     let mut payload = [0u8; ROOM];
     let n = put_payload(&mut payload, words);
-    deliver(out, &payload[..n])
+    write_payload(out, &payload[..n])
 }

@@ -79,18 +79,18 @@ module _ {S O : Type 0} (apply : S → List ℕ → Effect S O) where
       }
 
   -- ---- what a driver's state leads to: the stream that has str behind it, and then t
-  data Leads (s : S) (str : List ℕ) (d : Driven S O) : Type 0 where
+  data LeadingSetpoints (s : S) (str : List ℕ) (d : Driven S O) : Type 0 where
     on : (fs : List (List ℕ)) → Made s fs d → (p : List ℕ) → Holds (d .after) (d .room) p
-        → ((t : List ℕ) (c : Cut) → Cuts (p ++ t) c → Cuts (str ++ t) (fronts fs c)) → Leads s str d
-    off : (fs : List (List ℕ)) → Made s fs d → d .after ≡ shut → ((t : List ℕ) → Cuts (str ++ t) (fronts fs halt)) → Leads s str d
+        → ((t : List ℕ) (c : Cut) → Cuts (p ++ t) c → Cuts (str ++ t) (fronts fs c)) → LeadingSetpoints s str d
+    off : (fs : List (List ℕ)) → Made s fs d → d .after ≡ shut → ((t : List ℕ) → Cuts (str ++ t) (fronts fs halt)) → LeadingSetpoints s str d
 
   -- a bad length stays one
-  leads-bad : (s : S) (str room : List ℕ) → badEnd (endOf str) ≡ true → Leads s str (still s shut room)
-  leads-bad s str room b = off [] (made-none s shut room) refl (λ t. halts {s = str ++ t} (rw (end-stays str t (bad-four str b)) b))
+  leading-setpoints-bad : (s : S) (str room : List ℕ) → badEnd (endOf str) ≡ true → LeadingSetpoints s str (still s shut room)
+  leading-setpoints-bad s str room b = off [] (made-none s shut room) refl (λ t. halts {s = str ++ t} (rw (end-stays str t (bad-four str b)) b))
 
   -- an unfinished frame stays where it is
-  leads-more : (s : S) (str : List ℕ) (r : Record) (room : List ℕ) → Holds r room str → Leads s str (still s r room)
-  leads-more s str r room h = on [] (made-none s r room) str h (λ t c k. k)
+  leading-setpoints-more : (s : S) (str : List ℕ) (r : Record) (room : List ℕ) → Holds r room str → LeadingSetpoints s str (still s r room)
+  leading-setpoints-more s str r room h = on [] (made-none s r room) str h (λ t c k. k)
 
 -- a whole frame is the first of what the stream has
 module _ (s : List ℕ) (b : badEnd (endOf s) ≡ false) (l : endOf s ≤ length s) where
@@ -129,28 +129,28 @@ module _ {S O : Type 0} (apply : S → List ℕ → Effect S O) where
       (still (x .state) (d .after) (d .room)))
 
   -- behind a frame
-  leads-whole : (s : S) (str : List ℕ) → badEnd (endOf str) ≡ false → endOf str ≤ length str → (fs : List (List ℕ))
-      → fs ≡ take (endOf str) str ∷ [] → (d : Driven S O) → Leads apply (applied apply s fs .state) (drop (endOf str) str) d
-      → Leads apply s str (behind (applied apply s fs .outputs) d)
-  leads-whole s str b l fs one d (on gs m p h f) =
+  leading-setpoints-whole : (s : S) (str : List ℕ) → badEnd (endOf str) ≡ false → endOf str ≤ length str → (fs : List (List ℕ))
+      → fs ≡ take (endOf str) str ∷ [] → (d : Driven S O) → LeadingSetpoints apply (applied apply s fs .state) (drop (endOf str) str) d
+      → LeadingSetpoints apply s str (behind (applied apply s fs .outputs) d)
+  leading-setpoints-whole s str b l fs one d (on gs m p h f) =
       on (fs ++ gs) (made-behind apply s fs gs _ _ d refl refl m) p h
       (λ t c k. rw one (gives-on str b l t (fronts gs c) (f t c k)))
-  leads-whole s str b l fs one d (off gs m e f) =
+  leading-setpoints-whole s str b l fs one d (off gs m e f) =
       off (fs ++ gs) (made-behind apply s fs gs _ _ d refl refl m) e
       (λ t. rw one (gives-on str b l t (fronts gs halt) (f t)))
 
   abbrev Fed : ℕ → Type 0
   Fed n =
       (s : S) (r : Record) (room p scrap : List ℕ) → Holds r room p → length scrap < n
-      → Leads apply s (p ++ scrap) (feedIn apply n s r room scrap)
+      → LeadingSetpoints apply s (p ++ scrap) (feedIn apply n s r room scrap)
 
   after : (n : ℕ) → Fed n → (s : S) (room p scrap : List ℕ) (d : Done) → length scrap < suc n → Called room p scrap d
-      → Leads apply s (p ++ scrap) (next n s scrap d)
+      → LeadingSetpoints apply s (p ++ scrap) (next n s scrap d)
   unfolding refused given goesOn applied
-  after n fed s room p scrap d k (closes b e) = rw e (leads-bad apply s (p ++ scrap) room b)
+  after n fed s room p scrap d k (closes b e) = rw e (leading-setpoints-bad apply s (p ++ scrap) room b)
   after n fed s room p scrap d k (takes g l num tak len h) =
       rw (given-none d len, goes-on d scrap false num (le-ltb (d .answer .taken) (length scrap) (omega arith)))
-      (leads-more apply s (p ++ scrap) (d .after) (d .room) h)
+      (leading-setpoints-more apply s (p ++ scrap) (d .after) (d .room) h)
   after n fed s room p scrap d k (ends g l num tot pos len fr h) = go (ltb (d .answer .taken) (length scrap)) refl
     where
       rest : drop (endOf (p ++ scrap)) (p ++ scrap) ≡ drop (d .answer .taken) scrap
@@ -162,17 +162,17 @@ module _ {S O : Type 0} (apply : S → List ℕ → Effect S O) where
       s′ : S
       s′ = applied apply s (given d) .state
 
-      go : (b : Bool) → ltb (d .answer .taken) (length scrap) ≡ b → Leads apply s (p ++ scrap) (next n s scrap d)
+      go : (b : Bool) → ltb (d .answer .taken) (length scrap) ≡ b → LeadingSetpoints apply s (p ++ scrap) (next n s scrap d)
       go true e =
           let m = length-drop (d .answer .taken) scrap in
-          let i : Leads apply s′ (drop (d .answer .taken) scrap) (feedIn apply n s′ (d .after) (d .room) (drop (d .answer .taken) scrap)) =
+          let i : LeadingSetpoints apply s′ (drop (d .answer .taken) scrap) (feedIn apply n s′ (d .after) (d .room) (drop (d .answer .taken) scrap)) =
           fed s′ (d .after) (d .room) [] (drop (d .answer .taken) scrap) h (omega (arith, ltb-true (d .answer .taken) (length scrap) e)) in
-          rw (goes-on d scrap true num e) (leads-whole s (p ++ scrap) g l (given d) one _ (rw rest i))
+          rw (goes-on d scrap true num e) (leading-setpoints-whole s (p ++ scrap) g l (given d) one _ (rw rest i))
       go false e =
           let m = length-append p scrap in
           let t : d .answer .taken ≡ length scrap = omega (arith, ltb-false (d .answer .taken) (length scrap) e) in
           let x : drop (endOf (p ++ scrap)) (p ++ scrap) ≡ [] = rest ∙ ap (λ (i : ℕ). drop i scrap) t ∙ drop-length scrap in
-          rw (goes-on d scrap false num e) (leads-whole s (p ++ scrap) g l (given d) one _ (rw x (leads-more apply s′ [] (d .after) (d .room) h)))
+          rw (goes-on d scrap false num e) (leading-setpoints-whole s (p ++ scrap) g l (given d) one _ (rw x (leading-setpoints-more apply s′ [] (d .after) (d .room) h)))
 
   fed : (n : ℕ) → Fed n
   unfolding feedIn
@@ -220,7 +220,7 @@ module _ {S O : Type 0} (apply : S → List ℕ → Effect S O) where
     abbrev rest : Driven S O
     rest = drive apply (d .state) (d .after) (d .room) ss
 
-    after-scrap : (p : List ℕ) → Leads apply s (p ++ x) d
+    after-scrap : (p : List ℕ) → LeadingSetpoints apply s (p ++ x) d
         → ((p′ : List ℕ) → Holds (d .after) (d .room) p′ → Reached (d .state) (p′ ++ joined ss) rest)
         → Reached s (p ++ (x ++ joined ss)) (behind (d .outputs) rest)
     unfolding recordOf

@@ -11,7 +11,7 @@ use Rattle.report_tables.specs.Endpoints.{types}
 use Rattle.report.specs.Sizes.{pairCount}
 use Rattle.report.specs.Lists.{keep, ascends, firstOf, front}
 use Rattle.report.specs.Rules.{broken, brokenIn, breaches, candidates}
-use Rattle.report.specs.Report.{inRange, numberOf, reportOf, flat, pairsAfter}
+use Rattle.report.specs.Report.{inRange, reportNumber, reportOf, flat, pairsAfter}
 use Rattle.report.specs.declared.Inputs.{Inputs}
 use Rattle.report.specs.declared.Answer.{Answer}
 use Rattle.report.specs.declared.breaches.Pair.{Pair}
@@ -53,27 +53,27 @@ module _ (i : Inputs) (attributes buffer : List ℕ) where
   abbrev Ends : Answer → List ℕ → Type 0
   Ends a pairs = (a ≡ reportOf i attributes (length buffer)) × (pairs ≡ pairsAfter i attributes buffer)
 
-  refused : (n : ℕ) → numberOf i attributes (length buffer) ≡ n → eqb n 0 ≡ false → Ends (answer n 0) buffer
+  refused : (n : ℕ) → reportNumber i attributes (length buffer) ≡ n → eqb n 0 ≡ false → Ends (answer n 0) buffer
   unfolding reportOf pairsAfter
   refused n e f = (rw (e, f), rw (e, f))
 
   module _ {b : Bool} (range : b ≡ inRange i) where
     pub ends-16 : not b ≡ true → Ends (answer 16 0) buffer
-    unfolding numberOf firstOf
+    unfolding reportNumber firstOf
     ends-16 e = refused 16 (rw (← range, e)) refl
 
     module _ {c : Bool} (ascent : c ≡ ascends attributes) (in-range : not b ≡ false) where
       pub ends-17 : not c ≡ true → Ends (answer 17 0) buffer
-      unfolding numberOf firstOf
+      unfolding reportNumber firstOf
       ends-17 e = refused 17 (rw (← range, in-range, ← ascent, e)) refl
 
       module _ (ps : List Pair) {n : ℕ} (same : ps ≡ breaches i attributes) (counted : n ≡ length ps) (ascending : not c ≡ false) where
         pub ends-15 : length buffer < 2 * n → Ends (answer 15 0) buffer
-        unfolding numberOf firstOf
+        unfolding reportNumber firstOf
         ends-15 h = refused 15 (rw (← range, in-range, ← ascent, ascending, ← same, ← counted, lt-ltb _ _ h)) refl
 
         pub ends-0 : (pairs : List ℕ) → pairs ≡ front (flat ps) buffer → 2 * n ≤ length buffer → Ends (answer 0 n) pairs
-        unfolding reportOf pairsAfter numberOf firstOf
+        unfolding reportOf pairsAfter reportNumber firstOf
         ends-0 pairs written h =
-            let e : numberOf i attributes (length buffer) ≡ 0 = rw (← range, in-range, ← ascent, ascending, ← same, ← counted, le-ltb _ _ h) in
+            let e : reportNumber i attributes (length buffer) ≡ 0 = rw (← range, in-range, ← ascent, ascending, ← same, ← counted, le-ltb _ _ h) in
             (rw (e, counted, same), rw (written, e, same))

@@ -20,8 +20,8 @@ inRange i =
     ltb (i .endpoint) types && ltb (i .features) maps && ltb 0 (i .phases) && leb (i .phases) phaseCount && ltb (i .directions) directionKinds
 
 -- the refusal: 16, 17, 15 in that order. The room is counted in numbers, two a pair
-unfoldable pub numberOf : Inputs → List ℕ → ℕ → ℕ
-numberOf i attributes room =
+unfoldable pub reportNumber : Inputs → List ℕ → ℕ → ℕ
+reportNumber i attributes room =
     firstOf
     ((not (inRange i), BAD_SETTINGS)
     ∷ (not (ascends attributes), NOT_ASCENDING)
@@ -32,8 +32,8 @@ numberOf i attributes room =
 unfoldable pub reportOf : Inputs → List ℕ → ℕ → Answer
 reportOf i attributes room =
     record {
-      number = numberOf i attributes room;
-      count = cond (eqb (numberOf i attributes room) 0) (length (breaches i attributes)) 0;
+      number = reportNumber i attributes room;
+      count = cond (eqb (reportNumber i attributes room) 0) (length (breaches i attributes)) 0;
     }
 
 -- pairs as numbers: group, number, group, number
@@ -44,4 +44,4 @@ flat (p ∷ ps) = p .group ∷ p .number ∷ flat ps
 -- the buffer afterwards: the pairs over its front, unchanged at a refusal
 unfoldable pub pairsAfter : Inputs → List ℕ → List ℕ → List ℕ
 pairsAfter i attributes buffer =
-    cond (eqb (numberOf i attributes (length buffer)) 0) (front (flat (breaches i attributes)) buffer) buffer
+    cond (eqb (reportNumber i attributes (length buffer)) 0) (front (flat (breaches i attributes)) buffer) buffer

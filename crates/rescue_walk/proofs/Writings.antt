@@ -13,7 +13,7 @@ use Rattle.rescue_walk.specs.declared.steps.Cursor.{Cursor}
 use Rattle.rescue_walk.specs.declared.scripts.Rescued.{Rescued}
 use Rattle.rescue_walk.specs.Walk.{recordLen, Piece, copied, passed, walk, kept, runsFrom, runCount, rescued, runs, runLen}
 use Rattle.rescue_walk.specs.Steps.{nextOf, outNext, reportNext, Room, counted, front}
-use Rattle.rescue_walk.specs.Rescue.{most, number, written, answer}
+use Rattle.rescue_walk.specs.Rescue.{longestScript, number, written, answer}
 use Rattle.rescue_walk.proofs.Walks.{walk-none}
 use Rattle.rescue_walk.proofs.Pieces.{left, recordHere, runHere, recordBytes, runBytes, behindRecord, behindRun, Next, a-run, a-record, nexts}
 use Rattle.rescue_walk.proofs.Loops.{Counting, counting-none, counting-next, runs-two, record-bytes, run-bytes, kept-cons, kept-skip, put-nil, put-front}
@@ -216,11 +216,11 @@ module _ (s out rep : List ℕ) where
   unfolding answer written
   refused-is n r z e q = rw (e, ne-eqb n 0 z) (q, (refl, refl))
 
-  pub too-long : most < length s → (r : Rescued) → r ≡ record { number = 1; length = 0; runs = 0 } → Answers r out rep
+  pub too-long : longestScript < length s → (r : Rescued) → r ≡ record { number = 1; length = 0; runs = 0 } → Answers r out rep
   unfolding number
-  too-long l r q = refused-is 1 r (λ z. omega arith) (rw (lt-ltb most (length s) l)) q
+  too-long l r q = refused-is 1 r (λ z. omega arith) (rw (lt-ltb longestScript (length s) l)) q
 
-  module _ (short : length s ≤ most) (c : Cursor) (e : c ≡ counted s) where
+  module _ (short : length s ≤ longestScript) (c : Cursor) (e : c ≡ counted s) where
     counted-kept : c .kept ≡ length (rescued s)
     unfolding counted
     counted-kept = ap (λ (x : Cursor). x .kept) e
@@ -231,13 +231,13 @@ module _ (s out rep : List ℕ) where
 
     pub no-output : length out < c .kept → (r : Rescued) → r ≡ record { number = 15; length = 0; runs = 0 } → Answers r out rep
     unfolding number
-    no-output l r q = refused-is 15 r (λ z. omega arith) (rw (le-ltb most (length s) short, lt-ltb (length out) (length (rescued s)) (omega (arith, counted-kept)))) q
+    no-output l r q = refused-is 15 r (λ z. omega arith) (rw (le-ltb longestScript (length s) short, lt-ltb (length out) (length (rescued s)) (omega (arith, counted-kept)))) q
 
     module _ (o : c .kept ≤ length out) where
       pub no-report : length rep < 2 * c .runs → (r : Rescued) → r ≡ record { number = 15; length = 0; runs = 0 } → Answers r out rep
       unfolding number
       no-report l r q = refused-is 15 r (λ z. omega arith) (rw (
-        le-ltb most (length s) short,
+        le-ltb longestScript (length s) short,
         le-ltb (length out) (length (rescued s)) (omega (arith, counted-kept)),
         lt-ltb (length rep) (length (runs s)) (omega (arith, counted-runs, counts-two s)),
       )) q
@@ -248,7 +248,7 @@ module _ (s out rep : List ℕ) where
 
         is-none : num ≡ 0
         unfolding number
-        is-none = let h = has-room in rw (le-ltb most (length s) short, le-ltb (length out) (length (rescued s)) (h .0), le-ltb (length rep) (length (runs s)) (h .1))
+        is-none = let h = has-room in rw (le-ltb longestScript (length s) short, le-ltb (length out) (length (rescued s)) (h .0), le-ltb (length rep) (length (runs s)) (h .1))
 
         pub rescued-is : (out′ rep′ : List ℕ) → (out′ ≡ front out (rescued s)) × (rep′ ≡ front rep (runs s))
             → Answers (record { number = 0; length = c .kept; runs = c .runs }) out′ rep′

@@ -9,13 +9,13 @@ use Rattle.rescue_walk.specs.Walk.{walk, runCount, rescued, runs}
 use Rattle.rescue_walk.specs.Steps.{front}
 
 -- "a script up to 16,384 bytes"
-abbrev pub most : ℕ
-most = 16384
+abbrev pub longestScript : ℕ
+longestScript = 16384
 
 -- "an input above the size is 1, tested first", "15 for output or report without room"
 unfoldable pub number : List ℕ → ℕ → ℕ → ℕ
 number s out report =
-    cond (ltb most (length s)) 1 (cond (ltb out (length (rescued s)) || ltb report (length (runs s))) 15 0)
+    cond (ltb longestScript (length s)) 1 (cond (ltb out (length (rescued s)) || ltb report (length (runs s))) 15 0)
 
 -- "nothing written" where refused
 unfoldable pub written : ℕ → List ℕ → List ℕ → List ℕ

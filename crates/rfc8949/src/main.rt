@@ -3,7 +3,7 @@
 // its count before its elements. Behind a map stand the keys 0 to 31 that are found in it, each with its value's position.
 use libc::STDIN_FILENO;
 use libc::STDOUT_FILENO;
-use wire_cbor::Sight;
+use wire_cbor::KeyHead;
 use wire_cbor::Stop;
 use wire_heads::Head;
 use wire_messages::Field;
@@ -114,7 +114,7 @@ fn show_field(field: Field) {
 
 // Shows an integer by its head.
 fn show_int(major: u64, arg: u64) {
-    let value = wire_fields::read_value(Sight { major, arg }, false);
+    let value = wire_fields::read_value(KeyHead { major, arg }, false);
     let field = value.field;
     if value.ok {
         show_field(field);

@@ -13,7 +13,7 @@ use Rattle.wire_bytes.specs.Bytes.{Bytes}
 use Rattle.wire_heads.specs.Head.{headAt}
 use Rattle.wire_cbor.specs.Item.{Item, Pairs, Got, got, bad, pairsAt, itemAt, pastOf, levels, payloadOf, isSome, Ok}
 use Rattle.wire_heads.specs.Key.{keyAt}
-use Rattle.wire_cbor.specs.Scan.{KEYS, LEVELS, STEP, sight, sightOf, pairsIn, sightsOf, wordsOf}
+use Rattle.wire_cbor.specs.Scan.{KEYS, LEVELS, STEP, head, keyHeadOf, pairsIn, keyHeadsOf, wordsOf}
 use Rattle.wire_cbor.specs.Pass.{blank, noteAt, noted, noteHead, noteKey, noteFrom, Left}
 use Rattle.wire_heads.specs.declared.reading.Head.{Head}
 use Rattle.wire_heads.specs.declared.keys.Key.{Key}
@@ -35,15 +35,15 @@ module _ {X : Type 0} where
   left-is g f l h x e w = rw w at h
 
 -- a head that was read is the item's own
-sight-of : (i : Item) → sight (majorOf i) (argOf i) ≡ sightOf (some i)
-unfolding sightOf
-sight-of (Item.uint v) = refl
-sight-of (Item.nint v) = refl
-sight-of (Item.bytes b) = refl
-sight-of (Item.text b) = refl
-sight-of (Item.array is) = refl
-sight-of (Item.map ps) = refl
-sight-of (Item.simple v) = refl
+key-head-of : (i : Item) → head (majorOf i) (argOf i) ≡ keyHeadOf (some i)
+unfolding keyHeadOf
+key-head-of (Item.uint v) = refl
+key-head-of (Item.nint v) = refl
+key-head-of (Item.bytes b) = refl
+key-head-of (Item.text b) = refl
+key-head-of (Item.array is) = refl
+key-head-of (Item.map ps) = refl
+key-head-of (Item.simple v) = refl
 
 not-map : (i : Item) → (majorOf i ≡ 5 → ⊥) → pairsIn (some i) ≡ Pairs.empty
 not-map (Item.uint v) ne = refl
@@ -135,10 +135,10 @@ module _ (s : List ℕ) (ok : Bytes s) (d p : ℕ) (h : Head) (e : h ≡ headAt 
         let c : i ≡ Item.map (u .0) = cc in
         (u .0, u .1, u .2, c)
 
-  module _ (path level k : ℕ) (l l′ : List ℕ) (n : l′ ≡ noteAt l (level * KEYS + k) (sight m v)) (o : Bool)
+  module _ (path level k : ℕ) (l l′ : List ℕ) (n : l′ ≡ noteAt l (level * KEYS + k) (head m v)) (o : Bool)
       (t : o ≡ cond (eqb k (path % STEP)) (cond (ltb (level + 1) LEVELS) (eqb m 5) false) false) where
     as-plain : (i : Item) (e′ : ℕ) → itemAt s d p ≡ got i e′ → l′ ≡ noteHead level l k i
-    as-plain i e′ g = let a = own i e′ g in n ∙ rw (a .0, a .1, sight-of i)
+    as-plain i e′ g = let a = own i e′ g in n ∙ rw (a .0, a .1, key-head-of i)
 
     pub value-plain : o ≡ false → Left (itemAt s d p) (noteFrom path level l k) l′
     unfolding noted
@@ -186,11 +186,11 @@ module _ (s : List ℕ) (ok : Bytes s) (d p : ℕ) (h : Head) (e : h ≡ headAt 
 
 -- the whole of a payload
 module _ (s : List ℕ) (ok : Bytes s) (u e : ℕ) (b : Bool) (x : e ≡ pastOf (itemAt s levels 0)) (t : b ≡ cond (eqb e 0) false (eqb e (length s))) where
-  pub scan-taken : b ≡ true → (m : List ℕ) → Left (itemAt s levels 0) (λ i. noted (noteFrom u 0) blank (pairsIn (some i))) m → (b ≡ isSome (payloadOf s)) × (m ≡ wordsOf (sightsOf u (payloadOf s)))
-  unfolding payloadOf sightsOf Sound
+  pub scan-taken : b ≡ true → (m : List ℕ) → Left (itemAt s levels 0) (λ i. noted (noteFrom u 0) blank (pairsIn (some i))) m → (b ≡ isSome (payloadOf s)) × (m ≡ wordsOf (keyHeadsOf u (payloadOf s)))
+  unfolding payloadOf keyHeadsOf Sound
   scan-taken is m y = go (eqb e 0) (eqb e (length s)) refl refl (sym t ∙ is)
     where
-      go : (p q : Bool) → eqb e 0 ≡ p → eqb e (length s) ≡ q → cond p false q ≡ true → (b ≡ isSome (payloadOf s)) × (m ≡ wordsOf (sightsOf u (payloadOf s)))
+      go : (p q : Bool) → eqb e 0 ≡ p → eqb e (length s) ≡ q → cond p false q ≡ true → (b ≡ isSome (payloadOf s)) × (m ≡ wordsOf (keyHeadsOf u (payloadOf s)))
       go false true hp hq r =
           let g = item-got s ok 0 levels e x (λ z. let a = eq-eqb e 0 z in let c : _≡_ {A = ℕ} 0 1 = cc in omega arith) in
           let o = within (g .0) levels (item-sound s ok levels 0 e (g .0) (g .1) .1) in
@@ -198,8 +198,8 @@ module _ (s : List ℕ) (ok : Bytes s) (u e : ℕ) (b : Bool) (x : e ≡ pastOf 
       go false false hp hq r = absurd (let z : _≡_ {A = ℕ} 0 1 = cc in omega arith)
       go true q hp hq r = absurd (let z : _≡_ {A = ℕ} 0 1 = cc in omega arith)
 
-  pub scan-refused : b ≡ false → (m : List ℕ) → m ≡ blank → (b ≡ isSome (payloadOf s)) × (m ≡ wordsOf (sightsOf u (payloadOf s)))
-  unfolding payloadOf sightsOf Ok noted
+  pub scan-refused : b ≡ false → (m : List ℕ) → m ≡ blank → (b ≡ isSome (payloadOf s)) × (m ≡ wordsOf (keyHeadsOf u (payloadOf s)))
+  unfolding payloadOf keyHeadsOf Ok noted
   scan-refused is m w = rw (go (eqb e 0) (eqb e (length s)) refl refl (sym t ∙ is)) (is, w ∙ pass-exact u 0 0 Pairs.empty tt)
     where
       go : (p q : Bool) → eqb e 0 ≡ p → eqb e (length s) ≡ q → cond p false q ≡ false → payloadOf s ≡ none

@@ -7,16 +7,16 @@ use mathlib.Core.Option.{some}
 use lib.ListN.{set, replicate}
 use lib.Dec.{ltb, eqb}
 use Rattle.wire_cbor.specs.Item.{Item, Pairs, Got, got, bad}
-use Rattle.wire_cbor.specs.Scan.{KEYS, LEVELS, SIGHTS, WORDS, STEP, sightOf, pairsIn}
-use Rattle.wire_cbor.specs.declared.sights.Sight.{Sight}
+use Rattle.wire_cbor.specs.Scan.{KEYS, LEVELS, KEY_HEADS, WORDS, STEP, keyHeadOf, pairsIn}
+use Rattle.wire_cbor.specs.declared.heads.KeyHead.{KeyHead}
 
 -- nothing seen
 abbrev pub blank : List ℕ
 blank = replicate WORDS 8
 
--- words with the sight in place j as x
-unfoldable pub noteAt : List ℕ → ℕ → Sight → List ℕ
-noteAt l j x = set (set l j (x .major)) (SIGHTS + j) (x .arg)
+-- words with the head in place j as x
+unfoldable pub noteAt : List ℕ → ℕ → KeyHead → List ℕ
+noteAt l j x = set (set l j (x .major)) (KEY_HEADS + j) (x .arg)
 
 -- what f notes of each small key and its value, one pair after the other
 unfoldable pub noted : (List ℕ → ℕ → Item → List ℕ) → List ℕ → Pairs → List ℕ
@@ -25,7 +25,7 @@ noted f l (Pairs.pair k i ps) = noted f (cond (ltb k KEYS) (f l k i) l) ps
 
 -- the head of a value, at a level
 abbrev pub noteHead : ℕ → List ℕ → ℕ → Item → List ℕ
-noteHead level l k i = noteAt l (level * KEYS + k) (sightOf (some i))
+noteHead level l k i = noteAt l (level * KEYS + k) (keyHeadOf (some i))
 
 -- and, with n levels below, under the first key of a path those of the map that the value is
 unfoldable pub noteKey : ℕ → ℕ → ℕ → List ℕ → ℕ → Item → List ℕ

@@ -8,7 +8,7 @@ use lib.ListN.{length, getD}
 use lib.Dec.{ltb}
 use Rattle.wire_cbor.specs.Item.{Item, Pairs, count, countPairs}
 use Rattle.wire_cbor.specs.Find.{valueOf}
-use Rattle.wire_cbor.specs.declared.sights.Sight.{Sight}
+use Rattle.wire_cbor.specs.declared.heads.KeyHead.{KeyHead}
 
 -- SIZES, as the code has them
 -- the small keys are 0 to 5
@@ -20,40 +20,40 @@ abbrev pub LEVELS : ℕ
 LEVELS = 3
 
 -- the small keys of each
-abbrev pub SIGHTS : ℕ
-SIGHTS = KEYS * LEVELS
+abbrev pub KEY_HEADS : ℕ
+KEY_HEADS = KEYS * LEVELS
 
 -- two words each
 abbrev pub WORDS : ℕ
-WORDS = 2 * SIGHTS
+WORDS = 2 * KEY_HEADS
 
 -- a path has a digit to this base for each level, the first the lowest: the key whose map is looked into next
 abbrev pub STEP : ℕ
 STEP = 16
 
--- SIGHTS
-abbrev pub sight : ℕ → ℕ → Sight
-sight m v = record { major = m; arg = v }
+-- HEADS UNDER SMALL KEYS
+abbrev pub head : ℕ → ℕ → KeyHead
+head m v = record { major = m; arg = v }
 
 -- nothing there; its argument is of no use
-abbrev pub noSight : Sight
-noSight = sight 8 8
+abbrev pub noKeyHead : KeyHead
+noKeyHead = head 8 8
 
 -- the head of what stands under a key
-unfoldable pub sightOf : Option Item → Sight
-sightOf none = noSight
-sightOf (some (Item.uint v)) = sight 0 v
-sightOf (some (Item.nint v)) = sight 1 v
-sightOf (some (Item.bytes b)) = sight 2 (length b)
-sightOf (some (Item.text b)) = sight 3 (length b)
-sightOf (some (Item.array is)) = sight 4 (count is)
-sightOf (some (Item.map ps)) = sight 5 (countPairs ps)
-sightOf (some (Item.simple v)) = sight 7 v
+unfoldable pub keyHeadOf : Option Item → KeyHead
+keyHeadOf none = noKeyHead
+keyHeadOf (some (Item.uint v)) = head 0 v
+keyHeadOf (some (Item.nint v)) = head 1 v
+keyHeadOf (some (Item.bytes b)) = head 2 (length b)
+keyHeadOf (some (Item.text b)) = head 3 (length b)
+keyHeadOf (some (Item.array is)) = head 4 (count is)
+keyHeadOf (some (Item.map ps)) = head 5 (countPairs ps)
+keyHeadOf (some (Item.simple v)) = head 7 v
 
 -- n keys of a map, from k on
-unfoldable pub sightsFrom : ℕ → ℕ → Pairs → List Sight
-sightsFrom zero k ps = []
-sightsFrom (suc n) k ps = sightOf (valueOf ps k) ∷ sightsFrom n (k + 1) ps
+unfoldable pub keyHeadsFrom : ℕ → ℕ → Pairs → List KeyHead
+keyHeadsFrom zero k ps = []
+keyHeadsFrom (suc n) k ps = keyHeadOf (valueOf ps k) ∷ keyHeadsFrom n (k + 1) ps
 
 -- the pairs of a map; none of anything else
 abbrev pub pairsIn : Option Item → Pairs
@@ -76,22 +76,22 @@ mapAt zero path ps = ps
 mapAt (suc level) path ps = mapAt level (path / STEP) (followed path ps)
 
 -- the small keys of n maps along a path
-unfoldable pub sightsAlong : ℕ → ℕ → Pairs → List Sight
-sightsAlong zero path ps = []
-sightsAlong (suc n) path ps = sightsFrom KEYS 0 ps ++ sightsAlong n (path / STEP) (followed path ps)
+unfoldable pub keyHeadsAlong : ℕ → ℕ → Pairs → List KeyHead
+keyHeadsAlong zero path ps = []
+keyHeadsAlong (suc n) path ps = keyHeadsFrom KEYS 0 ps ++ keyHeadsAlong n (path / STEP) (followed path ps)
 
 -- those of a payload
-unfoldable pub sightsOf : ℕ → Option Item → List Sight
-sightsOf path o = sightsAlong LEVELS path (pairsIn o)
+unfoldable pub keyHeadsOf : ℕ → Option Item → List KeyHead
+keyHeadsOf path o = keyHeadsAlong LEVELS path (pairsIn o)
 
--- sights as words: the major types, then the arguments
-unfoldable pub wordsOf : List Sight → List ℕ
+-- heads as words: the major types, then the arguments
+unfoldable pub wordsOf : List KeyHead → List ℕ
 wordsOf l = map (λ x. x .major) l ++ map (λ x. x .arg) l
 
--- the sight in a place of words
-unfoldable pub sightIn : List ℕ → ℕ → Sight
-sightIn ws j = sight (getD ws j 0) (getD ws (SIGHTS + j) 0)
+-- the head in a place of words
+unfoldable pub keyHeadIn : List ℕ → ℕ → KeyHead
+keyHeadIn ws j = head (getD ws j 0) (getD ws (KEY_HEADS + j) 0)
 
--- the sight of a small key at a level; nothing past the last
-unfoldable pub sightAt : List ℕ → ℕ → ℕ → Sight
-sightAt ws level key = cond (ltb level LEVELS) (cond (ltb key KEYS) (sightIn ws (level * KEYS + key)) noSight) noSight
+-- the head of a small key at a level; nothing past the last
+unfoldable pub keyHeadAt : List ℕ → ℕ → ℕ → KeyHead
+keyHeadAt ws level key = cond (ltb level LEVELS) (cond (ltb key KEYS) (keyHeadIn ws (level * KEYS + key)) noKeyHead) noKeyHead

@@ -12,14 +12,14 @@ use lib.IntN.{pos, negsuc}
 use Rattle.wire_bytes.specs.Bytes.{put, putWhole, pastWhole}
 use Rattle.wire_heads.specs.Head.{headBytes, headOf}
 use Rattle.wire_cbor.specs.Item.{Item, encode, encodePairs, countPairs}
-use Rattle.wire_cbor.specs.Scan.{sightOf}
-use Rattle.wire_cbor.specs.declared.sights.Sight.{Sight}
+use Rattle.wire_cbor.specs.Scan.{keyHeadOf}
+use Rattle.wire_cbor.specs.declared.heads.KeyHead.{KeyHead}
 use Rattle.wire_messages.specs.declared.Field.{Field}
 use Rattle.wire_messages.specs.declared.Amount.{Amount}
 use Rattle.wire_heads.proofs.Widths.{head-length, head-short}
 use Rattle.wire_bytes.proofs.PutLaws.{put-whole, length-put}
 use Rattle.wire_fields.specs.Fields.{Fields, present, mapItem, valueItem, amountItem}
-use Rattle.wire_fields.specs.Puts.{Adds, Puts, pairBytes, fieldBytes, sightBytes, pairsOf, pairRoom, putEach, pastEach, pairPieces, fieldPieces, sightPieces, PutsField}
+use Rattle.wire_fields.specs.Puts.{Adds, Puts, pairBytes, fieldBytes, keyHeadBytes, pairsOf, pairRoom, putEach, pastEach, pairPieces, fieldPieces, keyHeadPieces, PutsField}
 
 adds-none : (s : List ℕ) (p n : ℕ) → Adds s p [] n s p
 adds-none s p n = record { grows = sym (append-nil (take p s)); moved = omega arith; short = omega arith; kept = refl }
@@ -97,19 +97,19 @@ unfolding putEach pastEach
 field-none s p = record { left = refl; past = refl; puts = puts-none s p pairRoom }
 
 -- what is to be seen: a key and a head, or nothing
-module _ (key : ℕ) (k : Sight) where
-  pub sight-put : k .major < 8 → {s t : List ℕ} {p q : ℕ} → PutsField s p (pairPieces key (k .major) (k .arg)) (pairBytes key (k .major) (k .arg)) t q
-      → PutsField s p (sightPieces key k) (sightBytes key k) t q
-  unfolding sightPieces sightBytes
-  sight-put l {s} {t} {p} h =
+module _ (key : ℕ) (k : KeyHead) where
+  pub key-head-put : k .major < 8 → {s t : List ℕ} {p q : ℕ} → PutsField s p (pairPieces key (k .major) (k .arg)) (pairBytes key (k .major) (k .arg)) t q
+      → PutsField s p (keyHeadPieces key k) (keyHeadBytes key k) t q
+  unfolding keyHeadPieces keyHeadBytes
+  key-head-put l {s} {t} {p} h =
       let e = lt-ltb (k .major) 8 l in
-      let x : sightPieces key k ≡ pairPieces key (k .major) (k .arg) = ap (λ (b : Bool). cond b (pairPieces key (k .major) (k .arg)) []) e in
-      let y : sightBytes key k ≡ pairBytes key (k .major) (k .arg) = ap (λ (b : Bool). cond b (pairBytes key (k .major) (k .arg)) []) e in
+      let x : keyHeadPieces key k ≡ pairPieces key (k .major) (k .arg) = ap (λ (b : Bool). cond b (pairPieces key (k .major) (k .arg)) []) e in
+      let y : keyHeadBytes key k ≡ pairBytes key (k .major) (k .arg) = ap (λ (b : Bool). cond b (pairBytes key (k .major) (k .arg)) []) e in
       record { left = h .left ∙ ap (putEach s p) (sym x); past = h .past ∙ ap (pastEach s p) (sym x); puts = puts-same (sym y) (h .puts) }
 
-  pub sight-none : 8 ≤ k .major → (s : List ℕ) (p : ℕ) → PutsField s p (sightPieces key k) (sightBytes key k) s p
-  unfolding sightPieces sightBytes
-  sight-none l s p = rw (le-ltb (k .major) 8 l) (field-none s p)
+  pub key-head-none : 8 ≤ k .major → (s : List ℕ) (p : ℕ) → PutsField s p (keyHeadPieces key k) (keyHeadBytes key k) s p
+  unfolding keyHeadPieces keyHeadBytes
+  key-head-none l s p = rw (le-ltb (k .major) 8 l) (field-none s p)
 
 -- ITEMS THAT ARE THEIR HEADS: numbers and simple values
 abbrev pub Flat : Option Item → Type 0
@@ -123,8 +123,8 @@ Flat (some (Item.map ps)) = ⊥
 Flat (some (Item.simple v)) = Unit {0}
 
 module _ (key : ℕ) where
-  pub flat-bytes : (o : Option Item) → Flat o → sightBytes key (sightOf o) ≡ fieldBytes key o
-  unfolding sightBytes pairBytes fieldBytes encode sightOf
+  pub flat-bytes : (o : Option Item) → Flat o → keyHeadBytes key (keyHeadOf o) ≡ fieldBytes key o
+  unfolding keyHeadBytes pairBytes fieldBytes encode keyHeadOf
   flat-bytes none f = refl
   flat-bytes (some (Item.uint v)) f = refl
   flat-bytes (some (Item.nint v)) f = refl
@@ -134,8 +134,8 @@ module _ (key : ℕ) where
   flat-bytes (some (Item.map ps)) f = absurd f
   flat-bytes (some (Item.simple v)) f = refl
 
-  flat-pieces : (o : Option Item) → Flat o → sightPieces key (sightOf o) ≡ fieldPieces key o
-  unfolding sightPieces fieldPieces encode sightOf
+  flat-pieces : (o : Option Item) → Flat o → keyHeadPieces key (keyHeadOf o) ≡ fieldPieces key o
+  unfolding keyHeadPieces fieldPieces encode keyHeadOf
   flat-pieces none f = refl
   flat-pieces (some (Item.uint v)) f = refl
   flat-pieces (some (Item.nint v)) f = refl
@@ -146,7 +146,7 @@ module _ (key : ℕ) where
   flat-pieces (some (Item.simple v)) f = refl
 
   -- put by its head, it is put
-  pub flat-put : (o : Option Item) → Flat o → (k : Sight) → k ≡ sightOf o → {s t : List ℕ} {p q : ℕ} → PutsField s p (sightPieces key k) (sightBytes key k) t q
+  pub flat-put : (o : Option Item) → Flat o → (k : KeyHead) → k ≡ keyHeadOf o → {s t : List ℕ} {p q : ℕ} → PutsField s p (keyHeadPieces key k) (keyHeadBytes key k) t q
       → PutsField s p (fieldPieces key o) (fieldBytes key o) t q
   flat-put o f k e h = rw (← flat-bytes o f, ← flat-pieces o f, ← e) h
 

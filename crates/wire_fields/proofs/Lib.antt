@@ -1,7 +1,7 @@
 -- What the proofs of several functions use, and the laws that callers cite.
 pub mod Joined
 pub mod Signs
-pub mod BySight
+pub mod ByKeyHead
 pub mod RangeLaws
 pub mod Parts
 pub mod Added

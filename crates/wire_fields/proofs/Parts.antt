@@ -7,23 +7,23 @@ use mathlib.Core.Option.{Option, some, none, bind, Option·map}
 use native.Mathlib.Omega.{arith}
 use Rattle.wire_cbor.specs.Item.{Item, Pairs}
 use Rattle.wire_cbor.specs.Find.{valueOf}
-use Rattle.wire_cbor.specs.Scan.{KEYS, LEVELS, sightOf, mapAt, sightAt}
-use Rattle.wire_cbor.proofs.Passes.{sight-exact}
+use Rattle.wire_cbor.specs.Scan.{KEYS, LEVELS, keyHeadOf, mapAt, keyHeadAt}
+use Rattle.wire_cbor.proofs.Passes.{key-head-exact}
 use Rattle.wire_messages.specs.declared.Amount.{Amount}
 use Rattle.wire_messages.specs.declared.Aim.{Aim}
-use Rattle.wire_fields.specs.Fields.{upTo, optional, aimIn, amountIn}
-use Rattle.wire_fields.specs.Sights.{found, aimOf, Shown}
-use Rattle.wire_fields.proofs.BySight.{map-found}
+use Rattle.wire_fields.specs.Fields.{numberUpTo, optional, aimIn, amountIn}
+use Rattle.wire_fields.specs.KeyHeads.{found, aimOf, Shown}
+use Rattle.wire_fields.proofs.ByKeyHead.{map-found}
 
 -- PLACES
 module _ (ws : List ℕ) (path : ℕ) (ps : Pairs) (h : Shown ws path ps) where
   -- what is seen under a small key of the map at a level
-  pub shown : (level key : ℕ) → level < LEVELS → key < KEYS → sightAt ws level key ≡ sightOf (valueOf (mapAt level path ps) key)
+  pub shown : (level key : ℕ) → level < LEVELS → key < KEYS → keyHeadAt ws level key ≡ keyHeadOf (valueOf (mapAt level path ps) key)
   unfolding Shown
-  shown level key l k = ap (λ (x : List ℕ). sightAt x level key) h ∙ sight-exact path ps level key l k
+  shown level key l k = ap (λ (x : List ℕ). keyHeadAt x level key) h ∙ key-head-exact path ps level key l k
 
   -- and of the payload's own
-  pub top : (key : ℕ) → key < KEYS → sightAt ws 0 key ≡ sightOf (valueOf ps key)
+  pub top : (key : ℕ) → key < KEYS → keyHeadAt ws 0 key ≡ keyHeadOf (valueOf ps key)
   unfolding mapAt
   top key k = shown 0 key (omega arith) k
 
@@ -52,4 +52,4 @@ map-map f g h e none = refl
 pub aim-amount : (o : Option Item) → aimIn o ≡ Option·map aimOf (amountIn 1 o)
 unfolding aimIn amountIn optional
 aim-amount none = refl
-aim-amount (some i) = map-map aimOf Amount.Is Aim.One (λ x. refl) (upTo 1 i)
+aim-amount (some i) = map-map aimOf Amount.Is Aim.One (λ x. refl) (numberUpTo 1 i)

@@ -9,13 +9,13 @@ use lib.Dec.{ltb, leb, eqb}
 use lib.IntN.{ℤ, pos, negsuc}
 use borrow.Author.Tests.{ltb-true, ltb-false, leb-true, leb-false, lt-ltb, le-ltb}
 use Rattle.wire_cbor.specs.Item.{Item, isSome}
-use Rattle.wire_cbor.specs.Scan.{sightOf}
-use Rattle.wire_cbor.specs.declared.sights.Sight.{Sight}
+use Rattle.wire_cbor.specs.Scan.{keyHeadOf}
+use Rattle.wire_cbor.specs.declared.heads.KeyHead.{KeyHead}
 use Rattle.wire_messages.specs.declared.Field.{Field}
 use Rattle.wire_messages.specs.declared.Amount.{Amount}
-use Rattle.wire_fields.specs.Fields.{upTo, inRange, signed, optional, valueIn, amountIn}
+use Rattle.wire_fields.specs.Fields.{numberUpTo, inRange, signed, optional, valueIn, amountIn}
 use Rattle.wire_fields.specs.Ranges.{within, whenWithin, signedBits, numberIn, isNull, numeric}
-use Rattle.wire_fields.specs.Sights.{found, Reads, Tells, numberSeen, fieldOf, amountOf}
+use Rattle.wire_fields.specs.KeyHeads.{found, Reads, Tells, numberSeen, fieldOf, amountOf}
 use Rattle.wire_fields.specs.Seen.{numericSeen}
 use Rattle.wire_fields.specs.Laws.{UpToByRange, SignedByRange, ValuesByRange, AmountsByRange}
 use Rattle.wire_fields.specs.declared.ranges.Range.{Range}
@@ -25,7 +25,7 @@ none-below-zero : (n : ℕ) → ltb n 0 ≡ false
 none-below-zero n = le-ltb n 0 (omega arith)
 
 pub up-to-by-range : UpToByRange
-unfolding upTo numberIn within
+unfolding numberUpTo numberIn within
 up-to-by-range most (Item.uint n) = go (leb n most)
   where
     go : (b : Bool) → Option·map pos (cond b (some n) none) ≡ cond b (some (pos n)) none
@@ -77,12 +77,12 @@ signed-by-range (Item.simple v) = go (eqb v 22)
 
 -- FIELDS
 module _ (n : ℕ) (h : n < 2 ^ 63) where
-  plain-field : fieldOf (sightOf (some (Item.uint n))) ≡ Field.Value (pos n)
-  unfolding fieldOf sightOf
+  plain-field : fieldOf (keyHeadOf (some (Item.uint n))) ≡ Field.Value (pos n)
+  unfolding fieldOf keyHeadOf
   plain-field = rw (mod-eq-of-lt h) refl
 
-  minus-field : fieldOf (sightOf (some (Item.nint n))) ≡ Field.Value (negsuc n)
-  unfolding fieldOf sightOf
+  minus-field : fieldOf (keyHeadOf (some (Item.nint n))) ≡ Field.Value (negsuc n)
+  unfolding fieldOf keyHeadOf
   minus-field = rw (mod-eq-of-lt h) refl
 
 -- what is no number may be null
@@ -97,7 +97,7 @@ or-null false true = refl
 or-null false false = refl
 
 pub values-by-range : ValuesByRange
-unfolding valueIn optional signed numeric numberIn within isNull fieldOf sightOf
+unfolding valueIn optional signed numeric numberIn within isNull fieldOf keyHeadOf
 values-by-range null none = refl
 values-by-range null (some (Item.uint n)) = value-within n (pos n) (leb n 9223372036854775807) (high-yes n) (high-no n) null _ (plain-field n)
 values-by-range null (some (Item.nint n)) = value-within n (negsuc n) (ltb n (2 ^ 63)) (ltb-true n (2 ^ 63)) (ltb-false n (2 ^ 63)) null _ (minus-field n)
@@ -108,7 +108,7 @@ values-by-range null (some (Item.map ps)) = no-number null _
 values-by-range null (some (Item.simple v)) = or-null null (eqb v 22)
 
 pub amounts-by-range : AmountsByRange
-unfolding amountIn optional upTo numeric numberIn within amountOf sightOf
+unfolding amountIn optional numberUpTo numeric numberIn within amountOf keyHeadOf
 amounts-by-range most none = refl
 amounts-by-range most (some (Item.uint n)) = go (leb n most)
   where
@@ -140,8 +140,8 @@ minus-within : (g : Range) (n : ℕ) → within g (negsuc n) ≡ ltb n (g .below
 unfolding within
 minus-within g n = refl
 
-numeric-seen : (g : Range) (null : Bool) (o : Option Item) → numeric g null o ≡ numericSeen g null (sightOf o)
-unfolding numeric numberIn isNull sightOf
+numeric-seen : (g : Range) (null : Bool) (o : Option Item) → numeric g null o ≡ numericSeen g null (keyHeadOf o)
+unfolding numeric numberIn isNull keyHeadOf
 numeric-seen g null none = refl
 numeric-seen g null (some (Item.uint n)) = inside g (pos n) null ∙ plain-within g n
 numeric-seen g null (some (Item.nint n)) = inside g (negsuc n) null ∙ minus-within g n
@@ -151,10 +151,10 @@ numeric-seen g null (some (Item.array is)) = refl
 numeric-seen g null (some (Item.map ps)) = refl
 numeric-seen g null (some (Item.simple v)) = refl
 
-pub number-tells : (g : Range) (null : Bool) (k : Sight) (r : Bool) → r ≡ numericSeen g null k → Tells k (numeric g null) r
+pub number-tells : (g : Range) (null : Bool) (k : KeyHead) (r : Bool) → r ≡ numericSeen g null k → Tells k (numeric g null) r
 unfolding Tells
 number-tells g null k r e o q = numeric-seen g null o ∙ ap (numericSeen g null) (sym q) ∙ sym e
 
-pub value-reads : (null : Bool) (k : Sight) (r : Bool) → Tells k (numeric (signedBits 64) null) r → (f : Field) → f ≡ fieldOf k → Reads k (valueIn null) r f
+pub value-reads : (null : Bool) (k : KeyHead) (r : Bool) → Tells k (numeric (signedBits 64) null) r → (f : Field) → f ≡ fieldOf k → Reads k (valueIn null) r f
 unfolding Tells Reads
 value-reads null k r h f e o q = values-by-range null o ∙ rw (h o q, e, q) refl

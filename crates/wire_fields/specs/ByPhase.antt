@@ -7,16 +7,16 @@ use mathlib.Core.Option.{Option, some, none, bind}
 use lib.Dec.{ltb, eqb}
 use Rattle.wire_cbor.specs.Item.{Item, Pairs, countPairs, isSome}
 use Rattle.wire_cbor.specs.Find.{valueOf}
-use Rattle.wire_cbor.specs.Scan.{sightOf, pairsIn}
-use Rattle.wire_cbor.specs.declared.sights.Sight.{Sight}
+use Rattle.wire_cbor.specs.Scan.{keyHeadOf, pairsIn}
+use Rattle.wire_cbor.specs.declared.heads.KeyHead.{KeyHead}
 use Rattle.wire_messages.specs.declared.Field.{Field}
 use Rattle.wire_messages.specs.declared.Amount.{Amount}
 use Rattle.wire_messages.specs.declared.Phases.{Phases}
 use Rattle.wire_messages.specs.declared.CurrentResult.{CurrentResult}
 use Rattle.wire_fields.specs.Fields.{mapIn, needed, valueIn, amountIn, valueItem, amountItem, Fields, present}
 use Rattle.wire_fields.specs.Ranges.{numeric}
-use Rattle.wire_fields.specs.Puts.{Puts, pairRoom, pairsOf, sightBytes, sightPieces, putEach, pastEach}
-use Rattle.wire_fields.specs.Sights.{found}
+use Rattle.wire_fields.specs.Puts.{Puts, pairRoom, pairsOf, keyHeadBytes, keyHeadPieces, putEach, pastEach}
+use Rattle.wire_fields.specs.KeyHeads.{found}
 use Rattle.wire_fields.specs.declared.ranges.Range.{Range}
 
 -- READING
@@ -61,20 +61,20 @@ phasesFit g null o =
     isSome (needed mapIn o)
     && (onlyPhases (pairsIn o) && (numeric g null (valueOf (pairsIn o) 0) && (numeric g null (valueOf (pairsIn o) 1) && numeric g null (valueOf (pairsIn o) 2))))
 
--- how many pairs a sight is of
-abbrev pub seenOf : Sight → ℕ
+-- how many pairs a head is of
+abbrev pub seenOf : KeyHead → ℕ
 seenOf k = cond (ltb (k .major) 8) 1 0
 
 -- of every field that is seen as k, its phases as a, b and c, that test is true or false
-unfoldable pub PhasesTell : Sight → Sight → Sight → Sight → (Option Item → Bool) → Bool → Type 0
+unfoldable pub PhasesTell : KeyHead → KeyHead → KeyHead → KeyHead → (Option Item → Bool) → Bool → Type 0
 PhasesTell k a b c f r =
-    (o : Option Item) → k ≡ sightOf o → a ≡ sightOf (valueOf (pairsIn o) 0) → b ≡ sightOf (valueOf (pairsIn o) 1) → c ≡ sightOf (valueOf (pairsIn o) 2)
+    (o : Option Item) → k ≡ keyHeadOf o → a ≡ keyHeadOf (valueOf (pairsIn o) 0) → b ≡ keyHeadOf (valueOf (pairsIn o) 1) → c ≡ keyHeadOf (valueOf (pairsIn o) 2)
     → f o ≡ r
 
 -- of every field that is seen as k, its phases as a, b and c, f makes that answer
-unfoldable pub PhasesRead : {Y : Type 0} → Sight → Sight → Sight → Sight → (Option Item → Option Y) → Bool → Y → Type 0
+unfoldable pub PhasesRead : {Y : Type 0} → KeyHead → KeyHead → KeyHead → KeyHead → (Option Item → Option Y) → Bool → Y → Type 0
 PhasesRead k a b c f ok y =
-    (o : Option Item) → k ≡ sightOf o → a ≡ sightOf (valueOf (pairsIn o) 0) → b ≡ sightOf (valueOf (pairsIn o) 1) → c ≡ sightOf (valueOf (pairsIn o) 2)
+    (o : Option Item) → k ≡ keyHeadOf o → a ≡ keyHeadOf (valueOf (pairsIn o) 0) → b ≡ keyHeadOf (valueOf (pairsIn o) 1) → c ≡ keyHeadOf (valueOf (pairsIn o) 2)
     → f o ≡ found ok y
 
 -- WRITING
@@ -97,11 +97,11 @@ abbrev pub phasesRoom : ℕ
 phasesRoom = 4 * pairRoom
 
 -- the pairs of a map of phases that are to be seen as a, b and c
-abbrev pub phasesBytes : Sight → Sight → Sight → List ℕ
-phasesBytes a b c = (sightBytes 0 a ++ sightBytes 1 b) ++ sightBytes 2 c
+abbrev pub phasesBytes : KeyHead → KeyHead → KeyHead → List ℕ
+phasesBytes a b c = (keyHeadBytes 0 a ++ keyHeadBytes 1 b) ++ keyHeadBytes 2 c
 
 -- from s, written up to p, to t, written up to q: each piece of those pairs, and with room for three pairs the bytes that they are
-pub record PutsPhases (s : List ℕ) (p : ℕ) (a b c : Sight) (t : List ℕ) (q : ℕ) : Type 0 where
-  pub left : t ≡ putEach s p (sightPieces 0 a ++ (sightPieces 1 b ++ sightPieces 2 c))
-  pub past : q ≡ pastEach s p (sightPieces 0 a ++ (sightPieces 1 b ++ sightPieces 2 c))
+pub record PutsPhases (s : List ℕ) (p : ℕ) (a b c : KeyHead) (t : List ℕ) (q : ℕ) : Type 0 where
+  pub left : t ≡ putEach s p (keyHeadPieces 0 a ++ (keyHeadPieces 1 b ++ keyHeadPieces 2 c))
+  pub past : q ≡ pastEach s p (keyHeadPieces 0 a ++ (keyHeadPieces 1 b ++ keyHeadPieces 2 c))
   pub puts : Puts s p (phasesBytes a b c) (3 * pairRoom) t q

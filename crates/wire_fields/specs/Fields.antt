@@ -13,14 +13,14 @@ use Rattle.wire_messages.specs.declared.Aim.{Aim}
 
 -- THE KINDS OF VALUE
 -- an unsigned number, at most `most`
-unfoldable pub upTo : ℕ → Item → Option ℕ
-upTo most (Item.uint v) = cond (leb v most) (some v) none
-upTo most (Item.nint v) = none
-upTo most (Item.bytes b) = none
-upTo most (Item.text b) = none
-upTo most (Item.array is) = none
-upTo most (Item.map ps) = none
-upTo most (Item.simple v) = none
+unfoldable pub numberUpTo : ℕ → Item → Option ℕ
+numberUpTo most (Item.uint v) = cond (leb v most) (some v) none
+numberUpTo most (Item.nint v) = none
+numberUpTo most (Item.bytes b) = none
+numberUpTo most (Item.text b) = none
+numberUpTo most (Item.array is) = none
+numberUpTo most (Item.map ps) = none
+numberUpTo most (Item.simple v) = none
 
 -- false or true
 unfoldable pub truth : Item → Option Bool
@@ -81,11 +81,11 @@ valueIn null o = optional Field.Absent (λ f. f) (signed null) o
 
 -- "an optional direction (key 1, 0 or 1)"
 unfoldable pub aimIn : Option Item → Option Aim
-aimIn o = optional Aim.Both Aim.One (upTo 1) o
+aimIn o = optional Aim.Both Aim.One (numberUpTo 1) o
 
 -- a value of a response, left out when absent
 unfoldable pub amountIn : ℕ → Option Item → Option Amount
-amountIn most o = optional Amount.Absent Amount.Is (upTo most) o
+amountIn most o = optional Amount.Absent Amount.Is (numberUpTo most) o
 
 -- "a false where true is shown" is refused
 abbrev pub onlyTrue : Bool → Option Bool

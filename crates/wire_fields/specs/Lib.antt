@@ -1,7 +1,7 @@
 pub mod Fields
 pub mod Ranges
 pub mod Puts
-pub mod Sights
+pub mod KeyHeads
 pub mod ByPhase
 pub mod Laws
 pub mod Values

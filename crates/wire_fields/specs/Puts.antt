@@ -9,7 +9,7 @@ use lib.Dec.{ltb}
 use Rattle.wire_bytes.specs.Bytes.{putWhole, pastWhole}
 use Rattle.wire_heads.specs.Head.{headBytes, headOf}
 use Rattle.wire_cbor.specs.Item.{Item, encode}
-use Rattle.wire_cbor.specs.declared.sights.Sight.{Sight}
+use Rattle.wire_cbor.specs.declared.heads.KeyHead.{KeyHead}
 
 -- from s, written up to p, to t, written up to q: bs was added, of at most `most` bytes
 pub record Adds (s : List ℕ) (p : ℕ) (bs : List ℕ) (most : ℕ) (t : List ℕ) (q : ℕ) : Type 0 where
@@ -32,8 +32,8 @@ fieldBytes key (some i) = headBytes 0 key ++ encode i
 fieldBytes key none = []
 
 -- what is to be seen under a key: nothing where nothing is
-unfoldable pub sightBytes : ℕ → Sight → List ℕ
-sightBytes key k = cond (ltb (k .major) 8) (pairBytes key (k .major) (k .arg)) []
+unfoldable pub keyHeadBytes : ℕ → KeyHead → List ℕ
+keyHeadBytes key k = cond (ltb (k .major) 8) (pairBytes key (k .major) (k .arg)) []
 
 -- a key and a head have at most this many bytes
 abbrev pub pairRoom : ℕ
@@ -62,8 +62,8 @@ unfoldable pub fieldPieces : ℕ → Option Item → List (List ℕ)
 fieldPieces key (some i) = headBytes 0 key ∷ encode i ∷ []
 fieldPieces key none = []
 
-unfoldable pub sightPieces : ℕ → Sight → List (List ℕ)
-sightPieces key k = cond (ltb (k .major) 8) (pairPieces key (k .major) (k .arg)) []
+unfoldable pub keyHeadPieces : ℕ → KeyHead → List (List ℕ)
+keyHeadPieces key k = cond (ltb (k .major) 8) (pairPieces key (k .major) (k .arg)) []
 
 -- from s, written up to p, to t, written up to q: these pieces, and with room for a pair the bytes that they are
 pub record PutsField (s : List ℕ) (p : ℕ) (pieces : List (List ℕ)) (bs : List ℕ) (t : List ℕ) (q : ℕ) : Type 0 where

@@ -1,5 +1,5 @@
 // A map from phases, A 0, B 1 and C 2, to numbers: read by what is seen of it, and written behind its head.
-use crate::puts::put_sight;
+use crate::puts::put_key_head;
 use crate::ranges::INT64;
 use crate::ranges::Range;
 use crate::ranges::is_number;
@@ -8,7 +8,7 @@ use crate::truths::all4;
 use crate::truths::both;
 use crate::values::amount_of;
 use crate::values::field_of;
-use wire_cbor::Sight;
+use wire_cbor::KeyHead;
 use wire_messages::CurrentResult;
 use wire_messages::Phases;
 ghost use mathlib.Core.Path.{_≡_};
@@ -30,8 +30,8 @@ pub struct Amounts {
     pub result: CurrentResult,
 }
 
-// How many pairs a sight is of.
-fn seen(k: Sight) -> u64
+// How many pairs a head is of.
+fn seen(k: KeyHead) -> u64
     ensures { λ r. ⌜ r ≡ seenOf k ⌝ }
 {
     if k.major < 8 {
@@ -41,14 +41,14 @@ fn seen(k: Sight) -> u64
 }
 
 // How many pairs a map of phases has that are seen, or are to be seen, as a, b and c.
-pub fn count_phases(a: Sight, b: Sight, c: Sight) -> u64
+pub fn count_phases(a: KeyHead, b: KeyHead, c: KeyHead) -> u64
     ensures { λ r. ⌜ r ≡ seenOf a + (seenOf b + seenOf c) ⌝ }
 {
     seen(a) + (seen(b) + seen(c))
 }
 
 // Whether a map is there with nothing but its phases, which are seen as a, b and c.
-fn only_phases(k: Sight, a: Sight, b: Sight, c: Sight) -> bool
+fn only_phases(k: KeyHead, a: KeyHead, b: KeyHead, c: KeyHead) -> bool
     ensures { λ r. ⌜ r ≡ (eqb (k .major) 5 && eqb (k .arg) (seenOf a + (seenOf b + seenOf c))) ⌝ }
 {
     let n = count_phases(a, b, c);
@@ -56,7 +56,7 @@ fn only_phases(k: Sight, a: Sight, b: Sight, c: Sight) -> bool
 }
 
 // Whether a map of phases is there, each a number of a range, or null where that is allowed, or absent.
-pub fn is_phases(k: Sight, a: Sight, b: Sight, c: Sight, range: Range, null: bool) -> bool
+pub fn is_phases(k: KeyHead, a: KeyHead, b: KeyHead, c: KeyHead, range: Range, null: bool) -> bool
     ensures { λ r. ⌜ PhasesTell k a b c (phasesFit range null) r ⌝ }
     ensures { λ r. ⌜ r ≡ phasesSeen range null k a b c ⌝ }
 {
@@ -69,7 +69,7 @@ pub fn is_phases(k: Sight, a: Sight, b: Sight, c: Sight, range: Range, null: boo
 }
 
 // A map of phases to signed numbers, or null where that is allowed, as fields.
-pub fn read_phases(k: Sight, a: Sight, b: Sight, c: Sight, null: bool) -> Fields
+pub fn read_phases(k: KeyHead, a: KeyHead, b: KeyHead, c: KeyHead, null: bool) -> Fields
     ensures { λ r. ⌜ PhasesRead k a b c (phasesIn null) (r .ok) (r .phases) ⌝ }
     ensures { λ r. ⌜ r ≡ fieldsSeen null k a b c ⌝ }
 {
@@ -85,7 +85,7 @@ pub fn read_phases(k: Sight, a: Sight, b: Sight, c: Sight, null: bool) -> Fields
 }
 
 // A map of phases to unsigned numbers of at most `most`, as amounts.
-pub fn read_currents(k: Sight, a: Sight, b: Sight, c: Sight, most: u64) -> Amounts
+pub fn read_currents(k: KeyHead, a: KeyHead, b: KeyHead, c: KeyHead, most: u64) -> Amounts
     ensures { λ r. ⌜ PhasesRead k a b c (currentsIn most) (r .ok) (r .result) ⌝ }
     ensures { λ r. ⌜ r ≡ amountsSeen most k a b c ⌝ }
 {
@@ -101,10 +101,10 @@ pub fn read_currents(k: Sight, a: Sight, b: Sight, c: Sight, most: u64) -> Amoun
 }
 
 // The pairs of a map of phases, which are to be seen as a, b and c; its head stands before them, with their count.
-pub fn put_phases(out: &mut [u8], at: usize, a: Sight, b: Sight, c: Sight) -> usize
+pub fn put_phases(out: &mut [u8], at: usize, a: KeyHead, b: KeyHead, c: KeyHead) -> usize
     ensures { λ r. ⌜ PutsPhases (now (out .entry)) at a b c (now (out .exit)) r ⌝ }
 {
-    let x = put_sight(out, at, 0, a);
-    let y = put_sight(out, x, 1, b);
-    put_sight(out, y, 2, c)
+    let x = put_key_head(out, at, 0, a);
+    let y = put_key_head(out, x, 1, b);
+    put_key_head(out, y, 2, c)
 }

@@ -1,14 +1,14 @@
 // Fields of a map, each added behind what is written. A head that does not fit is passed over.
-use wire_cbor::Sight;
+use wire_cbor::KeyHead;
 use wire_messages::Amount;
 use wire_messages::Field;
 ghost use mathlib.Core.Path.{_≡_};
 ghost use Prim.Native.Nat.{_<_};
 ghost use mathlib.Core.Option.{some};
 ghost use Rattle.wire_cbor.specs.Item.{Item};
-ghost use Rattle.wire_cbor.specs.Scan.{sightOf};
+ghost use Rattle.wire_cbor.specs.Scan.{keyHeadOf};
 ghost use Rattle.wire_fields.specs.Fields.{truthItem, valueItem, amountItem};
-ghost use Rattle.wire_fields.specs.Puts.{PutsField, pairBytes, fieldBytes, sightBytes, pairPieces, fieldPieces, sightPieces, pairsOf};
+ghost use Rattle.wire_fields.specs.Puts.{PutsField, pairBytes, fieldBytes, keyHeadBytes, pairPieces, fieldPieces, keyHeadPieces, pairsOf};
 
 // A key, and the head of its value.
 fn put_pair(out: &mut [u8], at: usize, key: u64, major: u64, arg: u64) -> usize
@@ -44,8 +44,8 @@ pub fn put_truth(out: &mut [u8], at: usize, key: u64, b: bool) -> usize
 }
 
 // What is to be seen under a key: its head, or nothing.
-pub fn put_sight(out: &mut [u8], at: usize, key: u64, k: Sight) -> usize
-    ensures { λ r. ⌜ PutsField (now (out .entry)) at (sightPieces key k) (sightBytes key k) (now (out .exit)) r ⌝ }
+pub fn put_key_head(out: &mut [u8], at: usize, key: u64, k: KeyHead) -> usize
+    ensures { λ r. ⌜ PutsField (now (out .entry)) at (keyHeadPieces key k) (keyHeadBytes key k) (now (out .exit)) r ⌝ }
 {
     if k.major < 8 {
         return put_pair(out, at, key, k.major, k.arg);
@@ -54,30 +54,30 @@ pub fn put_sight(out: &mut [u8], at: usize, key: u64, k: Sight) -> usize
 }
 
 // An unsigned number as it is to be seen, or nothing.
-pub fn amount_sight(a: Amount) -> Sight
-    ensures { λ r. ⌜ r ≡ sightOf (amountItem a) ⌝ }
+pub fn amount_key_head(a: Amount) -> KeyHead
+    ensures { λ r. ⌜ r ≡ keyHeadOf (amountItem a) ⌝ }
 {
     match a {
-        Amount::Absent => Sight { major: 8, arg: 8 },
-        Amount::Is(v) => Sight { major: 0, arg: v },
+        Amount::Absent => KeyHead { major: 8, arg: 8 },
+        Amount::Is(v) => KeyHead { major: 0, arg: v },
     }
 }
 
 // A signed number, null or nothing: n is major type 0 with n, -1 - n is major type 1 with n.
-pub fn field_sight(f: Field) -> Sight
-    ensures { λ r. ⌜ r ≡ sightOf (valueItem f) ⌝ }
+pub fn field_key_head(f: Field) -> KeyHead
+    ensures { λ r. ⌜ r ≡ keyHeadOf (valueItem f) ⌝ }
 {
     match f {
-        Field::Absent => Sight { major: 8, arg: 8 },
-        Field::Null => Sight { major: 7, arg: 22 },
+        Field::Absent => KeyHead { major: 8, arg: 8 },
+        Field::Null => KeyHead { major: 7, arg: 22 },
         Field::Value(v) => {
             if v < 0 {
-                return Sight {
+                return KeyHead {
                     major: 1,
                     arg: (-1 - v) as u64,
                 };
             }
-            Sight {
+            KeyHead {
                 major: 0,
                 arg: v as u64,
             }
@@ -89,14 +89,14 @@ pub fn field_sight(f: Field) -> Sight
 pub fn put_amount(out: &mut [u8], at: usize, key: u64, a: Amount) -> usize
     ensures { λ r. ⌜ PutsField (now (out .entry)) at (fieldPieces key (amountItem a)) (fieldBytes key (amountItem a)) (now (out .exit)) r ⌝ }
 {
-    put_sight(out, at, key, amount_sight(a))
+    put_key_head(out, at, key, amount_key_head(a))
 }
 
 // A signed number, null or nothing.
 pub fn put_value(out: &mut [u8], at: usize, key: u64, f: Field) -> usize
     ensures { λ r. ⌜ PutsField (now (out .entry)) at (fieldPieces key (valueItem f)) (fieldBytes key (valueItem f)) (now (out .exit)) r ⌝ }
 {
-    put_sight(out, at, key, field_sight(f))
+    put_key_head(out, at, key, field_key_head(f))
 }
 
 // How many pairs a field is.

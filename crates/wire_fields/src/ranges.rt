@@ -2,10 +2,10 @@
 use crate::truths::all3;
 use crate::truths::both;
 use crate::truths::either;
-use wire_cbor::Sight;
+use wire_cbor::KeyHead;
 ghost use mathlib.Core.Path.{_≡_};
 ghost use Rattle.wire_fields.specs.Ranges.{upToMost, numeric};
-ghost use Rattle.wire_fields.specs.Sights.{numberSeen, Tells};
+ghost use Rattle.wire_fields.specs.KeyHeads.{numberSeen, Tells};
 ghost use Rattle.wire_fields.specs.Seen.{numericSeen};
 
 // Whole numbers: n is one of them where it is at most `high`, -1 - n where n is below `below`.
@@ -31,7 +31,7 @@ pub fn up_to(most: u64) -> Range
 }
 
 // Whether a number of a range is there.
-pub fn is_in(k: Sight, range: Range) -> bool
+pub fn is_in(k: KeyHead, range: Range) -> bool
     ensures { λ r. ⌜ r ≡ numberSeen range k ⌝ }
 {
     if k.major == 0 {
@@ -41,7 +41,7 @@ pub fn is_in(k: Sight, range: Range) -> bool
 }
 
 // The same, or nothing, or null where that is allowed.
-pub fn is_number(k: Sight, range: Range, null: bool) -> bool
+pub fn is_number(k: KeyHead, range: Range, null: bool) -> bool
     ensures { λ r. ⌜ Tells k (numeric range null) r ⌝ }
     ensures { λ r. ⌜ r ≡ numericSeen range null k ⌝ }
 {

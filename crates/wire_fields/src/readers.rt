@@ -6,13 +6,13 @@ use crate::ranges::up_to;
 use crate::truths::both;
 use crate::truths::either;
 use crate::values::field_of;
-use wire_cbor::Sight;
+use wire_cbor::KeyHead;
 use wire_messages::Field;
 ghost use lib.Dec.{eqb};
 ghost use mathlib.Core.Path.{_≡_};
 ghost use mathlib.Core.Bool.{true};
 ghost use Rattle.wire_fields.specs.Fields.{truth, needed, valueIn, successIn};
-ghost use Rattle.wire_fields.specs.Sights.{Reads, UintReads, MapReads};
+ghost use Rattle.wire_fields.specs.KeyHeads.{Reads, UintReads, MapReads};
 ghost use Rattle.wire_fields.specs.Seen.{uintSeen, valueSeen, truthSeen, successSeen, mapSeen};
 
 // A signed number, null or nothing; not `ok` is refusal 3.
@@ -22,7 +22,7 @@ pub struct Value {
 }
 
 // Whether an unsigned number of at most `most` is there, or nothing where it need not be.
-pub fn is_uint(k: Sight, must: bool, most: u64) -> bool
+pub fn is_uint(k: KeyHead, must: bool, most: u64) -> bool
     ensures { λ r. ⌜ UintReads k must most r ⌝ }
     ensures { λ r. ⌜ r ≡ uintSeen must most k ⌝ }
 {
@@ -30,7 +30,7 @@ pub fn is_uint(k: Sight, must: bool, most: u64) -> bool
 }
 
 // A signed number, or null where that is allowed, or nothing.
-pub fn read_value(k: Sight, null: bool) -> Value
+pub fn read_value(k: KeyHead, null: bool) -> Value
     ensures { λ r. ⌜ Reads k (valueIn null) (r .ok) (r .field) ⌝ }
     ensures { λ r. ⌜ r ≡ valueSeen null k ⌝ }
 {
@@ -41,7 +41,7 @@ pub fn read_value(k: Sight, null: bool) -> Value
 }
 
 // Whether false or true is there.
-pub fn is_truth(k: Sight) -> bool
+pub fn is_truth(k: KeyHead) -> bool
     ensures { λ r. ⌜ Reads k (needed truth) r (eqb (k .arg) 21) ⌝ }
     ensures { λ r. ⌜ r ≡ truthSeen k ⌝ }
 {
@@ -49,7 +49,7 @@ pub fn is_truth(k: Sight) -> bool
 }
 
 // Whether true is there.
-pub fn is_success(k: Sight) -> bool
+pub fn is_success(k: KeyHead) -> bool
     ensures { λ r. ⌜ Reads k successIn r true ⌝ }
     ensures { λ r. ⌜ r ≡ successSeen k ⌝ }
 {
@@ -57,7 +57,7 @@ pub fn is_success(k: Sight) -> bool
 }
 
 // Whether a map is there.
-pub fn is_map(k: Sight) -> bool
+pub fn is_map(k: KeyHead) -> bool
     ensures { λ r. ⌜ MapReads k r ⌝ }
     ensures { λ r. ⌜ r ≡ mapSeen k ⌝ }
 {

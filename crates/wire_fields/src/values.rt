@@ -1,5 +1,5 @@
 // Which number the head says that was seen under a key: an unsigned one, or a signed one or null.
-use wire_cbor::Sight;
+use wire_cbor::KeyHead;
 use wire_messages::Amount;
 use wire_messages::Field;
 ghost use mathlib.Core.Path.{_≡_};
@@ -9,7 +9,7 @@ ghost use Rattle.wire_fields.specs.Values.{amountOf, fieldOf};
 const LIMIT: u64 = 9223372036854775808;
 
 // The number that is there, or none.
-pub fn amount_of(k: Sight) -> Amount
+pub fn amount_of(k: KeyHead) -> Amount
     ensures { λ r. ⌜ r ≡ amountOf k ⌝ }
 {
     if k.major == 0 {
@@ -20,7 +20,7 @@ pub fn amount_of(k: Sight) -> Amount
 
 // The signed number that is there, null, or nothing: n is n in major type 0 and -1 - n in major type 1.
 // A number past 64 signed bits, which no reader accepts, counts by its low 63 bits: so there is nothing to test.
-pub fn field_of(k: Sight) -> Field
+pub fn field_of(k: KeyHead) -> Field
     ensures { λ r. ⌜ r ≡ fieldOf k ⌝ }
 {
     let v = (k.arg % LIMIT) as i64;

@@ -11,7 +11,7 @@ use Rattle.wire_cbor.specs.Item.{Item, Pairs}
 use Rattle.wire_messages.specs.declared.Field.{Field}
 use Rattle.wire_messages.specs.declared.Aim.{Aim}
 use Rattle.wire_messages.specs.declared.Amount.{Amount}
-use Rattle.wire_fields.specs.Fields.{upTo, truth, signed, mapIn, needed, optional, valueIn, aimIn, amountIn, successIn, onlyTrue, truthItem, valueItem, aimItem, amountItem}
+use Rattle.wire_fields.specs.Fields.{numberUpTo, truth, signed, mapIn, needed, optional, valueIn, aimIn, amountIn, successIn, onlyTrue, truthItem, valueItem, aimItem, amountItem}
 use Rattle.wire_requests.specs.WrittenRequests.{aimWide}
 use Rattle.wire_responses.specs.WrittenResponses.{amountUpTo}
 use Rattle.wire_laws.specs.RoundTrips.{Field64}
@@ -43,8 +43,8 @@ test-part : {X : Type 0} (b : Bool) (x y : X) → cond b (some x) none ≡ some 
 test-part true x y e = (refl, cc)
 test-part false x y e = absurd (no-value e)
 
-up-to : (most : ℕ) (i : Item) (v : ℕ) → upTo most i ≡ some v → (i ≡ Item.uint v) × (v ≤ most)
-unfolding upTo
+up-to : (most : ℕ) (i : Item) (v : ℕ) → numberUpTo most i ≡ some v → (i ≡ Item.uint v) × (v ≤ most)
+unfolding numberUpTo
 up-to most (Item.uint n) v e =
     let t = test-part (leb n most) n v e in
     (ap Item.uint (t .1), let l = leb-true n most (t .0) in omega (arith, t .1))
@@ -55,9 +55,9 @@ up-to most (Item.array is) v e = absurd (no-value e)
 up-to most (Item.map m) v e = absurd (no-value e)
 up-to most (Item.simple n) v e = absurd (no-value e)
 
-pub uint-again : (most : ℕ) (o : Option Item) (v : ℕ) → needed (upTo most) o ≡ some v → (o ≡ some (Item.uint v)) × (v ≤ most)
+pub uint-again : (most : ℕ) (o : Option Item) (v : ℕ) → needed (numberUpTo most) o ≡ some v → (o ≡ some (Item.uint v)) × (v ≤ most)
 uint-again most o v e =
-    let p = needed-part (upTo most) o v e in
+    let p = needed-part (numberUpTo most) o v e in
     let u = up-to most (p .0) v (p .2) in
     (p .1 ∙ ap some (u .0), u .1)
 
@@ -117,7 +117,7 @@ aim-again none a e = go a cc
     go Aim.Both x = (refl, refl)
     go (Aim.One d) x = absurd (let z : _≡_ {A = ℕ} 0 1 = cc in omega arith)
 aim-again (some i) a e =
-    let p = map-part Aim.One (upTo 1 i) a e in
+    let p = map-part Aim.One (numberUpTo 1 i) a e in
     let u = up-to 1 i (p .0) (p .1) in
     rw (← p .2) (ap some (u .0), le-ltb 1 (p .0) (u .1))
 
@@ -129,7 +129,7 @@ amount-again most none a e = go a cc
     go Amount.Absent x = (refl, refl)
     go (Amount.Is d) x = absurd (let z : _≡_ {A = ℕ} 0 1 = cc in omega arith)
 amount-again most (some i) a e =
-    let p = map-part Amount.Is (upTo most i) a e in
+    let p = map-part Amount.Is (numberUpTo most i) a e in
     let u = up-to most i (p .0) (p .1) in
     rw (← p .2) (ap some (u .0), le-leb (p .0) most (u .1))
 

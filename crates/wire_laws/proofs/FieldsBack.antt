@@ -14,15 +14,15 @@ use Rattle.wire_heads.proofs.Widths.{head-length, head-short}
 use Rattle.wire_messages.specs.declared.Field.{Field}
 use Rattle.wire_messages.specs.declared.Aim.{Aim}
 use Rattle.wire_messages.specs.declared.Amount.{Amount}
-use Rattle.wire_fields.specs.Fields.{upTo, truth, signed, needed, optional, valueIn, aimIn, amountIn, successIn, truthItem, valueItem, aimItem, amountItem}
+use Rattle.wire_fields.specs.Fields.{numberUpTo, truth, signed, needed, optional, valueIn, aimIn, amountIn, successIn, truthItem, valueItem, aimItem, amountItem}
 use Rattle.wire_requests.specs.WrittenRequests.{aimWide}
 use Rattle.wire_responses.specs.WrittenResponses.{amountUpTo}
 use Rattle.wire_fields.specs.Puts.{fieldBytes}
 use Rattle.wire_laws.specs.RoundTrips.{Field64}
 use Rattle.wire_laws.proofs.Maps.{OkField}
 
-pub uint-back : (most v : ℕ) → v ≤ most → needed (upTo most) (some (Item.uint v)) ≡ some v
-unfolding needed upTo
+pub uint-back : (most v : ℕ) → v ≤ most → needed (numberUpTo most) (some (Item.uint v)) ≡ some v
+unfolding needed numberUpTo
 uint-back most v h = rw (le-leb v most h)
 
 pub truth-back : (b : Bool) → needed truth (some (truthItem b)) ≡ some b
@@ -35,12 +35,12 @@ unfolding successIn needed truth bind
 success-back = refl
 
 pub aim-back : (a : Aim) → aimWide a ≡ false → aimIn (aimItem a) ≡ some a
-unfolding aimIn aimItem optional upTo
+unfolding aimIn aimItem optional numberUpTo
 aim-back Aim.Both h = refl
 aim-back (Aim.One d) h = rw (le-leb d 1 (ltb-false 1 d h))
 
 pub amount-back : (most : ℕ) (a : Amount) → amountUpTo most a ≡ true → amountIn most (amountItem a) ≡ some a
-unfolding amountIn amountItem optional upTo
+unfolding amountIn amountItem optional numberUpTo
 amount-back most Amount.Absent h = refl
 amount-back most (Amount.Is v) h = rw h
 

@@ -15,7 +15,7 @@ use Rattle.wire_messages.specs.Numbers.{servedAt, servedCommand}
 use Rattle.wire_messages.specs.declared.Command.{Command}
 use Rattle.wire_messages.specs.declared.Response.{Response}
 use Rattle.wire_messages.specs.declared.set_parameters.Setting.{Setting}
-use Rattle.wire_fields.specs.Fields.{upTo, mapIn, needed, optional, most32, valueIn, amountIn}
+use Rattle.wire_fields.specs.Fields.{numberUpTo, mapIn, needed, optional, most32, valueIn, amountIn}
 use Rattle.wire_fields.proofs.Joined.{no-both, is-some}
 use Rattle.wire_requests.specs.Settings.{settingIn, limitsFrom, currentLimitsIn}
 use Rattle.wire_requests.specs.Requests.{Envelope, envelopeIn, commandIn, withCommand, fromEnvelope, readRequest}
@@ -126,31 +126,31 @@ module _ (ps : Pairs) (z : valueOf ps 3 ≡ some (Item.uint 0)) where
   found = kept-value (λ k. not (eqb k 3)) ps
 
   limit-less : Option·map (λ s. Command.SetLimit (limitsFrom s)) (settingIn true less) ≡ Option·map (λ s. Command.SetLimit (limitsFrom s)) (settingIn true ps)
-  unfolding settingIn amountIn optional upTo bind limitsFrom
+  unfolding settingIn amountIn optional numberUpTo bind limitsFrom
   limit-less =
       let h : Option Setting → Option Command = Option·map (λ s. Command.SetLimit (limitsFrom s)) in
       rw (found 1, found 2, found 3, found 4, z)
-      (chain h (valueIn true (valueOf ps 1)) _ _ (λ c x. chain h (valueIn true (valueOf ps 2)) _ _ (λ p y. chain h (needed (upTo 255) (valueOf ps 4)) _ _ (λ k w. refl))))
+      (chain h (valueIn true (valueOf ps 1)) _ _ (λ c x. chain h (valueIn true (valueOf ps 2)) _ _ (λ p y. chain h (needed (numberUpTo 255) (valueOf ps 4)) _ _ (λ k w. refl))))
 
   currents-less : currentLimitsIn less ≡ currentLimitsIn ps
-  unfolding currentLimitsIn amountIn optional upTo bind
+  unfolding currentLimitsIn amountIn optional numberUpTo bind
   currents-less = rw (found 1, found 2, found 3, found 4, z) refl
 
-zero-there : (o : Option Item) → isSome (needed (upTo 0) o) ≡ true → o ≡ some (Item.uint 0)
+zero-there : (o : Option Item) → isSome (needed (numberUpTo 0) o) ≡ true → o ≡ some (Item.uint 0)
 zero-there o e =
-    let x = is-some (needed (upTo 0) o) e in
+    let x = is-some (needed (numberUpTo 0) o) e in
     let u = uint-again 0 o (x .0) (x .1) in
     u .0 ∙ ap (λ (n : ℕ). some (Item.uint n)) (omega (arith, u .1))
 
 zero-command : (c : ℕ) (ps : Pairs) → omitsZero c ≡ true → commandIn c (zeroOmitted ps) ≡ commandIn c ps
 unfolding zeroOmitted commandIn
-zero-command c ps o = go (isSome (needed (upTo 0) (valueOf ps 3))) refl
+zero-command c ps o = go (isSome (needed (numberUpTo 0) (valueOf ps 3))) refl
   where
     by : (z : valueOf ps 3 ≡ some (Item.uint 0)) (b : Bool) → eqb c 1 ≡ b → (b || eqb c 5) ≡ true → commandIn c (kept (λ k. not (eqb k 3)) ps) ≡ commandIn c ps
     by z true x e = rw (eqb-true c 1 x, limit-less ps z) refl
     by z false x e = rw (eqb-true c 5 e, currents-less ps z) refl
 
-    go : (b : Bool) → isSome (needed (upTo 0) (valueOf ps 3)) ≡ b → commandIn c (cond b (kept (λ k. not (eqb k 3)) ps) ps) ≡ commandIn c ps
+    go : (b : Bool) → isSome (needed (numberUpTo 0) (valueOf ps 3)) ≡ b → commandIn c (cond b (kept (λ k. not (eqb k 3)) ps) ps) ≡ commandIn c ps
     go true x = by (zero-there (valueOf ps 3) x) (eqb c 1) refl o
     go false x = refl
 
@@ -177,10 +177,10 @@ module _ (ps : Pairs) where
   unfolding envelopeIn commandOf
   request-under f h =
       rw (under-other 5 f ps 1 refl, under-other 5 f ps 2 refl, under-other 5 f ps 3 refl, under-other 5 f ps 4 refl, under-here 5 f ps, map-under 5 f (valueOf ps 5))
-      (chain fromEnvelope (needed (upTo most32) (valueOf ps 1)) _ _ (λ i x.
-      chain fromEnvelope (needed (upTo 255) (valueOf ps 2)) _ _ (λ p y.
-      chain fromEnvelope (needed (upTo 65535) (valueOf ps 3)) _ _ (λ q z.
-      chain fromEnvelope (needed (upTo 65535) (valueOf ps 4)) _ _ (λ c w.
+      (chain fromEnvelope (needed (numberUpTo most32) (valueOf ps 1)) _ _ (λ i x.
+      chain fromEnvelope (needed (numberUpTo 255) (valueOf ps 2)) _ _ (λ p y.
+      chain fromEnvelope (needed (numberUpTo 65535) (valueOf ps 3)) _ _ (λ q z.
+      chain fromEnvelope (needed (numberUpTo 65535) (valueOf ps 4)) _ _ (λ c w.
       parameters-alike i p q c f (λ m. subst (λ (o : Option ℕ). commandIn (orZero o) (f m) ≡ commandIn (orZero o) m) w (h m)) (needed mapIn (valueOf ps 5)))))))
 
   envelope-known : envelopeIn (known 5 ps) ≡ envelopeIn ps
@@ -249,7 +249,7 @@ response-known c ps =
     let f = known (resultKeys c) in
     let qs = under 3 f ps in
     rw (known-exact 3 qs 1, known-exact 3 qs 2, known-exact 3 qs 3, under-other 3 f ps 1 refl, under-other 3 f ps 2 refl, under-here 3 f ps)
-    (chain (λ o. o) (needed (upTo most32) (valueOf ps 1)) _ _ (λ i x. chain (λ o. o) (statusIn (valueOf ps 2)) _ _ (λ s y. rw (result-known c s (valueOf ps 3)) refl)))
+    (chain (λ o. o) (needed (numberUpTo most32) (valueOf ps 1)) _ _ (λ i x. chain (λ o. o) (statusIn (valueOf ps 2)) _ _ (λ s y. rw (result-known c s (valueOf ps 3)) refl)))
 
 -- FRAMES
 pub fits-carries : (ps : Pairs) → Fits ps → Carries (itemFrame (Item.map ps)) ps
@@ -296,7 +296,7 @@ response-less c ps = less-less (less-under _ (λ m. less-kept _ m) 3 ps) (less-k
 
 zero-less : (ps : Pairs) → Less ps (zeroOmitted ps)
 unfolding zeroOmitted
-zero-less ps = go (isSome (needed (upTo 0) (valueOf ps 3)))
+zero-less ps = go (isSome (needed (numberUpTo 0) (valueOf ps 3)))
   where
     go : (b : Bool) → Less ps (cond b (kept (λ k. not (eqb k 3)) ps) ps)
     go true = less-kept _ ps

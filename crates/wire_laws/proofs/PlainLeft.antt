@@ -8,7 +8,7 @@ use lib.Dec.{leb, eqb}
 use borrow.Author.Tests.{eqb-true, leb-false, ne-eqb}
 use Rattle.wire_cbor.specs.Item.{Item, Pairs, isSome}
 use Rattle.wire_cbor.specs.Find.{valueOf}
-use Rattle.wire_fields.specs.Fields.{upTo, needed}
+use Rattle.wire_fields.specs.Fields.{numberUpTo, needed}
 use Rattle.wire_fields.proofs.Joined.{no-both}
 use Rattle.wire_laws.specs.RoundTrips.{KeysTo, parameterKeys, resultKeys, omitsZero, PlainRequest}
 use Rattle.wire_laws.specs.PassedOver.{kept, inMap, under, known, orZero, commandOf, requestKnown, responseKnown, zeroOmitted, durationOmitted, RequestLeft, ResponseLeft}
@@ -40,14 +40,14 @@ left-there f (some (Item.map ps)) m e = (ps, refl, cc)
 left-there f (some (Item.simple v)) m e = absurd (let z : _≡_ {A = ℕ} 0 1 = cc in omega arith)
 
 -- THE ZERO
-zero-told : (o : Option Item) → o ≡ some (Item.uint 0) → isSome (needed (upTo 0) o) ≡ true
-unfolding needed upTo
+zero-told : (o : Option Item) → o ≡ some (Item.uint 0) → isSome (needed (numberUpTo 0) o) ≡ true
+unfolding needed numberUpTo
 zero-told o e = rw e refl
 
 module _ (ps : Pairs) where
   zero-keys : (n : ℕ) → KeysTo n ps → KeysTo n (zeroOmitted ps)
   unfolding zeroOmitted
-  zero-keys n h k e = go (isSome (needed (upTo 0) (valueOf ps 3)))
+  zero-keys n h k e = go (isSome (needed (numberUpTo 0) (valueOf ps 3)))
     where
       none-left : (b : Bool) → _≡_ {A = Option Item} (cond b none none) none
       none-left true = refl
@@ -59,9 +59,9 @@ module _ (ps : Pairs) where
 
   no-zero : valueOf (zeroOmitted ps) 3 ≡ some (Item.uint 0) → ⊥
   unfolding zeroOmitted
-  no-zero e = go (isSome (needed (upTo 0) (valueOf ps 3))) refl e
+  no-zero e = go (isSome (needed (numberUpTo 0) (valueOf ps 3))) refl e
     where
-      go : (b : Bool) → isSome (needed (upTo 0) (valueOf ps 3)) ≡ b → valueOf (cond b (kept (λ j. not (eqb j 3)) ps) ps) 3 ≡ some (Item.uint 0) → ⊥
+      go : (b : Bool) → isSome (needed (numberUpTo 0) (valueOf ps 3)) ≡ b → valueOf (cond b (kept (λ j. not (eqb j 3)) ps) ps) 3 ≡ some (Item.uint 0) → ⊥
       go true x y = no-value (sym (kept-value (λ j. not (eqb j 3)) ps 3) ∙ y)
       go false x y = no-both (sym (zero-told (valueOf ps 3) y) ∙ x)
 
@@ -75,8 +75,8 @@ module _ (c : ℕ) where
   named-alike true e = (refl, refl)
   named-alike false e = let l = large e in (rw (l .0, l .1, l .2) refl, rw (l .0, l .2) refl)
 
-  named : (o : Option Item) → o ≡ some (Item.uint c) → orZero (needed (upTo 65535) o) ≡ cond (leb c 65535) c 0
-  unfolding needed upTo
+  named : (o : Option Item) → o ≡ some (Item.uint c) → orZero (needed (numberUpTo 65535) o) ≡ cond (leb c 65535) c 0
+  unfolding needed numberUpTo
   named o e = rw e (go (leb c 65535))
     where
       go : (b : Bool) → orZero (cond b (some c) none) ≡ cond b c 0

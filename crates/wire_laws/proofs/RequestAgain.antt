@@ -19,7 +19,7 @@ use Rattle.wire_messages.specs.declared.CurrentLimits.{CurrentLimits}
 use Rattle.wire_messages.specs.declared.Command.{Command}
 use Rattle.wire_messages.specs.declared.Request.{Request}
 use Rattle.wire_prefix.specs.Prefix.{framed, payloadIn}
-use Rattle.wire_fields.specs.Fields.{present, upTo, mapIn, needed, most32, valueIn, aimIn, amountIn, aimItem, amountItem}
+use Rattle.wire_fields.specs.Fields.{present, numberUpTo, mapIn, needed, most32, valueIn, aimIn, amountIn, aimItem, amountItem}
 use Rattle.wire_fields.specs.ByPhase.{phasesIn}
 use Rattle.wire_requests.specs.Settings.{settingIn, durationOf, targetOf, limitsFrom, setpointsFrom}
 use Rattle.wire_requests.specs.WrittenSettings.{durationAmount, targetField, settingOfLimits, settingOfSetpoints, settingFields}
@@ -70,7 +70,7 @@ pub record AgainSet (null : Bool) (ps : Pairs) (s : Setting) : Type 0 where
 
 module _ (null : Bool) (ps : Pairs) where
   made : (x y : Field) (a : Amount) (k : ℕ) → valueIn null (valueOf ps 1) ≡ some x → valueIn null (valueOf ps 2) ≡ some y → amountIn most32 (valueOf ps 3) ≡ some a
-      → needed (upTo 255) (valueOf ps 4) ≡ some k → AgainSet null ps (record { consumption = x; production = y; duration = a; cause = k })
+      → needed (numberUpTo 255) (valueOf ps 4) ≡ some k → AgainSet null ps (record { consumption = x; production = y; duration = a; cause = k })
   unfolding settingFields
   made x y n k ex ey en ek =
       let a = value-again null (valueOf ps 1) x ex in
@@ -94,7 +94,7 @@ module _ (null : Bool) (ps : Pairs) where
       let a = bind-parts (valueIn null (valueOf ps 1)) _ s e in
       let b = bind-parts (valueIn null (valueOf ps 2)) _ s (a .2) in
       let c = bind-parts (amountIn most32 (valueOf ps 3)) _ s (b .2) in
-      let d = bind-parts (needed (upTo 255) (valueOf ps 4)) _ s (c .2) in
+      let d = bind-parts (needed (numberUpTo 255) (valueOf ps 4)) _ s (c .2) in
       let q : record { consumption = a .0; production = b .0; duration = c .0; cause = d .0 } ≡ s = same-inside (d .2) in
       subst (λ (x : Setting). AgainSet null ps x) q (made (a .0) (b .0) (c .0) (d .0) (a .1) (b .1) (c .1) (d .1))
 
@@ -200,8 +200,8 @@ module _ (ps : Pairs) where
   unfolding commandFields commandWide
   again-clear-current = again-clear Command.ClearCurrentLimits 6 (λ a. refl) (λ a. refl) (λ a. refl) (λ a. tt) (λ a. refl) refl
 
-  current-made : (f : Phases) (x : ℕ) (n : Amount) (k : ℕ) → phasesIn true (valueOf ps 1) ≡ some f → needed (upTo 1) (valueOf ps 2) ≡ some x → amountIn most32 (valueOf ps 3) ≡ some n
-      → needed (upTo 255) (valueOf ps 4) ≡ some k → Again 5 ps (Command.SetCurrentLimits (record { phases = f; direction = x; duration = durationOf n; cause = k }))
+  current-made : (f : Phases) (x : ℕ) (n : Amount) (k : ℕ) → phasesIn true (valueOf ps 1) ≡ some f → needed (numberUpTo 1) (valueOf ps 2) ≡ some x → amountIn most32 (valueOf ps 3) ≡ some n
+      → needed (numberUpTo 255) (valueOf ps 4) ≡ some k → Again 5 ps (Command.SetCurrentLimits (record { phases = f; direction = x; duration = durationOf n; cause = k }))
   unfolding commandFields commandWide currentLimitFields
   current-made f x n k ef ex en ek =
       let a = numbers-again true (valueOf ps 1) f ef in
@@ -227,9 +227,9 @@ module _ (ps : Pairs) where
   again-current x e =
       let p = map-part Command.SetCurrentLimits (currentLimitsIn ps) x e in
       let a = bind-parts (phasesIn true (valueOf ps 1)) _ (p .0) (p .1) in
-      let b = bind-parts (needed (upTo 1) (valueOf ps 2)) _ (p .0) (a .2) in
+      let b = bind-parts (needed (numberUpTo 1) (valueOf ps 2)) _ (p .0) (a .2) in
       let c = bind-parts (amountIn most32 (valueOf ps 3)) _ (p .0) (b .2) in
-      let d = bind-parts (needed (upTo 255) (valueOf ps 4)) _ (p .0) (c .2) in
+      let d = bind-parts (needed (numberUpTo 255) (valueOf ps 4)) _ (p .0) (c .2) in
       subst (λ (y : Command). Again 5 ps y) (ap Command.SetCurrentLimits (same-inside (d .2)) ∙ p .2) (current-made (a .0) (b .0) (c .0) (d .0) (a .1) (b .1) (c .1) (d .1))
 
   pub command-again : (c : ℕ) (x : Command) → servedCommand c ≡ true → commandIn c ps ≡ some x → Again c ps x
@@ -267,10 +267,10 @@ pub record AgainEnvelope (ps : Pairs) (e : Envelope) : Type 0 where
 envelope-again : (ps : Pairs) (e : Envelope) → envelopeIn ps ≡ some e → AgainEnvelope ps e
 unfolding envelopeIn
 envelope-again ps e h =
-    let a = bind-parts (needed (upTo most32) (valueOf ps 1)) _ e h in
-    let b = bind-parts (needed (upTo 255) (valueOf ps 2)) _ e (a .2) in
-    let c = bind-parts (needed (upTo 65535) (valueOf ps 3)) _ e (b .2) in
-    let d = bind-parts (needed (upTo 65535) (valueOf ps 4)) _ e (c .2) in
+    let a = bind-parts (needed (numberUpTo most32) (valueOf ps 1)) _ e h in
+    let b = bind-parts (needed (numberUpTo 255) (valueOf ps 2)) _ e (a .2) in
+    let c = bind-parts (needed (numberUpTo 65535) (valueOf ps 3)) _ e (b .2) in
+    let d = bind-parts (needed (numberUpTo 65535) (valueOf ps 4)) _ e (c .2) in
     let m = bind-parts (needed mapIn (valueOf ps 5)) _ e (d .2) in
     subst (λ (x : Envelope). AgainEnvelope ps x) (same-inside (m .2))
     (record {

@@ -17,7 +17,7 @@ use Rattle.wire_messages.specs.declared.CurrentResult.{CurrentResult}
 use Rattle.wire_messages.specs.declared.Outcome.{Outcome}
 use Rattle.wire_messages.specs.declared.Response.{Response}
 use Rattle.wire_prefix.specs.Prefix.{framed, payloadIn}
-use Rattle.wire_fields.specs.Fields.{present, upTo, truth, mapIn, needed, most32, mostValue, amountIn, successIn}
+use Rattle.wire_fields.specs.Fields.{present, numberUpTo, truth, mapIn, needed, most32, mostValue, amountIn, successIn}
 use Rattle.wire_fields.specs.ByPhase.{currentsIn}
 use Rattle.wire_messages.specs.Numbers.{servedCommand}
 use Rattle.wire_responses.specs.Responses.{isStatus, onlyStatus, stands, statusIn, limitResultIn, setpointResultIn, currentResultIn, clearResultIn, outcomeIn, noResult, resultIn, responseIn, answerOf, answerIn, answerFrom, readResponse}
@@ -40,7 +40,7 @@ pub record Again (c : ℕ) (ps : Pairs) (o : Outcome) : Type 0 where
   pub same : (lo d : ℕ) → OkPairs ps lo d → KeysTo (resultKeys c) ps → outcomeItem o ≡ some (Item.map ps)
 
 module _ (ps : Pairs) where
-  limit-made : (a : Bool) (s : ℕ) (c p r : Amount) → needed truth (valueOf ps 1) ≡ some a → needed (upTo 4) (valueOf ps 2) ≡ some s → amountIn mostValue (valueOf ps 3) ≡ some c
+  limit-made : (a : Bool) (s : ℕ) (c p r : Amount) → needed truth (valueOf ps 1) ≡ some a → needed (numberUpTo 4) (valueOf ps 2) ≡ some s → amountIn mostValue (valueOf ps 3) ≡ some c
       → amountIn mostValue (valueOf ps 4) ≡ some p → amountIn 4 (valueOf ps 5) ≡ some r
       → Again 1 ps (Outcome.Limit (record { applied = a; state = s; consumption = c; production = p; reason = r }))
   unfolding goesWith outcomeItem limitInRange limitFields
@@ -63,7 +63,7 @@ module _ (ps : Pairs) where
   unfolding limitResultIn
   again-limit l e =
       let a = bind-parts (needed truth (valueOf ps 1)) _ l e in
-      let b = bind-parts (needed (upTo 4) (valueOf ps 2)) _ l (a .2) in
+      let b = bind-parts (needed (numberUpTo 4) (valueOf ps 2)) _ l (a .2) in
       let c = bind-parts (amountIn mostValue (valueOf ps 3)) _ l (b .2) in
       let d = bind-parts (amountIn mostValue (valueOf ps 4)) _ l (c .2) in
       let f = bind-parts (amountIn 4 (valueOf ps 5)) _ l (d .2) in
@@ -188,7 +188,7 @@ pub record ReadFrom (c : ℕ) (ps : Pairs) (r : Response) : Type 0 where
 status-again : (v : Option Item) (n : ℕ) → statusIn v ≡ some n → (v ≡ some (Item.uint n)) × (isStatus n ≡ true)
 unfolding statusIn
 status-again v n e =
-    let p = bind-parts (needed (upTo 14) v) onlyStatus n e in
+    let p = bind-parts (needed (numberUpTo 14) v) onlyStatus n e in
     let u = uint-again 14 v (p .0) (p .1) in
     only (p .0) (isStatus (p .0)) refl (p .2) (u .0)
   where
@@ -199,7 +199,7 @@ status-again v n e =
 body-again : (c : ℕ) (ps : Pairs) (r : Response) → servedCommand c ≡ true → responseIn c ps ≡ some r → ReadFrom c ps r
 unfolding responseIn
 body-again c ps r s e =
-    let a = bind-parts (needed (upTo most32) (valueOf ps 1)) _ r e in
+    let a = bind-parts (needed (numberUpTo most32) (valueOf ps 1)) _ r e in
     let b = bind-parts (statusIn (valueOf ps 2)) _ r (a .2) in
     let d = bind-parts (resultIn c (b .0) (valueOf ps 3)) _ r (b .2) in
     subst (λ (x : Response). ReadFrom c ps x) (same-inside (d .2))

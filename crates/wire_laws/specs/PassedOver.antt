@@ -12,7 +12,7 @@ use Rattle.wire_bytes.specs.Bytes.{Bytes}
 use Rattle.wire_cbor.specs.Item.{Item, Pairs, Ok, levels, encode, payloadOf, isSome}
 use Rattle.wire_cbor.specs.Find.{valueOf}
 use Rattle.wire_prefix.specs.Prefix.{framed, payloadIn, mostPayload}
-use Rattle.wire_fields.specs.Fields.{upTo, needed}
+use Rattle.wire_fields.specs.Fields.{numberUpTo, needed}
 use Rattle.wire_requests.specs.Requests.{readRequest}
 use Rattle.wire_responses.specs.Responses.{readResponse}
 use Rattle.wire_output.specs.Writing.{itemFrame}
@@ -49,7 +49,7 @@ orZero (some n) = n
 orZero none = 0
 
 unfoldable pub commandOf : Pairs → ℕ
-commandOf ps = orZero (needed (upTo 65535) (valueOf ps 4))
+commandOf ps = orZero (needed (numberUpTo 65535) (valueOf ps 4))
 
 unfoldable pub requestKnown : Pairs → Pairs
 requestKnown ps = known 5 (under 5 (known (parameterKeys (commandOf ps))) ps)
@@ -60,7 +60,7 @@ responseKnown command ps = known 3 (under 3 (known (resultKeys command)) ps)
 
 -- parameters without a duration (key 3) that is a written zero
 unfoldable pub zeroOmitted : Pairs → Pairs
-zeroOmitted ps = cond (isSome (needed (upTo 0) (valueOf ps 3))) (kept (λ k. not (eqb k 3)) ps) ps
+zeroOmitted ps = cond (isSome (needed (numberUpTo 0) (valueOf ps 3))) (kept (λ k. not (eqb k 3)) ps) ps
 
 -- a request without one, of the commands that take 0 and omitted alike: SetLimit and SetCurrentLimits. Of SetSetpoint the two differ (L8)
 unfoldable pub durationOmitted : Pairs → Pairs

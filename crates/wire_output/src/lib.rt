@@ -25,7 +25,7 @@ pub fn refused(n: u64) -> Written
 }
 
 // Writes a payload, where all of it fits.
-pub fn deliver(out: &mut [u8], payload: &[u8]) -> Written
+pub fn write_payload(out: &mut [u8], payload: &[u8]) -> Written
     ensures { λ r. ⌜ r ≡ writtenOf 0 (now (payload .entry)) (length (now (out .entry))) ⌝ }
     ensures { λ _. ⌜ now (out .exit) ≡ leftBy 0 (now (payload .entry)) (now (out .entry)) ⌝ }
 {
@@ -41,7 +41,7 @@ pub fn deliver(out: &mut [u8], payload: &[u8]) -> Written
 }
 
 // Writes a payload behind its length, where all of it fits.
-pub fn send(out: &mut [u8], payload: &[u8]) -> Written
+pub fn write_frame(out: &mut [u8], payload: &[u8]) -> Written
     ensures { λ r. ⌜ r ≡ writtenOf 0 (frameOf (now (payload .entry))) (length (now (out .entry))) ⌝ }
     ensures { λ _. ⌜ now (out .exit) ≡ leftBy 0 (frameOf (now (payload .entry))) (now (out .entry)) ⌝ }
 {

@@ -9,8 +9,8 @@ use lib.Dec.{eqb}
 use borrow.Author.Tests.{eq-eqb, ne-eqb}
 use Rattle.wire_cbor.specs.Item.{Item, Pairs, payloadOf, isSome}
 use Rattle.wire_cbor.specs.Find.{valueOf}
-use Rattle.wire_cbor.specs.Scan.{KEYS, LEVELS, sightOf, pairsIn, followed, mapAt, sightsOf, wordsOf, sightAt}
-use Rattle.wire_cbor.specs.declared.sights.Sight.{Sight}
+use Rattle.wire_cbor.specs.Scan.{KEYS, LEVELS, keyHeadOf, pairsIn, followed, mapAt, keyHeadsOf, wordsOf, keyHeadAt}
+use Rattle.wire_cbor.specs.declared.heads.KeyHead.{KeyHead}
 use Rattle.wire_messages.specs.declared.Aim.{Aim}
 use Rattle.wire_messages.specs.declared.Amount.{Amount}
 use Rattle.wire_messages.specs.declared.Limits.{Limits}
@@ -22,8 +22,8 @@ use Rattle.wire_fields.specs.ByPhase.{phasesIn, PhasesRead}
 use Rattle.wire_requests.specs.Settings.{settingIn, durationOf, limitsFrom, setpointsFrom, currentLimitsIn}
 use Rattle.wire_requests.specs.Requests.{envelopeIn, commandIn, fromEnvelope, fromPayload, readRequest}
 use Rattle.wire_messages.specs.Numbers.{servedAt, servedCommand}
-use Rattle.wire_fields.specs.Sights.{Reads, UintReads, MapReads, amountOf, aimOf, Shown, Inside}
-use Rattle.wire_requests.specs.Sights.{EnvelopeReads, CurrentLimitsRead, CommandReads, ClearReads, MessageReads, parametersFrom, parametersPath}
+use Rattle.wire_fields.specs.KeyHeads.{Reads, UintReads, MapReads, amountOf, aimOf, Shown, Inside}
+use Rattle.wire_requests.specs.KeyHeads.{EnvelopeReads, CurrentLimitsRead, CommandReads, ClearReads, MessageReads, parametersFrom, parametersPath}
 use Rattle.wire_fields.specs.declared.readers.Value.{Value}
 use Rattle.wire_fields.specs.declared.phases.Fields.{Fields}
 use Rattle.wire_requests.specs.declared.reading.Reading.{Reading}
@@ -35,7 +35,7 @@ use Rattle.wire_fields.proofs.Parts.{shown, top, then, last, mapped, aim-amount
 
 module _ (ws : List ℕ) where
   -- THE ENVELOPE
-  module _ (a b c d e : Sight) (ae : a ≡ sightAt ws 0 1) (be : b ≡ sightAt ws 0 2) (ce : c ≡ sightAt ws 0 3) (de : d ≡ sightAt ws 0 4) (ee : e ≡ sightAt ws 0 5)
+  module _ (a b c d e : KeyHead) (ae : a ≡ keyHeadAt ws 0 1) (be : b ≡ keyHeadAt ws 0 2) (ce : c ≡ keyHeadAt ws 0 3) (de : d ≡ keyHeadAt ws 0 4) (ee : e ≡ keyHeadAt ws 0 5)
       (p q r s t : Bool) (pr : UintReads a true most32 p) (qr : UintReads b true 255 q)
       (rr : UintReads c true 65535 r) (sr : UintReads d true 65535 s) (tr : MapReads e t) where
     pub envelope-reads : (ok : Bool) → ok ≡ (p && (q && (r && (s && t)))) → EnvelopeReads ws ok
@@ -49,7 +49,7 @@ module _ (ws : List ℕ) where
         (last (pairsIn (valueOf ps 5)) _ t (tr _ (ee ∙ top ws path ps h 5 (omega arith))))))))
 
   -- PARAMETERS
-  module _ (null : Bool) (k l m n : Sight) (ke : k ≡ sightAt ws 1 1) (le : l ≡ sightAt ws 1 2) (me : m ≡ sightAt ws 1 3) (ne : n ≡ sightAt ws 1 4)
+  module _ (null : Bool) (k l m n : KeyHead) (ke : k ≡ keyHeadAt ws 1 1) (le : l ≡ keyHeadAt ws 1 2) (me : m ≡ keyHeadAt ws 1 3) (ne : n ≡ keyHeadAt ws 1 4)
       (c p : Value) (d e : Bool) (cr : Reads k (valueIn null) (c .ok) (c .field)) (pr : Reads l (valueIn null) (p .ok) (p .field))
       (dr : UintReads m false most32 d) (er : UintReads n true 255 e) where
     pub setting-read : (ok : Bool) → ok ≡ (c .ok && (p .ok && (d && e))) → (a : Amount) → a ≡ amountOf m
@@ -63,15 +63,15 @@ module _ (ws : List ℕ) where
         (last (n .arg) _ e (er _ (ne ∙ shown ws path ps h 1 4 (omega arith) (omega arith)))))))
 
   -- the phases stand at the second level of the path
-  module _ (k a b c m n o : Sight) (ke : k ≡ sightAt ws 1 1) (ae : a ≡ sightAt ws 2 0) (be : b ≡ sightAt ws 2 1) (ce : c ≡ sightAt ws 2 2)
-      (me : m ≡ sightAt ws 1 2) (ne : n ≡ sightAt ws 1 3) (oe : o ≡ sightAt ws 1 4)
+  module _ (k a b c m n o : KeyHead) (ke : k ≡ keyHeadAt ws 1 1) (ae : a ≡ keyHeadAt ws 2 0) (be : b ≡ keyHeadAt ws 2 1) (ce : c ≡ keyHeadAt ws 2 2)
+      (me : m ≡ keyHeadAt ws 1 2) (ne : n ≡ keyHeadAt ws 1 3) (oe : o ≡ keyHeadAt ws 1 4)
       (f : Fields) (x d e : Bool) (fr : PhasesRead k a b c (phasesIn true) (f .ok) (f .phases))
       (xr : UintReads m true 1 x) (dr : UintReads n false most32 d) (er : UintReads o true 255 e) where
     pub current-limits-read : (ok : Bool) → ok ≡ (f .ok && (x && (d && e))) → (t : ℕ) → t ≡ durationOf (amountOf n)
         → CurrentLimitsRead ws ok (record { phases = f .phases; direction = m .arg; duration = t; cause = o .arg })
     unfolding CurrentLimitsRead currentLimitsIn UintReads Reads PhasesRead mapAt followed
     current-limits-read ok y t te ps h =
-        let at : (level key : ℕ) → level < LEVELS → key < KEYS → sightAt ws level key ≡ sightOf (valueOf (mapAt level parametersPath ps) key) = shown ws parametersPath ps h in
+        let at : (level key : ℕ) → level < LEVELS → key < KEYS → keyHeadAt ws level key ≡ keyHeadOf (valueOf (mapAt level parametersPath ps) key) = shown ws parametersPath ps h in
         rw (y, te)
         (then (f .phases) _ _ (f .ok) _
         (fr _ (ke ∙ at 1 1 (omega arith) (omega arith)) (ae ∙ at 2 0 (omega arith) (omega arith)) (be ∙ at 2 1 (omega arith) (omega arith)) (ce ∙ at 2 2 (omega arith) (omega arith)))
@@ -124,7 +124,7 @@ module _ (ws : List ℕ) where
     clear-is r h a b d ps s =
         h parametersPath ps s ∙ rw (ne-eqb c 1 a, ne-eqb c 3 b, ne-eqb c 5 d) (ap parametersFrom (by-clear (eqb c 2) (eqb c 4) (aimIn (valueOf (mapAt 1 parametersPath ps) 1))))
 
-    module _ (k : Sight) (ke : k ≡ sightAt ws 1 1) (t : Bool) (r : UintReads k false 1 t) where
+    module _ (k : KeyHead) (ke : k ≡ keyHeadAt ws 1 1) (t : Bool) (r : UintReads k false 1 t) where
       aim-read : (path : ℕ) (ps : Pairs) → Shown ws path ps → aimIn (valueOf (mapAt 1 path ps) 1) ≡ cond t (some (aimOf (amountOf k))) none
       unfolding UintReads Reads
       aim-read path ps h = aim-amount (valueOf (mapAt 1 path ps) 1) ∙ mapped (amountOf k) aimOf t (r _ (ke ∙ shown ws path ps h 1 1 (omega arith) (omega arith)))
@@ -160,7 +160,7 @@ module _ (ws : List ℕ) (ok : Bool) (r : EnvelopeReads ws ok) where
   unfolding MessageReads EnvelopeReads fromEnvelope
   envelope-wrong y ps h = rw (r parametersPath ps h, y) refl
 
-  module _ (y : ok ≡ true) (a b c d : Sight) (ae : a ≡ sightAt ws 0 1) (be : b ≡ sightAt ws 0 2) (ce : c ≡ sightAt ws 0 3) (de : d ≡ sightAt ws 0 4)
+  module _ (y : ok ≡ true) (a b c d : KeyHead) (ae : a ≡ keyHeadAt ws 0 1) (be : b ≡ keyHeadAt ws 0 2) (ce : c ≡ keyHeadAt ws 0 3) (de : d ≡ keyHeadAt ws 0 4)
       (t : Bool) (te : t ≡ (servedAt (b .arg) (c .arg) && servedCommand (d .arg))) where
     pub unserved : t ≡ false → MessageReads ws (Reading.Unserved (a .arg))
     unfolding MessageReads EnvelopeReads fromEnvelope
@@ -197,11 +197,11 @@ module _ (p : List ℕ) (t : Bool) (te : t ≡ isSome (payloadOf p)) where
   unfolding fromPayload
   not-item z = rw (is-none (payloadOf p) (via te z)) refl
 
-  -- the payload is one item, of which the sights are seen
-  module _ (ws : List ℕ) (e : ws ≡ wordsOf (sightsOf parametersPath (payloadOf p))) (r : Reading) (h : MessageReads ws r) where
+  -- the payload is one item, of which the heads are seen
+  module _ (ws : List ℕ) (e : ws ≡ wordsOf (keyHeadsOf parametersPath (payloadOf p))) (r : Reading) (h : MessageReads ws r) where
     seen : (i : Item) → payloadOf p ≡ some i → r ≡ fromPayload (payloadOf p)
-    unfolding fromPayload MessageReads Shown sightsOf
-    seen i x = h (pairsIn (some i)) (e ∙ ap (λ (o : Option Item). wordsOf (sightsOf parametersPath o)) x) ∙ no-map i ∙ rw x refl
+    unfolding fromPayload MessageReads Shown keyHeadsOf
+    seen i x = h (pairsIn (some i)) (e ∙ ap (λ (o : Option Item). wordsOf (keyHeadsOf parametersPath o)) x) ∙ no-map i ∙ rw x refl
 
     pub is-item : t ≡ true → r ≡ fromPayload (payloadOf p)
     is-item z = let x = is-some (payloadOf p) (via te z) in seen (x .0) (x .1)

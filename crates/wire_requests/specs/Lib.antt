@@ -1,6 +1,6 @@
 pub mod Settings
 pub mod Requests
-pub mod Sights
+pub mod KeyHeads
 pub mod WrittenSettings
 pub mod WrittenRequests
 pub mod Sizes

@@ -9,7 +9,7 @@ use Rattle.wire_cbor.specs.Find.{valueOf}
 use Rattle.wire_messages.specs.Numbers.{servedAt, servedCommand}
 use Rattle.wire_messages.specs.declared.Command.{Command}
 use Rattle.wire_prefix.specs.Prefix.{framed, payloadIn}
-use Rattle.wire_fields.specs.Fields.{upTo, mapIn, needed, most32, aimIn}
+use Rattle.wire_fields.specs.Fields.{numberUpTo, mapIn, needed, most32, aimIn}
 use Rattle.wire_requests.specs.Settings.{settingIn, limitsFrom, setpointsFrom, currentLimitsIn}
 use Rattle.wire_requests.specs.declared.reading.Reading.{Reading}
 use Rattle.refusals.specs.Refusals.{BAD_CBOR, BAD_LENGTH, BAD_MESSAGE, NOT_SERVED}
@@ -25,10 +25,10 @@ pub record Envelope : Type 0 where
 -- "Endpoint is 0 to 255; feature and command are 0 to 65,535. Key 5 is always a map, perhaps empty; that much is tested with the envelope"
 unfoldable pub envelopeIn : Pairs → Option Envelope
 envelopeIn ps =
-    bind (needed (upTo most32) (valueOf ps 1)) (λ i.
-    bind (needed (upTo 255) (valueOf ps 2)) (λ e.
-    bind (needed (upTo 65535) (valueOf ps 3)) (λ f.
-    bind (needed (upTo 65535) (valueOf ps 4)) (λ c.
+    bind (needed (numberUpTo most32) (valueOf ps 1)) (λ i.
+    bind (needed (numberUpTo 255) (valueOf ps 2)) (λ e.
+    bind (needed (numberUpTo 65535) (valueOf ps 3)) (λ f.
+    bind (needed (numberUpTo 65535) (valueOf ps 4)) (λ c.
     bind (needed mapIn (valueOf ps 5)) (λ m.
     some (record { id = i; endpoint = e; feature = f; command = c; parameters = m }))))))
 

@@ -2,9 +2,9 @@
 use refusals::BAD_CBOR;
 use refusals::BAD_LENGTH;
 use refusals::BAD_MESSAGE;
-use wire_cbor::Sight;
-use wire_cbor::Sights;
-use wire_cbor::sight_of;
+use wire_cbor::KeyHead;
+use wire_cbor::KeyHeads;
+use wire_cbor::key_head_of;
 use wire_fields::MOST32;
 use wire_fields::all4;
 use wire_fields::all5;
@@ -31,9 +31,9 @@ ghost use mathlib.Core.Path.{_≡_};
 ghost use mathlib.Core.Bool.{true};
 ghost use Rattle.wire_cbor.specs.Item.{payloadOf};
 ghost use Rattle.wire_requests.specs.Requests.{fromPayload, readRequest};
-ghost use Rattle.wire_fields.specs.Sights.{UintReads, aimOf, Inside};
+ghost use Rattle.wire_fields.specs.KeyHeads.{UintReads, aimOf, Inside};
 ghost use Rattle.wire_requests.specs.Settings.{settingIn};
-ghost use Rattle.wire_requests.specs.Sights.{EnvelopeReads, CurrentLimitsRead, CommandReads, ClearReads, MessageReads};
+ghost use Rattle.wire_requests.specs.KeyHeads.{EnvelopeReads, CurrentLimitsRead, CommandReads, ClearReads, MessageReads};
 
 // A request; the message id of one that is not served; a refusal number.
 pub enum Reading {
@@ -67,36 +67,37 @@ const PARAMETERS: usize = 1;
 
 const PHASES: usize = 2;
 
-const PATH: u64 = 21;
+// The keys along that path, the first as the lowest digit: 5, then 1.
+const PATH: u64 = 5 + 1 * wire_cbor::STEP;
 
 // Whether the envelope is there: the parameters are a map, seen below.
-fn is_envelope(sights: &Sights) -> bool
-    ensures { λ r. ⌜ EnvelopeReads (now (sights .entry)) r ⌝ }
+fn is_envelope(heads: &KeyHeads) -> bool
+    ensures { λ r. ⌜ EnvelopeReads (now (heads .entry)) r ⌝ }
 {
     all5(
-        is_uint(sight_of(sights, ENVELOPE, 1), true, MOST32),
-        is_uint(sight_of(sights, ENVELOPE, 2), true, 255),
-        is_uint(sight_of(sights, ENVELOPE, 3), true, 65535),
-        is_uint(sight_of(sights, ENVELOPE, 4), true, 65535),
-        is_map(sight_of(sights, ENVELOPE, 5)),
+        is_uint(key_head_of(heads, ENVELOPE, 1), true, MOST32),
+        is_uint(key_head_of(heads, ENVELOPE, 2), true, 255),
+        is_uint(key_head_of(heads, ENVELOPE, 3), true, 65535),
+        is_uint(key_head_of(heads, ENVELOPE, 4), true, 65535),
+        is_map(key_head_of(heads, ENVELOPE, 5)),
     )
 }
 
 // Whether a cause is there.
-fn is_cause(k: Sight) -> bool
+fn is_cause(k: KeyHead) -> bool
     ensures { λ r. ⌜ UintReads k true 255 r ⌝ }
 {
     is_uint(k, true, 255)
 }
 
 // The parameters of a Set command, with null or without.
-fn read_setting(sights: &Sights, null: bool) -> Set
-    ensures { λ r. ⌜ Inside (now (sights .entry)) 1 (settingIn null) (r .ok) (r .setting) ⌝ }
+fn read_setting(heads: &KeyHeads, null: bool) -> Set
+    ensures { λ r. ⌜ Inside (now (heads .entry)) 1 (settingIn null) (r .ok) (r .setting) ⌝ }
 {
-    let consumption = read_value(sight_of(sights, PARAMETERS, 1), null);
-    let production = read_value(sight_of(sights, PARAMETERS, 2), null);
-    let duration = sight_of(sights, PARAMETERS, 3);
-    let cause = sight_of(sights, PARAMETERS, 4);
+    let consumption = read_value(key_head_of(heads, PARAMETERS, 1), null);
+    let production = read_value(key_head_of(heads, PARAMETERS, 2), null);
+    let duration = key_head_of(heads, PARAMETERS, 3);
+    let cause = key_head_of(heads, PARAMETERS, 4);
     let ok = all4(
         consumption.ok,
         production.ok,
@@ -115,19 +116,19 @@ fn read_setting(sights: &Sights, null: bool) -> Set
 }
 
 // The parameters of SetCurrentLimits.
-fn read_current_limits(sights: &Sights) -> CurrentSet
-    ensures { λ r. ⌜ CurrentLimitsRead (now (sights .entry)) (r .ok) (r .limits) ⌝ }
+fn read_current_limits(heads: &KeyHeads) -> CurrentSet
+    ensures { λ r. ⌜ CurrentLimitsRead (now (heads .entry)) (r .ok) (r .limits) ⌝ }
 {
     let map = read_phases(
-        sight_of(sights, PARAMETERS, 1),
-        sight_of(sights, PHASES, 0),
-        sight_of(sights, PHASES, 1),
-        sight_of(sights, PHASES, 2),
+        key_head_of(heads, PARAMETERS, 1),
+        key_head_of(heads, PHASES, 0),
+        key_head_of(heads, PHASES, 1),
+        key_head_of(heads, PHASES, 2),
         true,
     );
-    let direction = sight_of(sights, PARAMETERS, 2);
-    let duration = sight_of(sights, PARAMETERS, 3);
-    let cause = sight_of(sights, PARAMETERS, 4);
+    let direction = key_head_of(heads, PARAMETERS, 2);
+    let duration = key_head_of(heads, PARAMETERS, 3);
+    let cause = key_head_of(heads, PARAMETERS, 4);
     let ok = all4(
         map.ok,
         is_uint(direction, true, 1),
@@ -154,11 +155,11 @@ fn aim_of(a: Amount) -> Aim
 }
 
 // The parameters of a served command.
-fn read_command(sights: &Sights, command: u64) -> Parameters
-    ensures { λ r. ⌜ CommandReads (now (sights .entry)) command r ⌝ }
+fn read_command(heads: &KeyHeads, command: u64) -> Parameters
+    ensures { λ r. ⌜ CommandReads (now (heads .entry)) command r ⌝ }
 {
     if command == 1 {
-        let v = read_setting(sights, true);
+        let v = read_setting(heads, true);
         if v.ok {
             let s = v.setting;
             return Parameters::Are(Command::SetLimit(limits_from(s)));
@@ -166,7 +167,7 @@ fn read_command(sights: &Sights, command: u64) -> Parameters
         return Parameters::Wrong;
     }
     if command == 3 {
-        let v = read_setting(sights, false);
+        let v = read_setting(heads, false);
         if v.ok {
             let s = v.setting;
             return Parameters::Are(Command::SetSetpoint(setpoints_from(s)));
@@ -174,21 +175,21 @@ fn read_command(sights: &Sights, command: u64) -> Parameters
         return Parameters::Wrong;
     }
     if command == 5 {
-        let v = read_current_limits(sights);
+        let v = read_current_limits(heads);
         if v.ok {
             let l = v.limits;
             return Parameters::Are(Command::SetCurrentLimits(l));
         }
         return Parameters::Wrong;
     }
-    read_clear(sights, command)
+    read_clear(heads, command)
 }
 
 // The parameters of a clear.
-fn read_clear(sights: &Sights, command: u64) -> Parameters
-    ensures { λ r. ⌜ ClearReads (now (sights .entry)) command r ⌝ }
+fn read_clear(heads: &KeyHeads, command: u64) -> Parameters
+    ensures { λ r. ⌜ ClearReads (now (heads .entry)) command r ⌝ }
 {
-    let direction = sight_of(sights, PARAMETERS, 1);
+    let direction = key_head_of(heads, PARAMETERS, 1);
     if is_uint(direction, false, 1) {
         let aim = aim_of(amount_of(direction));
         if command == 2 {
@@ -203,16 +204,16 @@ fn read_clear(sights: &Sights, command: u64) -> Parameters
 }
 
 // What is seen in a payload, in the order envelope 3, 4, parameters 3.
-fn read_message(sights: &Sights) -> Reading
-    ensures { λ r. ⌜ MessageReads (now (sights .entry)) r ⌝ }
+fn read_message(heads: &KeyHeads) -> Reading
+    ensures { λ r. ⌜ MessageReads (now (heads .entry)) r ⌝ }
 {
-    if is_envelope(sights) {
-        let id = sight_of(sights, ENVELOPE, 1);
-        let endpoint = sight_of(sights, ENVELOPE, 2);
-        let feature = sight_of(sights, ENVELOPE, 3);
-        let number = sight_of(sights, ENVELOPE, 4);
+    if is_envelope(heads) {
+        let id = key_head_of(heads, ENVELOPE, 1);
+        let endpoint = key_head_of(heads, ENVELOPE, 2);
+        let feature = key_head_of(heads, ENVELOPE, 3);
+        let number = key_head_of(heads, ENVELOPE, 4);
         if both(is_served(endpoint.arg, feature.arg), is_command(number.arg)) {
-            return match read_command(sights, number.arg) {
+            return match read_command(heads, number.arg) {
                 Parameters::Are(command) => Reading::Is(Request {
                     id: id.arg,
                     endpoint: endpoint.arg,
@@ -231,9 +232,9 @@ fn read_message(sights: &Sights) -> Reading
 pub fn read_payload(payload: &[u8]) -> Reading
     ensures { λ r. ⌜ r ≡ fromPayload (payloadOf (now (payload .entry))) ⌝ }
 {
-    let mut sights = [0u64; wire_cbor::WORDS];
-    if wire_cbor::scan(payload, PATH, &mut sights) {
-        return read_message(&sights);
+    let mut heads = [0u64; wire_cbor::WORDS];
+    if wire_cbor::scan(payload, PATH, &mut heads) {
+        return read_message(&heads);
     }
     Reading::Refused(BAD_CBOR)
 }

@@ -8,7 +8,7 @@ use wire_fields::count_amount;
 use wire_fields::count_phases;
 use wire_fields::count_value;
 use wire_fields::either;
-use wire_fields::field_sight;
+use wire_fields::field_key_head;
 use wire_fields::put_amount;
 use wire_fields::put_map;
 use wire_fields::put_phases;
@@ -28,7 +28,7 @@ use wire_messages::setting_of_limits;
 use wire_messages::setting_of_setpoints;
 use wire_output::Written;
 use wire_output::refused;
-use wire_output::send;
+use wire_output::write_frame;
 ghost use mathlib.Core.Path.{_≡_};
 ghost use mathlib.Core.Bool.{_||_};
 ghost use lib.Dec.{ltb};
@@ -103,9 +103,9 @@ fn put_fields(out: &mut [u8], at: usize, p: Phases) -> usize
     let x = p.a;
     let y = p.b;
     let z = p.c;
-    let a = field_sight(x);
-    let b = field_sight(y);
-    let c = field_sight(z);
+    let a = field_key_head(x);
+    let b = field_key_head(y);
+    let c = field_key_head(z);
     let head = put_map(out, at, 1, count_phases(a, b, c));
     put_phases(out, head, a, b, c)
 }
@@ -242,5 +242,5 @@ pub fn write_request(out: &mut [u8], r: Request) -> Written
     }
     let mut payload = [0u8; ROOM];
     let n = put_request(&mut payload, r);
-    send(out, &payload[..n])
+    write_frame(out, &payload[..n])
 }

@@ -9,17 +9,17 @@ use lib.Dec.{eqb}
 use borrow.Author.Tests.{eq-eqb, ne-eqb}
 use Rattle.wire_cbor.specs.Item.{Item, Pairs, payloadOf, isSome}
 use Rattle.wire_cbor.specs.Find.{valueOf}
-use Rattle.wire_cbor.specs.Scan.{sightOf, pairsIn, followed, mapAt, sightsOf, wordsOf, sightAt}
-use Rattle.wire_cbor.specs.declared.sights.Sight.{Sight}
+use Rattle.wire_cbor.specs.Scan.{keyHeadOf, pairsIn, followed, mapAt, keyHeadsOf, wordsOf, keyHeadAt}
+use Rattle.wire_cbor.specs.declared.heads.KeyHead.{KeyHead}
 use Rattle.wire_messages.specs.declared.Amount.{Amount}
 use Rattle.wire_messages.specs.declared.Outcome.{Outcome}
 use Rattle.wire_messages.specs.declared.Response.{Response}
 use Rattle.wire_prefix.specs.Prefix.{framed, payloadIn}
-use Rattle.wire_fields.specs.Fields.{upTo, truth, mapIn, needed, most32, mostValue, successIn}
+use Rattle.wire_fields.specs.Fields.{numberUpTo, truth, mapIn, needed, most32, mostValue, successIn}
 use Rattle.wire_messages.specs.Numbers.{servedCommand}
 use Rattle.wire_responses.specs.Responses.{isStatus, stands, statusIn, limitResultIn, setpointResultIn, currentResultIn, outcomeIn, noResult, resultIn, responseIn, answerOf, answerIn, answerFrom, readResponse}
-use Rattle.wire_fields.specs.Sights.{found, Reads, UintReads, MapReads, amountOf, Shown, Inside}
-use Rattle.wire_responses.specs.Sights.{resultPath, InResult, OutcomeReads, ResultReads, BodyReads, resultFrom}
+use Rattle.wire_fields.specs.KeyHeads.{found, Reads, UintReads, MapReads, amountOf, Shown, Inside}
+use Rattle.wire_responses.specs.KeyHeads.{resultPath, InResult, OutcomeReads, ResultReads, BodyReads, resultFrom}
 use Rattle.wire_fields.specs.ByPhase.{currentsIn, PhasesRead}
 use Rattle.wire_fields.specs.declared.phases.Amounts.{Amounts}
 use Rattle.wire_messages.specs.declared.CurrentResult.{CurrentResult}
@@ -28,27 +28,27 @@ use Rattle.wire_responses.specs.declared.reading.Effect.{Effect}
 use Rattle.wire_responses.specs.declared.reading.Targets.{Targets}
 use Rattle.wire_responses.specs.declared.reading.Result.{Result}
 use Rattle.wire_fields.proofs.Joined.{is-some, is-none, via, and-left, and-right}
-use Rattle.wire_fields.proofs.BySight.{reads-by}
+use Rattle.wire_fields.proofs.ByKeyHead.{reads-by}
 use Rattle.wire_fields.proofs.Parts.{shown, top, then, last}
 
 -- NOTHING
-absent-sight : (o : Option Item) → noResult o ≡ found (eqb (sightOf o .major) 8) Outcome.Nothing
-unfolding sightOf
-absent-sight none = refl
-absent-sight (some (Item.uint v)) = refl
-absent-sight (some (Item.nint v)) = refl
-absent-sight (some (Item.bytes b)) = refl
-absent-sight (some (Item.text b)) = refl
-absent-sight (some (Item.array is)) = refl
-absent-sight (some (Item.map m)) = refl
-absent-sight (some (Item.simple v)) = refl
+absent-key-head : (o : Option Item) → noResult o ≡ found (eqb (keyHeadOf o .major) 8) Outcome.Nothing
+unfolding keyHeadOf
+absent-key-head none = refl
+absent-key-head (some (Item.uint v)) = refl
+absent-key-head (some (Item.nint v)) = refl
+absent-key-head (some (Item.bytes b)) = refl
+absent-key-head (some (Item.text b)) = refl
+absent-key-head (some (Item.array is)) = refl
+absent-key-head (some (Item.map m)) = refl
+absent-key-head (some (Item.simple v)) = refl
 
-pub absent-reads : (k : Sight) → Reads k noResult (eqb (k .major) 8) Outcome.Nothing
-absent-reads k = reads-by _ (λ k. eqb (k .major) 8) (λ k. Outcome.Nothing) absent-sight k _ refl
+pub absent-reads : (k : KeyHead) → Reads k noResult (eqb (k .major) 8) Outcome.Nothing
+absent-reads k = reads-by _ (λ k. eqb (k .major) 8) (λ k. Outcome.Nothing) absent-key-head k _ refl
 
 module _ (ws : List ℕ) where
   -- RESULTS
-  module _ (j k l m n : Sight) (je : j ≡ sightAt ws 1 1) (ke : k ≡ sightAt ws 1 2) (le : l ≡ sightAt ws 1 3) (me : m ≡ sightAt ws 1 4) (ne : n ≡ sightAt ws 1 5)
+  module _ (j k l m n : KeyHead) (je : j ≡ keyHeadAt ws 1 1) (ke : k ≡ keyHeadAt ws 1 2) (le : l ≡ keyHeadAt ws 1 3) (me : m ≡ keyHeadAt ws 1 4) (ne : n ≡ keyHeadAt ws 1 5)
       (a s c p r : Bool) (ar : Reads j (needed truth) a (eqb (j .arg) 21)) (sr : UintReads k true 4 s)
       (cr : UintReads l false mostValue c) (pr : UintReads m false mostValue p) (rr : UintReads n false 4 r) where
     pub effect-reads : (ok : Bool) → ok ≡ (a && (s && (c && (p && r)))) → (x y z : Amount) → x ≡ amountOf l → y ≡ amountOf m → z ≡ amountOf n
@@ -62,7 +62,7 @@ module _ (ws : List ℕ) where
         (then (amountOf m) _ _ p _ (pr _ (me ∙ shown ws path ps h 1 4 (omega arith) (omega arith)))
         (last (amountOf n) _ r (rr _ (ne ∙ shown ws path ps h 1 5 (omega arith) (omega arith))))))))
 
-  module _ (j k l : Sight) (je : j ≡ sightAt ws 1 1) (ke : k ≡ sightAt ws 1 2) (le : l ≡ sightAt ws 1 3)
+  module _ (j k l : KeyHead) (je : j ≡ keyHeadAt ws 1 1) (ke : k ≡ keyHeadAt ws 1 2) (le : l ≡ keyHeadAt ws 1 3)
       (a c p : Bool) (ar : Reads j successIn a true) (cr : UintReads k false mostValue c) (pr : UintReads l false mostValue p) where
     pub targets-read : (ok : Bool) → ok ≡ (a && (c && p)) → (x y : Amount) → x ≡ amountOf k → y ≡ amountOf l → Inside ws 1 setpointResultIn ok (record { consumption = x; production = y })
     unfolding Inside setpointResultIn UintReads Reads
@@ -72,7 +72,7 @@ module _ (ws : List ℕ) where
         (then (amountOf k) _ _ c _ (cr _ (ke ∙ shown ws path ps h 1 2 (omega arith) (omega arith)))
         (last (amountOf l) _ p (pr _ (le ∙ shown ws path ps h 1 3 (omega arith) (omega arith))))))
 
-  module _ (j k l m n : Sight) (je : j ≡ sightAt ws 1 1) (ke : k ≡ sightAt ws 1 2) (le : l ≡ sightAt ws 2 0) (me : m ≡ sightAt ws 2 1) (ne : n ≡ sightAt ws 2 2)
+  module _ (j k l m n : KeyHead) (je : j ≡ keyHeadAt ws 1 1) (ke : k ≡ keyHeadAt ws 1 2) (le : l ≡ keyHeadAt ws 2 0) (me : m ≡ keyHeadAt ws 2 1) (ne : n ≡ keyHeadAt ws 2 2)
       (a b : Bool) (x : CurrentResult) (ar : Reads j successIn a true) (br : PhasesRead k l m n (currentsIn mostValue) b x) where
     pub current-reads : (ok : Bool) → ok ≡ (a && b) → InResult ws currentResultIn ok x
     unfolding InResult currentResultIn PhasesRead Reads mapAt followed
@@ -110,7 +110,7 @@ module _ (ws : List ℕ) where
       unfolding OutcomeReads InResult outcomeIn
       current-wrong y ps h = rw (ne-eqb c 1 (λ z. omega arith), ne-eqb c 3 (λ z. omega arith), eq-eqb c 5 e, r ps h, y) refl
 
-    module _ (k : Sight) (ke : k ≡ sightAt ws 1 1) (t : Bool) (r : Reads k successIn t true) (a : c ≡ 1 → ⊥) (b : c ≡ 3 → ⊥) (d : c ≡ 5 → ⊥) where
+    module _ (k : KeyHead) (ke : k ≡ keyHeadAt ws 1 1) (t : Bool) (r : Reads k successIn t true) (a : c ≡ 1 → ⊥) (b : c ≡ 3 → ⊥) (d : c ≡ 5 → ⊥) where
       pub success-is : t ≡ true → OutcomeReads ws c (Result.Is Outcome.Success)
       unfolding OutcomeReads Reads outcomeIn
       success-is y ps h = rw (ne-eqb c 1 a, ne-eqb c 3 b, ne-eqb c 5 d, r _ (ke ∙ shown ws resultPath ps h 1 1 (omega arith) (omega arith)), y) refl
@@ -120,7 +120,7 @@ module _ (ws : List ℕ) where
       success-wrong y ps h = rw (ne-eqb c 1 a, ne-eqb c 3 b, ne-eqb c 5 d, r _ (ke ∙ shown ws resultPath ps h 1 1 (omega arith) (omega arith)), y) refl
 
   -- WHAT STANDS UNDER KEY 3
-  module _ (c status : ℕ) (k : Sight) (ke : k ≡ sightAt ws 0 3) (t : Bool) (te : t ≡ stands c status) where
+  module _ (c status : ℕ) (k : KeyHead) (ke : k ≡ keyHeadAt ws 0 3) (t : Bool) (te : t ≡ stands c status) where
     module _ (y : t ≡ true) (m : Bool) (mr : MapReads k m) where
       pub result-no-map : m ≡ false → ResultReads ws c status Result.Wrong
       unfolding ResultReads MapReads resultIn bind
@@ -148,7 +148,7 @@ no-outcome : (o : Option Outcome) → Result.Wrong ≡ resultFrom o → o ≡ no
 no-outcome (some d) e = absurd (let z : _≡_ {A = ℕ} 0 1 = cc in omega arith)
 no-outcome none e = refl
 
-status-found : (o : Option Item) (ok b : Bool) (v : ℕ) → b ≡ isStatus v → needed (upTo 14) o ≡ found ok v → statusIn o ≡ found (ok && b) v
+status-found : (o : Option Item) (ok b : Bool) (v : ℕ) → b ≡ isStatus v → needed (numberUpTo 14) o ≡ found ok v → statusIn o ≡ found (ok && b) v
 unfolding statusIn bind
 status-found o true true v e h = rw (h, ← e) refl
 status-found o true false v e h = rw (h, ← e) refl
@@ -167,12 +167,12 @@ all-first : (a q r : Bool) → (a && q) ≡ true → (a && (q && r)) ≡ r
 all-first a q r e = rw (and-left a q e, and-right a q e) refl
 
 -- a response by its parts
-pub all-parts : (c : ℕ) (ps : Pairs) (i : ℕ) → needed (upTo most32) (valueOf ps 1) ≡ some i → (n : ℕ) → statusIn (valueOf ps 2) ≡ some n
+pub all-parts : (c : ℕ) (ps : Pairs) (i : ℕ) → needed (numberUpTo most32) (valueOf ps 1) ≡ some i → (n : ℕ) → statusIn (valueOf ps 2) ≡ some n
     → (o : Outcome) → resultIn c n (valueOf ps 3) ≡ some o → responseIn c ps ≡ some (record { id = i; status = n; outcome = o })
 unfolding responseIn bind
 all-parts c ps i e n f o g = rw (e, f, g) refl
 
-module _ (ws : List ℕ) (c : ℕ) (k l : Sight) (ke : k ≡ sightAt ws 0 1) (le : l ≡ sightAt ws 0 2) (a b s : Bool)
+module _ (ws : List ℕ) (c : ℕ) (k l : KeyHead) (ke : k ≡ keyHeadAt ws 0 1) (le : l ≡ keyHeadAt ws 0 2) (a b s : Bool)
     (ar : UintReads k true most32 a) (br : UintReads l true 14 b) (se : s ≡ isStatus (l .arg)) (t : Bool) (te : t ≡ (a && (b && s))) where
   abbrev whole : Outcome → Response
   whole o = record { id = k .arg; status = l .arg; outcome = o }
@@ -234,11 +234,11 @@ module _ (c : ℕ) (frame : List ℕ) (b : Bool) (be : b ≡ framed frame) where
     unfolding answerFrom answerIn
     not-item z = rw (via be y, is-none (payloadOf (payloadIn frame)) (via tested z)) refl
 
-    -- the payload is one item, of which the sights are seen
-    module _ (ws : List ℕ) (e : ws ≡ wordsOf (sightsOf resultPath (payloadOf p))) (r : Answer) (h : BodyReads ws c r) where
+    -- the payload is one item, of which the heads are seen
+    module _ (ws : List ℕ) (e : ws ≡ wordsOf (keyHeadsOf resultPath (payloadOf p))) (r : Answer) (h : BodyReads ws c r) where
       seen : (i : Item) → payloadOf (payloadIn frame) ≡ some i → r ≡ answerFrom c frame
-      unfolding answerFrom answerIn BodyReads Shown sightsOf
-      seen i x = h (pairsIn (some i)) (e ∙ ap (λ (o : Option Item). wordsOf (sightsOf resultPath o)) (ap payloadOf pe ∙ x)) ∙ no-map c i ∙ rw (via be y, x) refl
+      unfolding answerFrom answerIn BodyReads Shown keyHeadsOf
+      seen i x = h (pairsIn (some i)) (e ∙ ap (λ (o : Option Item). wordsOf (keyHeadsOf resultPath o)) (ap payloadOf pe ∙ x)) ∙ no-map c i ∙ rw (via be y, x) refl
 
       pub is-item : t ≡ true → r ≡ answerFrom c frame
       is-item z = let x = is-some (payloadOf (payloadIn frame)) (via tested z) in seen (x .0) (x .1)

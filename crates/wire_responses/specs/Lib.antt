@@ -1,5 +1,5 @@
 pub mod Responses
-pub mod Sights
+pub mod KeyHeads
 pub mod WrittenResponses
 pub mod Sizes
 pub mod Replies

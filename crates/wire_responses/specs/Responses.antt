@@ -12,7 +12,7 @@ use Rattle.wire_messages.specs.declared.CurrentResult.{CurrentResult}
 use Rattle.wire_messages.specs.declared.Outcome.{Outcome}
 use Rattle.wire_messages.specs.declared.Response.{Response}
 use Rattle.wire_prefix.specs.Prefix.{framed, payloadIn}
-use Rattle.wire_fields.specs.Fields.{upTo, truth, mapIn, needed, most32, mostValue, amountIn, successIn}
+use Rattle.wire_fields.specs.Fields.{numberUpTo, truth, mapIn, needed, most32, mostValue, amountIn, successIn}
 use Rattle.wire_fields.specs.ByPhase.{currentsIn}
 use Rattle.wire_messages.specs.Numbers.{servedCommand}
 unfoldable pub use Rattle.wire_messages.specs.Statuses.{isStatus, stands}
@@ -23,13 +23,13 @@ abbrev pub onlyStatus : ℕ → Option ℕ
 onlyStatus n = cond (isStatus n) (some n) none
 
 unfoldable pub statusIn : Option Item → Option ℕ
-statusIn o = bind (needed (upTo 14) o) onlyStatus
+statusIn o = bind (needed (numberUpTo 14) o) onlyStatus
 
 -- "SetLimit {1: applied, 2: control state, 3: consumption limit, 4: production limit, 5: reject reason}"; state and reason at most 4
 unfoldable pub limitResultIn : Pairs → Option LimitResult
 limitResultIn ps =
     bind (needed truth (valueOf ps 1)) (λ a.
-    bind (needed (upTo 4) (valueOf ps 2)) (λ s.
+    bind (needed (numberUpTo 4) (valueOf ps 2)) (λ s.
     bind (amountIn mostValue (valueOf ps 3)) (λ c.
     bind (amountIn mostValue (valueOf ps 4)) (λ p.
     bind (amountIn 4 (valueOf ps 5)) (λ r.
@@ -69,7 +69,7 @@ resultIn command status o = cond (stands command status) (bind (needed mapIn o) 
 -- "Response: {1: message id, 2: status, 3: result}"
 unfoldable pub responseIn : ℕ → Pairs → Option Response
 responseIn command ps =
-    bind (needed (upTo most32) (valueOf ps 1)) (λ i.
+    bind (needed (numberUpTo most32) (valueOf ps 1)) (λ i.
     bind (statusIn (valueOf ps 2)) (λ s.
     bind (resultIn command s (valueOf ps 3)) (λ o.
     some (record { id = i; status = s; outcome = o }))))

@@ -3,9 +3,9 @@ use refusals::BAD_CBOR;
 use refusals::BAD_LENGTH;
 use refusals::BAD_MESSAGE;
 use refusals::NOT_SERVED;
-use wire_cbor::Sight;
-use wire_cbor::Sights;
-use wire_cbor::sight_of;
+use wire_cbor::KeyHead;
+use wire_cbor::KeyHeads;
+use wire_cbor::key_head_of;
 use wire_fields::Amounts;
 use wire_fields::MOST_VALUE;
 use wire_fields::MOST32;
@@ -30,9 +30,9 @@ use wire_prefix::PREFIX;
 use wire_prefix::is_framed;
 ghost use mathlib.Core.Path.{_≡_};
 ghost use Rattle.wire_messages.specs.declared.Outcome.{Outcome};
-ghost use Rattle.wire_fields.specs.Sights.{Reads, Inside};
+ghost use Rattle.wire_fields.specs.KeyHeads.{Reads, Inside};
 ghost use Rattle.wire_responses.specs.Responses.{limitResultIn, setpointResultIn, currentResultIn, noResult, answerFrom, readResponse};
-ghost use Rattle.wire_responses.specs.Sights.{InResult, OutcomeReads, ResultReads, BodyReads};
+ghost use Rattle.wire_responses.specs.KeyHeads.{InResult, OutcomeReads, ResultReads, BodyReads};
 
 // A response, or a refusal number.
 pub enum Answer {
@@ -65,16 +65,17 @@ const RESULT: usize = 1;
 
 const PHASES: usize = 2;
 
-const PATH: u64 = 35;
+// The keys along that path, the first as the lowest digit: 3, then 2.
+const PATH: u64 = 3 + 2 * wire_cbor::STEP;
 
-fn read_effect(sights: &Sights) -> Effect
-    ensures { λ r. ⌜ Inside (now (sights .entry)) 1 limitResultIn (r .ok) (r .result) ⌝ }
+fn read_effect(heads: &KeyHeads) -> Effect
+    ensures { λ r. ⌜ Inside (now (heads .entry)) 1 limitResultIn (r .ok) (r .result) ⌝ }
 {
-    let applied = sight_of(sights, RESULT, 1);
-    let state = sight_of(sights, RESULT, 2);
-    let consumption = sight_of(sights, RESULT, 3);
-    let production = sight_of(sights, RESULT, 4);
-    let reason = sight_of(sights, RESULT, 5);
+    let applied = key_head_of(heads, RESULT, 1);
+    let state = key_head_of(heads, RESULT, 2);
+    let consumption = key_head_of(heads, RESULT, 3);
+    let production = key_head_of(heads, RESULT, 4);
+    let reason = key_head_of(heads, RESULT, 5);
     let ok = all5(
         is_truth(applied),
         is_uint(state, true, 4),
@@ -92,13 +93,13 @@ fn read_effect(sights: &Sights) -> Effect
     Effect { ok, result }
 }
 
-fn read_targets(sights: &Sights) -> Targets
-    ensures { λ r. ⌜ Inside (now (sights .entry)) 1 setpointResultIn (r .ok) (r .result) ⌝ }
+fn read_targets(heads: &KeyHeads) -> Targets
+    ensures { λ r. ⌜ Inside (now (heads .entry)) 1 setpointResultIn (r .ok) (r .result) ⌝ }
 {
-    let consumption = sight_of(sights, RESULT, 2);
-    let production = sight_of(sights, RESULT, 3);
+    let consumption = key_head_of(heads, RESULT, 2);
+    let production = key_head_of(heads, RESULT, 3);
     let ok = all3(
-        is_success(sight_of(sights, RESULT, 1)),
+        is_success(key_head_of(heads, RESULT, 1)),
         is_uint(consumption, false, MOST_VALUE),
         is_uint(production, false, MOST_VALUE),
     );
@@ -110,29 +111,29 @@ fn read_targets(sights: &Sights) -> Targets
 }
 
 // The result of SetCurrentLimits.
-fn read_current(sights: &Sights) -> Amounts
-    ensures { λ r. ⌜ InResult (now (sights .entry)) currentResultIn (r .ok) (r .result) ⌝ }
+fn read_current(heads: &KeyHeads) -> Amounts
+    ensures { λ r. ⌜ InResult (now (heads .entry)) currentResultIn (r .ok) (r .result) ⌝ }
 {
     let currents = read_currents(
-        sight_of(sights, RESULT, 2),
-        sight_of(sights, PHASES, 0),
-        sight_of(sights, PHASES, 1),
-        sight_of(sights, PHASES, 2),
+        key_head_of(heads, RESULT, 2),
+        key_head_of(heads, PHASES, 0),
+        key_head_of(heads, PHASES, 1),
+        key_head_of(heads, PHASES, 2),
         MOST_VALUE,
     );
     let result = currents.result;
     Amounts {
-        ok: both(is_success(sight_of(sights, RESULT, 1)), currents.ok),
+        ok: both(is_success(key_head_of(heads, RESULT, 1)), currents.ok),
         result,
     }
 }
 
 // The result of a served command.
-fn read_outcome(sights: &Sights, command: u64) -> Result
-    ensures { λ r. ⌜ OutcomeReads (now (sights .entry)) command r ⌝ }
+fn read_outcome(heads: &KeyHeads, command: u64) -> Result
+    ensures { λ r. ⌜ OutcomeReads (now (heads .entry)) command r ⌝ }
 {
     if command == 1 {
-        let e = read_effect(sights);
+        let e = read_effect(heads);
         if e.ok {
             let result = e.result;
             return Result::Is(Outcome::Limit(result));
@@ -140,7 +141,7 @@ fn read_outcome(sights: &Sights, command: u64) -> Result
         return Result::Wrong;
     }
     if command == 3 {
-        let t = read_targets(sights);
+        let t = read_targets(heads);
         if t.ok {
             let result = t.result;
             return Result::Is(Outcome::Setpoint(result));
@@ -148,34 +149,34 @@ fn read_outcome(sights: &Sights, command: u64) -> Result
         return Result::Wrong;
     }
     if command == 5 {
-        let c = read_current(sights);
+        let c = read_current(heads);
         if c.ok {
             let result = c.result;
             return Result::Is(Outcome::Current(result));
         }
         return Result::Wrong;
     }
-    if is_success(sight_of(sights, RESULT, 1)) {
+    if is_success(key_head_of(heads, RESULT, 1)) {
         return Result::Is(Outcome::Success);
     }
     Result::Wrong
 }
 
 // Whether nothing is there.
-fn is_absent(k: Sight) -> bool
+fn is_absent(k: KeyHead) -> bool
     ensures { λ r. ⌜ Reads k noResult r Outcome.Nothing ⌝ }
 {
     k.major == 8
 }
 
 // The result that stands at a status, or its absence.
-fn read_result(sights: &Sights, command: u64, status: u64) -> Result
-    ensures { λ r. ⌜ ResultReads (now (sights .entry)) command status r ⌝ }
+fn read_result(heads: &KeyHeads, command: u64, status: u64) -> Result
+    ensures { λ r. ⌜ ResultReads (now (heads .entry)) command status r ⌝ }
 {
-    let result = sight_of(sights, ANSWER, 3);
+    let result = key_head_of(heads, ANSWER, 3);
     if has_result(command, status) {
         if is_map(result) {
-            return read_outcome(sights, command);
+            return read_outcome(heads, command);
         }
         return Result::Wrong;
     }
@@ -186,17 +187,17 @@ fn read_result(sights: &Sights, command: u64, status: u64) -> Result
 }
 
 // What is seen in a payload.
-fn read_body(sights: &Sights, command: u64) -> Answer
-    ensures { λ r. ⌜ BodyReads (now (sights .entry)) command r ⌝ }
+fn read_body(heads: &KeyHeads, command: u64) -> Answer
+    ensures { λ r. ⌜ BodyReads (now (heads .entry)) command r ⌝ }
 {
-    let id = sight_of(sights, ANSWER, 1);
-    let status = sight_of(sights, ANSWER, 2);
+    let id = key_head_of(heads, ANSWER, 1);
+    let status = key_head_of(heads, ANSWER, 2);
     if all3(
         is_uint(id, true, MOST32),
         is_uint(status, true, 14),
         is_status(status.arg),
     ) {
-        return match read_result(sights, command, status.arg) {
+        return match read_result(heads, command, status.arg) {
             Result::Is(outcome) => Answer::Is(Response {
                 id: id.arg,
                 status: status.arg,
@@ -224,9 +225,9 @@ fn read_answer(command: u64, frame: &[u8]) -> Answer
 {
     if is_framed(frame) {
         let payload = &frame[PREFIX..];
-        let mut sights = [0u64; wire_cbor::WORDS];
-        if wire_cbor::scan(payload, PATH, &mut sights) {
-            return read_body(&sights, command);
+        let mut heads = [0u64; wire_cbor::WORDS];
+        if wire_cbor::scan(payload, PATH, &mut heads) {
+            return read_body(&heads, command);
         }
         return Answer::Refused(BAD_CBOR);
     }

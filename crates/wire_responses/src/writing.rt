@@ -6,7 +6,7 @@ use wire_fields::MOST_VALUE;
 use wire_fields::MOST32;
 use wire_fields::all3;
 use wire_fields::all4;
-use wire_fields::amount_sight;
+use wire_fields::amount_key_head;
 use wire_fields::both;
 use wire_fields::count_amount;
 use wire_fields::count_phases;
@@ -27,7 +27,7 @@ use wire_messages::is_command;
 use wire_messages::is_status;
 use wire_output::Written;
 use wire_output::refused;
-use wire_output::send;
+use wire_output::write_frame;
 ghost use mathlib.Core.Path.{_≡_};
 ghost use Prim.Native.Nat.{_+_};
 ghost use lib.ListN.{length};
@@ -76,9 +76,9 @@ fn put_currents(out: &mut [u8], at: usize, l: CurrentResult) -> usize
     let x = l.a;
     let y = l.b;
     let z = l.c;
-    let a = amount_sight(x);
-    let b = amount_sight(y);
-    let c = amount_sight(z);
+    let a = amount_key_head(x);
+    let b = amount_key_head(y);
+    let c = amount_key_head(z);
     let head = put_map(out, at, 2, count_phases(a, b, c));
     put_phases(out, head, a, b, c)
 }
@@ -241,7 +241,7 @@ pub fn frame_response(out: &mut [u8], r: Response) -> Written
 {
     let mut payload = [0u8; ROOM];
     let n = put_response(&mut payload, r);
-    send(out, &payload[..n])
+    write_frame(out, &payload[..n])
 }
 
 // Writes a response to a command that the caller names, to the front of `out`.

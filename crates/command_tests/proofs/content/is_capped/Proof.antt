@@ -10,4 +10,4 @@ is-capped-spec =
     tie.close
     (tie.spec
     (λ c κs. search needs)
-    (λ c. c .some-is .ensures ∙ capped _ _))
+    (λ c. c .some-field-is .ensures ∙ capped _ _))

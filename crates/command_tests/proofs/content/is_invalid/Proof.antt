@@ -15,29 +15,29 @@ is-invalid-spec =
     let at-if1 = c .before .before .if1 in
     let at-is-set = c .before .before .before .is-set in
     let set = via (at-is-set .ensures) (at-if1 .taken) in
-    rw (set, via (rw set at (c .before .some-is .ensures)) (c .if2 .taken)))
+    rw (set, via (rw set at (c .before .some-field-is .ensures)) (c .if2 .taken)))
     (λ c κs. search needs) (λ c κs. search needs)
     (λ c.
-    let at-some-is2 = c .before .before .some-is2 in
+    let at-some-field-is2 = c .before .before .some-field-is2 in
     let at-if2 = c .before .before .before .if2 in
-    let at-some-is = c .before .before .before .before .some-is in
+    let at-some-field-is = c .before .before .before .before .some-field-is in
     let at-if1 = c .before .before .before .before .before .if1 in
     let at-is-set = c .before .before .before .before .before .before .is-set in
     let set = via (at-is-set .ensures) (at-if1 .taken) in
     rw (
       set,
-      via (rw set at (at-some-is .ensures)) (at-if2 .left),
-      via (rw set at (at-some-is2 .ensures)) (c .before .if3 .taken),
-    ) (rw set at (c .some-is3 .ensures)))
+      via (rw set at (at-some-field-is .ensures)) (at-if2 .left),
+      via (rw set at (at-some-field-is2 .ensures)) (c .before .if3 .taken),
+    ) (rw set at (c .some-field-is3 .ensures)))
     (λ c.
     let at-if2 = c .before .before .if2 in
-    let at-some-is = c .before .before .before .some-is in
+    let at-some-field-is = c .before .before .before .some-field-is in
     let at-if1 = c .before .before .before .before .if1 in
     let at-is-set = c .before .before .before .before .before .is-set in
     let set = via (at-is-set .ensures) (at-if1 .taken) in
     rw (
       set,
-      via (rw set at (at-some-is .ensures)) (at-if2 .left),
-      via (rw set at (c .before .some-is2 .ensures)) (c .if3 .left),
+      via (rw set at (at-some-field-is .ensures)) (at-if2 .left),
+      via (rw set at (c .before .some-field-is2 .ensures)) (c .if3 .left),
     ))
     (λ c. rw (via (c .before .is-set .ensures) (c .if1 .left))))

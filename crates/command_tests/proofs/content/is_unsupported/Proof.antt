@@ -32,7 +32,7 @@ is-unsupported-spec =
       via (rw (at-kind-of .ensures) at (at-accepts .ensures)) (at-if1 .taken),
       via (rw (at-aim-of .ensures) at (at-aim-unsupported .ensures))
           (c .before .if2 .left),
-    ) (c .some-is .ensures))
+    ) (c .some-field-is .ensures))
     (λ c.
     let at-kind-of = c .before .before .kind-of in
     rw (via (rw (at-kind-of .ensures) at (c .before .accepts .ensures)) (c .if1 .left))))

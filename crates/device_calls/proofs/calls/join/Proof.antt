@@ -1,4 +1,4 @@
--- The tests 5, 6, 7, 8 in the list's order; what 6 lets pass fits the seat, and a zone that joins up leaves `since` alone.
+-- The tests 5, 6, 7, 8 in the list's order; what 6 lets pass fits the precedence, and a zone that joins up leaves `since` alone.
 use Prim.Native.Nat.{_<_, _≤_}
 use mathlib.Core.Path.{sym}
 use native.Mathlib.Omega.{arith}

@@ -1,4 +1,4 @@
--- The number comes from the seat that was found, and the record from the zone in it: Decisions says that these are the definition's.
+-- The number comes from the precedence that was found, and the record from the zone in it: Decisions says that these are the definition's.
 use Rattle.device_calls.proofs.Decisions.{decided, undecided}
 use borrow.Author.Needs.{needs}
 use Rattle.device_calls.proofs.commands.decide.Statement.{statement}

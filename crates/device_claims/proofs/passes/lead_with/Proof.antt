@@ -1,4 +1,4 @@
--- An unexpired value goes in with its seat where no smaller seat stands, and its end where it is nearer.
+-- An unexpired value goes in with its precedence where no smaller precedence stands, and its end where it is nearer.
 use mathlib.Core.Path.{_∙_}
 use native.Mathlib.Omega.{arith}
 use borrow.Author.Needs.{needs}
@@ -16,11 +16,11 @@ mul-if2 c = search needs
 array-read-if2 : tie.Need-array-read-if2
 array-read-if2 c = search needs
 
-mul-seats : tie.Need-mul-seats
-mul-seats c = search needs
+mul-precedences : tie.Need-mul-precedences
+mul-precedences c = search needs
 
-array-write-seats : tie.Need-array-write-seats
-array-write-seats c = search needs
+array-write-precedences : tie.Need-array-write-precedences
+array-write-precedences c = search needs
 
 mul-lead : tie.Need-mul-lead
 mul-lead c = search needs
@@ -54,4 +54,4 @@ returns-3 c = (rw (le-ltb _ _ (c .if1 .left)), omega arith)
 
 pub lead-with-spec : {M : Type 1} → statement M
 lead-with-spec =
-    tie.close (tie.spec mul-if2 array-read-if2 mul-seats array-write-seats mul-lead array-write-lead least-requires returns least-requires-2 returns-2 returns-3)
+    tie.close (tie.spec mul-if2 array-read-if2 mul-precedences array-write-precedences mul-lead array-write-lead least-requires returns least-requires-2 returns-2 returns-3)

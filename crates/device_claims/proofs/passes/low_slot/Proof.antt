@@ -5,28 +5,28 @@ use mathlib.Core.Path.{_≡_, refl, sym, _∙_}
 use native.Mathlib.Omega.{arith}
 use borrow.Author.Tests.{eq-eqb, ne-eqb}
 use lib.ListN.{getD}
-use Rattle.device_store.specs.Quantities.{lows, lowAt}
+use Rattle.device_store.specs.Quantities.{lowest-values, lowAt}
 use Rattle.device_store.specs.Sizes.{most}
 use Rattle.device_store.specs.Zones.{freeZone, isJoined, heldOf}
 use Rattle.device_store.specs.Words.{zonesOf}
 use Rattle.device_store.specs.declared.Zone.{Zone}
-use Rattle.device_claims.specs.Pass.{turns, lowsWith, Bounded}
-use Rattle.device_claims.proofs.Claims.{free-lows, lows-add, lows-end, lows-turn, below-turn}
+use Rattle.device_claims.specs.Pass.{turns, lowestValuesWith, Bounded}
+use Rattle.device_claims.proofs.Claims.{free-lowest-values, lowest-values-add, lowest-values-end, lowest-values-turn, below-turn}
 use Rattle.device_claims.proofs.passes.low_slot.Statement.{statement}
 use Rattle.device_claims.proofs.passes.low_slot.Tie as tie
 
 abbrev Inv-loop : tie.InvT-loop
-Inv-loop d i t g₀ k₀ g k = (k ≤ lows) × (g ≡ lowsWith t (getD (zonesOf d) i freeZone) k g₀) × Bounded (getD (zonesOf d) i freeZone) k
+Inv-loop d i t g₀ k₀ g k = (k ≤ lowest-values) × (g ≡ lowestValuesWith t (getD (zonesOf d) i freeZone) k g₀) × Bounded (getD (zonesOf d) i freeZone) k
 
 abbrev μ-loop : tie.MeasureT-loop
-μ-loop d i t g₀ k₀ g k = lows - k
+μ-loop d i t g₀ k₀ g k = lowest-values - k
 
 id-at-requires : tie.Need-id-at-requires Inv-loop μ-loop
 id-at-requires c κs = tt
 
 returns : tie.Need-returns Inv-loop μ-loop
 unfolding isJoined
-returns c = free-lows _ _ (rw (eq-eqb _ _ (sym (c .before .id-at .ensures) ∙ c .if1 .taken))) _
+returns c = free-lowest-values _ _ (rw (eq-eqb _ _ (sym (c .before .id-at .ensures) ∙ c .if1 .taken))) _
 
 loop-holds : tie.Need-loop-holds Inv-loop μ-loop
 unfolding turns
@@ -55,7 +55,7 @@ loop-again c =
     let x : Zone = getD (zonesOf (at-args .d .now)) (at-args .i) freeZone in
     let held : c .before .held-at .result ≡ heldOf x (lowAt (at-loop .k)) = rw (at-low-at .ensures) at (c .before .held-at .ensures) in (
       omega arith,
-      lows-turn (at-args .t) x (at-loop .k) (at-args .start) (at-loop .g) (c .low-with .result) (c .before .held-at .result) (at-loop .inv .1) held (c .low-with .ensures .0),
+      lowest-values-turn (at-args .t) x (at-loop .k) (at-args .start) (at-loop .g) (c .low-with .result) (c .before .held-at .result) (at-loop .inv .1) held (c .low-with .ensures .0),
       below-turn (λ j. heldOf x (lowAt j) .value ≤ most) (at-loop .k) (at-loop .inv .2) (rw held at (c .low-with .ensures .1)),
     )
 
@@ -66,10 +66,10 @@ returns-2 c =
     let at-if1 = c .before .before .if1 in
     let at-id-at = c .before .before .before .id-at in
     let x : Zone = getD (zonesOf (at-args .d .now)) (at-args .i) freeZone in
-    let e : c .before .loop .k ≡ lows = omega arith in
+    let e : c .before .loop .k ≡ lowest-values = omega arith in
     let joined : isJoined x ≡ true = rw (ne-eqb _ _ (λ z. at-if1 .left (at-id-at .ensures ∙ z))) in
-    let is : c .before .loop .g ≡ lowsWith (at-args .t) x lows (at-args .start) = rw e at (c .before .loop .inv .1) in
-    rw is (lows-add (at-args .t) x joined (at-args .start) (rw e at (c .before .loop .inv .2)), lows-end (at-args .t) x joined (at-args .start))
+    let is : c .before .loop .g ≡ lowestValuesWith (at-args .t) x lowest-values (at-args .start) = rw e at (c .before .loop .inv .1) in
+    rw is (lowest-values-add (at-args .t) x joined (at-args .start) (rw e at (c .before .loop .inv .2)), lowest-values-end (at-args .t) x joined (at-args .start))
 
 pub low-slot-spec : {M : Type 1} → statement M
 low-slot-spec =

@@ -5,24 +5,24 @@ use mathlib.Core.Path.{_≡_, refl}
 use native.Mathlib.Omega.{arith}
 use borrow.Author.Tests.{eq-eqb, ne-eqb}
 use lib.ListN.{getD}
-use Rattle.device_store.specs.Quantities.{lows, lowAt}
+use Rattle.device_store.specs.Quantities.{lowest-values, lowAt}
 use Rattle.device_store.specs.Sizes.{most}
 use Rattle.device_store.specs.Zones.{nothing, freeZone, holding, idOf, isJoined, heldOf}
-use Rattle.device_claims.specs.Pass.{turns, lowsWith, Bounded}
+use Rattle.device_claims.specs.Pass.{turns, lowestValuesWith, Bounded}
 use Rattle.device_claims.proofs.Places.{low-small}
-use Rattle.device_claims.proofs.Claims.{free-lows, lows-add, lows-end, lows-turn, below-turn}
+use Rattle.device_claims.proofs.Claims.{free-lowest-values, lowest-values-add, lowest-values-end, lowest-values-turn, below-turn}
 use Rattle.device_claims.proofs.passes.low_zone.Statement.{statement}
 use Rattle.device_claims.proofs.passes.low_zone.Tie as tie
 
 abbrev Inv-loop : tie.InvT-loop
-Inv-loop t held g₀ k₀ g k = (k ≤ lows) × (g ≡ lowsWith t (holding freeZone held) k g₀) × Bounded (holding freeZone held) k
+Inv-loop t held g₀ k₀ g k = (k ≤ lowest-values) × (g ≡ lowestValuesWith t (holding freeZone held) k g₀) × Bounded (holding freeZone held) k
 
 abbrev μ-loop : tie.MeasureT-loop
-μ-loop t held g₀ k₀ g k = lows - k
+μ-loop t held g₀ k₀ g k = lowest-values - k
 
 returns : tie.Need-returns Inv-loop μ-loop
 unfolding isJoined idOf
-returns c = free-lows _ _ (rw (eq-eqb _ _ (c .if1 .taken))) _
+returns c = free-lowest-values _ _ (rw (eq-eqb _ _ (c .if1 .taken))) _
 
 loop-holds : tie.Need-loop-holds Inv-loop μ-loop
 unfolding turns
@@ -57,7 +57,7 @@ loop-again c =
     let at-loop = c .before .before .before .before .loop in
     let at-low-at = c .before .before .low-at in (
       omega arith,
-      lows-turn (at-args .t) (holding freeZone (at-args .zone .held)) (at-loop .k) (at-args .start) (at-loop .g) (c .low-with .result) _ (at-loop .inv .1)
+      lowest-values-turn (at-args .t) (holding freeZone (at-args .zone .held)) (at-loop .k) (at-args .start) (at-loop .g) (c .low-with .result) _ (at-loop .inv .1)
           (rw (at-low-at .ensures)) (c .low-with .ensures .0),
       below-turn (λ j. heldOf (holding freeZone (at-args .zone .held)) (lowAt j) .value ≤ most) (at-loop .k) (at-loop .inv .2)
           (rw (at-low-at .ensures) at (c .low-with .ensures .1)),
@@ -68,10 +68,10 @@ unfolding isJoined idOf heldOf
 returns-2 c =
     let at-args = c .before .before .before .before .before .args in
     let at-if1 = c .before .before .before .if1 in
-    let e : c .before .loop .k ≡ lows = omega arith in
+    let e : c .before .loop .k ≡ lowest-values = omega arith in
     let joined : isJoined (at-args .zone) ≡ true = rw (ne-eqb _ _ (at-if1 .left)) in
-    let is : c .before .loop .g ≡ lowsWith (at-args .t) (at-args .zone) lows (at-args .start) = rw e at (c .before .loop .inv .1) in
-    rw is (lows-add (at-args .t) (at-args .zone) joined (at-args .start) (rw e at (c .before .loop .inv .2)), lows-end (at-args .t) (at-args .zone) joined (at-args .start))
+    let is : c .before .loop .g ≡ lowestValuesWith (at-args .t) (at-args .zone) lowest-values (at-args .start) = rw e at (c .before .loop .inv .1) in
+    rw is (lowest-values-add (at-args .t) (at-args .zone) joined (at-args .start) (rw e at (c .before .loop .inv .2)), lowest-values-end (at-args .t) (at-args .zone) joined (at-args .start))
 
 pub low-zone-spec : {M : Type 1} → statement M
 low-zone-spec =

@@ -12,11 +12,11 @@ use Rattle.device_holds.proofs.values.values_at.Tie as tie
 link-row-requires : tie.Need-link-row-requires
 link-row-requires c κs = search needs
 
-lows-at-requires : tie.Need-lows-at-requires
-lows-at-requires c κs = search needs
+lowest-values-at-requires : tie.Need-lowest-values-at-requires
+lowest-values-at-requires c κs = search needs
 
-leads-at-requires : tie.Need-leads-at-requires
-leads-at-requires c κs = search needs
+leading-setpoints-at-requires : tie.Need-leading-setpoints-at-requires
+leading-setpoints-at-requires c κs = search needs
 
 values-up-requires : tie.Need-values-up-requires
 values-up-requires c κs = search needs
@@ -26,12 +26,12 @@ returns c =
     let at-args = c .before .before .before .before .before .args in
     let at-link-row = c .before .before .before .before .link-row in
     let at-if1 = c .before .before .before .if1 in
-    let at-lows-at = c .before .before .lows-at in
+    let at-lowest-values-at = c .before .before .lowest-values-at in
     let s : Situation = situationOf (at-args .d .now) in
-    c .values-up .ensures ∙ values-up s (at-args .t) (up-of s (via (at-link-row .ensures) (at-if1 .taken))) _ _ (at-lows-at .ensures .0) (c .before .leads-at .ensures .0)
+    c .values-up .ensures ∙ values-up s (at-args .t) (up-of s (via (at-link-row .ensures) (at-if1 .taken))) _ _ (at-lowest-values-at .ensures .0) (c .before .leading-setpoints-at .ensures .0)
 
-lows-at-requires-2 : tie.Need-lows-at-requires-2
-lows-at-requires-2 c κs = search needs
+lowest-values-at-requires-2 : tie.Need-lowest-values-at-requires-2
+lowest-values-at-requires-2 c κs = search needs
 
 values-down-requires : tie.Need-values-down-requires
 values-down-requires c κs = search needs
@@ -43,7 +43,7 @@ returns-2 c =
     let at-if2 = c .before .before .if2 in
     let s : Situation = situationOf (at-args .d .now) in
     let down : (anyUp (s .zones) ≡ false) × (anyJoined (s .zones) ≡ true) = down-of s (via (at-link-row .ensures) (at-if2 .taken)) in
-    c .values-down .ensures (λ q. winner (at-args .t) q (s .zones)) (c .before .lows-at2 .ensures .0) ∙ values-down s (at-args .t) (down .0) (down .1)
+    c .values-down .ensures (λ q. winner (at-args .t) q (s .zones)) (c .before .lowest-values-at2 .ensures .0) ∙ values-down s (at-args .t) (down .0) (down .1)
 
 values-none-requires : tie.Need-values-none-requires
 values-none-requires c κs = search needs
@@ -61,4 +61,4 @@ pub values-at-spec : {M : Type 1} → statement M
 values-at-spec =
     tie.close
     (tie.spec
-    link-row-requires lows-at-requires leads-at-requires values-up-requires returns lows-at-requires-2 values-down-requires returns-2 values-none-requires returns-3)
+    link-row-requires lowest-values-at-requires leading-setpoints-at-requires values-up-requires returns lowest-values-at-requires-2 values-down-requires returns-2 values-none-requires returns-3)

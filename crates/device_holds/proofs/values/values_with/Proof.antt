@@ -24,10 +24,10 @@ values-with-spec =
     let at-args = c .before .before .before .before .before .before .args in
     let s : Situation = withZone (situationOf (at-args .d .now)) (at-args .slot) (at-args .zone) in
     let at-link-row-with = c .before .before .before .before .before .link-row-with in
-    let at-lows-with = c .before .before .before .lows-with in
+    let at-lowest-values-with = c .before .before .before .lowest-values-with in
     let at-if2 = c .before .before .if2 in
     let up = up-of s (via (at-link-row-with .ensures) (at-if2 .taken)) in
-    c .values-up .ensures ∙ values-up s (at-args .t) up _ _ (at-lows-with .ensures .0) (c .before .leads-with .ensures .0))
+    c .values-up .ensures ∙ values-up s (at-args .t) up _ _ (at-lowest-values-with .ensures .0) (c .before .leading-setpoints-with .ensures .0))
     (λ c κs. search needs)
     (λ c.
     let at-args = c .before .before .before .before .before .args in
@@ -36,4 +36,4 @@ values-with-spec =
     let at-if1 = c .before .before .before .if1 in
     let down : (anyUp (s .zones) ≡ false) × (anyJoined (s .zones) ≡ true) =
     down-else s (rw (← at-link-row-with .ensures) (at-if1 .left)) (rw (← at-link-row-with .ensures) (c .before .if2 .left)) in
-    c .values-down .ensures (λ q. winner (at-args .t) q (s .zones)) (c .before .before .lows-with .ensures .0) ∙ values-down s (at-args .t) (down .0) (down .1)))
+    c .values-down .ensures (λ q. winner (at-args .t) q (s .zones)) (c .before .before .lowest-values-with .ensures .0) ∙ values-down s (at-args .t) (down .0) (down .1)))

@@ -12,11 +12,11 @@ use Rattle.device_holds.proofs.values.view_at.Tie as tie
 link-row-requires : tie.Need-link-row-requires
 link-row-requires c κs = search needs
 
-lows-at-requires : tie.Need-lows-at-requires
-lows-at-requires c κs = search needs
+lowest-values-at-requires : tie.Need-lowest-values-at-requires
+lowest-values-at-requires c κs = search needs
 
-leads-at-requires : tie.Need-leads-at-requires
-leads-at-requires c κs = search needs
+leading-setpoints-at-requires : tie.Need-leading-setpoints-at-requires
+leading-setpoints-at-requires c κs = search needs
 
 values-up-requires : tie.Need-values-up-requires
 values-up-requires c κs = search needs
@@ -26,13 +26,13 @@ returns c =
     let at-args = c .before .before .before .before .before .args in
     let at-link-row = c .before .before .before .before .link-row in
     let at-if1 = c .before .before .before .if1 in
-    let at-lows-at = c .before .before .lows-at in
+    let at-lowest-values-at = c .before .before .lowest-values-at in
     let s : Situation = situationOf (at-args .d .now) in
     let up : anyUp (s .zones) ≡ true = up-of s (via (at-link-row .ensures) (at-if1 .taken)) in
     rw (
-      c .values-up .ensures ∙ values-up s (at-args .t) up (at-lows-at .result) (c .before .leads-at .result) (at-lows-at .ensures .0) (c .before .leads-at .ensures .0),
-      c .before .leads-at .ensures .1,
-      at-lows-at .ensures .1,
+      c .values-up .ensures ∙ values-up s (at-args .t) up (at-lowest-values-at .result) (c .before .leading-setpoints-at .result) (at-lowest-values-at .ensures .0) (c .before .leading-setpoints-at .ensures .0),
+      c .before .leading-setpoints-at .ensures .1,
+      at-lowest-values-at .ensures .1,
       due-up s (at-args .t) up,
     )
 
@@ -45,8 +45,8 @@ settings-at-requires c κs = search needs
 failsafe-end-requires : tie.Need-failsafe-end-requires
 failsafe-end-requires c κs = search needs
 
-lows-at-requires-2 : tie.Need-lows-at-requires-2
-lows-at-requires-2 c κs = search needs
+lowest-values-at-requires-2 : tie.Need-lowest-values-at-requires-2
+lowest-values-at-requires-2 c κs = search needs
 
 values-down-requires : tie.Need-values-down-requires
 values-down-requires c κs = search needs
@@ -62,8 +62,8 @@ returns-2 c =
     let s : Situation = situationOf (at-args .d .now) in
     let down : (anyUp (s .zones) ≡ false) × (anyJoined (s .zones) ≡ true) = down-of s (via (at-link-row .ensures) (at-if2 .taken)) in
     rw (
-      c .values-down .ensures (λ q. winner (at-args .t) q (s .zones)) (c .before .lows-at2 .ensures .0) ∙ values-down s (at-args .t) (down .0) (down .1),
-      c .before .lows-at2 .ensures .1,
+      c .values-down .ensures (λ q. winner (at-args .t) q (s .zones)) (c .before .lowest-values-at2 .ensures .0) ∙ values-down s (at-args .t) (down .0) (down .1),
+      c .before .lowest-values-at2 .ensures .1,
       at-failsafe-end .ensures,
       at-since .ensures,
       at-settings-at .ensures,
@@ -86,5 +86,5 @@ pub view-at-spec : {M : Type 1} → statement M
 view-at-spec =
     tie.close
     (tie.spec
-    link-row-requires lows-at-requires leads-at-requires values-up-requires returns since-requires settings-at-requires failsafe-end-requires lows-at-requires-2
+    link-row-requires lowest-values-at-requires leading-setpoints-at-requires values-up-requires returns since-requires settings-at-requires failsafe-end-requires lowest-values-at-requires-2
     values-down-requires returns-2 values-none-requires returns-3)

@@ -1,4 +1,4 @@
--- `part` gives the seat's word, whose rest by 256 is the id; past the last slot both are 0.
+-- `part` gives the precedence's word, whose rest by 256 is the id; past the last slot both are 0.
 use Prim.Native.Nat.{_%_}
 use mathlib.Core.Path.{refl}
 use native.Mathlib.Nat.{add-zero}
@@ -15,4 +15,4 @@ id-at-spec =
     tie.close
     (tie.spec
     (λ c κs. search needs)
-    (λ c. rw (c .part .ensures) (part-is _ _ (λ x. x .seat % 256) (λ v. v % 256) 0 (rw add-zero) refl)))
+    (λ c. rw (c .part .ensures) (part-is _ _ (λ x. x .precedence % 256) (λ v. v % 256) 0 (rw add-zero) refl)))

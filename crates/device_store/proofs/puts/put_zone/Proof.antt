@@ -1,4 +1,4 @@
--- Seat, link and held values stand one behind the other from the slot's place on; no slot, no store.
+-- Precedence, link and held values stand one behind the other from the slot's place on; no slot, no store.
 use Rattle.device_store.proofs.Stores.{stored, not-stored}
 use borrow.Author.Needs.{needs}
 use Rattle.device_store.proofs.puts.put_zone.Statement.{statement}

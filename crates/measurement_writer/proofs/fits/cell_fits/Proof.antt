@@ -9,4 +9,4 @@ cell-fits-spec =
     tie.close
     (tie.spec
     (λ c κs. search needs) (λ c κs. search needs)
-    (λ c. cell-judged _ _ _ (c .before .cell-sight .ensures) _ (c .is-number .ensures .0)))
+    (λ c. cell-judged _ _ _ (c .before .cell-key-head .ensures) _ (c .is-number .ensures .0)))

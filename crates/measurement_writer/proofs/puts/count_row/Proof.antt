@@ -12,26 +12,26 @@ count-row-spec =
     (λ c κs. search needs)
     (λ c.
     let at-if1 = c .before .before .if1 in
-    let at-cell-sight = c .before .before .before .before .cell-sight in
-    one-absent _ _ _ (at-if1 .taken) _ (at-cell-sight .ensures) (c .if2 .taken))
+    let at-cell-key-head = c .before .before .before .before .cell-key-head in
+    one-absent _ _ _ (at-if1 .taken) _ (at-cell-key-head .ensures) (c .if2 .taken))
     (λ c.
     let at-if1 = c .before .before .if1 in
-    let at-cell-sight = c .before .before .before .before .cell-sight in
-    one-there _ _ _ (at-if1 .taken) _ (at-cell-sight .ensures) (c .if2 .left))
+    let at-cell-key-head = c .before .before .before .before .cell-key-head in
+    one-there _ _ _ (at-if1 .taken) _ (at-cell-key-head .ensures) (c .if2 .left))
     (λ c. search needs) (λ c κs. search needs) (λ c. search needs) (λ c κs. search needs) (λ c κs. search needs)
     (λ c.
-    let at-cell-sight3 = c .before .before .cell-sight3 in
-    let at-cell-sight2 = c .before .before .before .cell-sight2 in
+    let at-cell-key-head3 = c .before .before .cell-key-head3 in
+    let at-cell-key-head2 = c .before .before .before .cell-key-head2 in
     let at-if1 = c .before .before .before .before .if1 in
-    let at-cell-sight = c .before .before .before .before .before .before .cell-sight in
+    let at-cell-key-head = c .before .before .before .before .before .before .cell-key-head in
     let at-pre = c .before .before .before .before .before .before .before .pre in
-    three-absent _ _ _ (three-places _ (at-pre .1) (at-if1 .left)) _ _ _ (at-cell-sight .ensures) (at-cell-sight2 .ensures)
-    (at-cell-sight3 .ensures) _ (c .before .count-phases .ensures) (c .if3 .taken))
+    three-absent _ _ _ (three-places _ (at-pre .1) (at-if1 .left)) _ _ _ (at-cell-key-head .ensures) (at-cell-key-head2 .ensures)
+    (at-cell-key-head3 .ensures) _ (c .before .count-phases .ensures) (c .if3 .taken))
     (λ c.
-    let at-cell-sight3 = c .before .before .cell-sight3 in
-    let at-cell-sight2 = c .before .before .before .cell-sight2 in
+    let at-cell-key-head3 = c .before .before .cell-key-head3 in
+    let at-cell-key-head2 = c .before .before .before .cell-key-head2 in
     let at-if1 = c .before .before .before .before .if1 in
-    let at-cell-sight = c .before .before .before .before .before .before .cell-sight in
+    let at-cell-key-head = c .before .before .before .before .before .before .cell-key-head in
     let at-pre = c .before .before .before .before .before .before .before .pre in
-    three-there _ _ _ (three-places _ (at-pre .1) (at-if1 .left)) _ _ _ (at-cell-sight .ensures) (at-cell-sight2 .ensures)
-    (at-cell-sight3 .ensures) _ (c .before .count-phases .ensures) (c .if3 .left)))
+    three-there _ _ _ (three-places _ (at-pre .1) (at-if1 .left)) _ _ _ (at-cell-key-head .ensures) (at-cell-key-head2 .ensures)
+    (at-cell-key-head3 .ensures) _ (c .before .count-phases .ensures) (c .if3 .left)))

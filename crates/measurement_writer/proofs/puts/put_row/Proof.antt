@@ -13,12 +13,12 @@ put-row-spec =
     (tie.spec
     (λ c κs. search needs) (λ c. search needs) (λ c κs. search needs) (λ c. search needs)
     (λ c.
-    let at-put-sight = c .before .before .put-sight in
-    let at-cell-sight = c .before .before .before .before .before .cell-sight in
+    let at-put-key-head = c .before .before .put-key-head in
+    let at-cell-key-head = c .before .before .before .before .before .cell-key-head in
     let at-if1 = c .before .before .before .before .before .before .if1 in
     let back-8 = c .before .before .before .before .before .before .before .before in
     let at-pre = back-8 .before .pre in
-    one-put _ (key-low _ (at-pre .1)) _ _ (item-one _ _ _ (at-if1 .taken)) _ (at-if1 .taken) _ (at-cell-sight .ensures) (at-put-sight .ensures))
+    one-put _ (key-low _ (at-pre .1)) _ _ (item-one _ _ _ (at-if1 .taken)) _ (at-if1 .taken) _ (at-cell-key-head .ensures) (at-put-key-head .ensures))
     (λ c κs.
     let at-pre = c .before .before .before .before .pre in
     (at-pre .0, at-pre .1, three-places _ (at-pre .1) (c .before .if1 .left)))

@@ -27,7 +27,7 @@ write-measurement-spec =
     sent-length (search needs) (at-put-payload .ensures))
     (λ c κs. search needs) (λ c. search needs)
     (λ c.
-    let at-deliver = c .before .before .deliver in
+    let at-deliver = c .before .before .write-payload in
     let at-put-payload = c .before .before .before .before .before .before .put-payload in
     let at-if1 = c .before .before .before .before .before .before .before .before .if1 in
     let back-8 = c .before .before .before .before .before .before .before .before in

@@ -10,8 +10,8 @@ put-phases-spec =
     (tie.spec
     (λ c κs. search needs) (λ c κs. search needs) (λ c κs. search needs) (λ c. search needs)
     (λ c.
-    let at-put-sight3 = c .before .before .put-sight3 in
-    let at-put-sight2 = c .before .before .before .before .before .before .put-sight2 in
+    let at-put-key-head3 = c .before .before .put-key-head3 in
+    let at-put-key-head2 = c .before .before .before .before .before .before .put-key-head2 in
     let back-8 = c .before .before .before .before .before .before .before .before in
-    let at-put-sight = back-8 .before .before .put-sight in
-    phases-put (at-put-sight .ensures) (at-put-sight2 .ensures) (at-put-sight3 .ensures)))
+    let at-put-key-head = back-8 .before .before .put-key-head in
+    phases-put (at-put-key-head .ensures) (at-put-key-head2 .ensures) (at-put-key-head3 .ensures)))

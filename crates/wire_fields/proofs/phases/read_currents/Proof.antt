@@ -1,7 +1,7 @@
 -- The one test, with each phase as an amount.
 use Rattle.wire_fields.specs.Fields.{amountIn}
 use Rattle.wire_fields.specs.ByPhase.{currentsIn, currentsFrom}
-use Rattle.wire_fields.specs.Sights.{amountOf}
+use Rattle.wire_fields.specs.KeyHeads.{amountOf}
 use Rattle.wire_fields.specs.Ranges.{upToMost}
 use Rattle.wire_fields.proofs.RangeLaws.{amounts-by-range}
 use Rattle.wire_fields.proofs.PhaseLaws.{phases-read}

@@ -1,7 +1,7 @@
 -- The one test, with each phase as a field.
 use Rattle.wire_fields.specs.Fields.{valueIn}
 use Rattle.wire_fields.specs.ByPhase.{phasesIn, phasesFrom}
-use Rattle.wire_fields.specs.Sights.{fieldOf}
+use Rattle.wire_fields.specs.KeyHeads.{fieldOf}
 use Rattle.wire_fields.specs.Ranges.{signedBits}
 use Rattle.wire_fields.proofs.RangeLaws.{values-by-range}
 use Rattle.wire_fields.proofs.PhaseLaws.{phases-read}

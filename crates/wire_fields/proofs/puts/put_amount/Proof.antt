@@ -11,7 +11,7 @@ put-amount-spec =
     (tie.spec
     (λ c κs. search needs) (λ c κs. search needs) (λ c. search needs)
     (λ c.
-    let at-put-sight = c .before .before .put-sight in
-    let at-amount-sight = c .before .before .before .amount-sight in
+    let at-put-key-head = c .before .before .put-key-head in
+    let at-amount-key-head = c .before .before .before .amount-key-head in
     let at-args = c .before .before .before .before .before .before .args in
-    flat-put _ (amountItem (at-args .a)) (flat-amount (at-args .a)) _ (at-amount-sight .ensures) (at-put-sight .ensures)))
+    flat-put _ (amountItem (at-args .a)) (flat-amount (at-args .a)) _ (at-amount-key-head .ensures) (at-put-key-head .ensures)))

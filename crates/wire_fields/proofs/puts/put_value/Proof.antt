@@ -11,7 +11,7 @@ put-value-spec =
     (tie.spec
     (λ c κs. search needs) (λ c κs. search needs) (λ c. search needs)
     (λ c.
-    let at-put-sight = c .before .before .put-sight in
-    let at-field-sight = c .before .before .before .field-sight in
+    let at-put-key-head = c .before .before .put-key-head in
+    let at-field-key-head = c .before .before .before .field-key-head in
     let at-args = c .before .before .before .before .before .before .args in
-    flat-put _ (valueItem (at-args .f)) (flat-value (at-args .f)) _ (at-field-sight .ensures) (at-put-sight .ensures)))
+    flat-put _ (valueItem (at-args .f)) (flat-value (at-args .f)) _ (at-field-key-head .ensures) (at-put-key-head .ensures)))

@@ -1,6 +1,6 @@
 -- What is seen says which kind of item it is.
 use mathlib.Core.Path.{refl}
-use Rattle.wire_fields.proofs.BySight.{map-reads}
+use Rattle.wire_fields.proofs.ByKeyHead.{map-reads}
 use Rattle.wire_fields.proofs.readers.is_map.Statement.{statement}
 use Rattle.wire_fields.proofs.readers.is_map.Tie as tie
 

@@ -1,5 +1,5 @@
 -- What is seen says which kind of item it is, and which number.
-use Rattle.wire_fields.proofs.BySight.{uint-reads}
+use Rattle.wire_fields.proofs.ByKeyHead.{uint-reads}
 use borrow.Author.Needs.{needs}
 use Rattle.wire_fields.proofs.readers.is_uint.Statement.{statement}
 use Rattle.wire_fields.proofs.readers.is_uint.Tie as tie

@@ -1,4 +1,4 @@
--- The sight of the cause says it.
+-- The head of the cause says it.
 use borrow.Author.Needs.{needs}
 use Rattle.wire_requests.proofs.reading.is_cause.Statement.{statement}
 use Rattle.wire_requests.proofs.reading.is_cause.Tie as tie

@@ -19,16 +19,16 @@ read-message-spec =
     let at-both = c .before .before .before .before .before .both in
     let at-is-command = c .before .before .before .before .before .before .is-command in
     let at-is-served = c .before .before .before .before .before .before .before .is-served in
-    let at-sight-of4 = c .before .before .before .before .before .before .before .before .sight-of4 in
+    let at-key-head-of4 = c .before .before .before .before .before .before .before .before .key-head-of4 in
     let back-8 = c .before .before .before .before .before .before .before .before in
-    let at-sight-of3 = back-8 .before .sight-of3 in
-    let at-sight-of2 = back-8 .before .before .sight-of2 in
-    let at-sight-of = back-8 .before .before .before .sight-of in
+    let at-key-head-of3 = back-8 .before .key-head-of3 in
+    let at-key-head-of2 = back-8 .before .before .key-head-of2 in
+    let at-key-head-of = back-8 .before .before .before .key-head-of in
     let at-if1 = back-8 .before .before .before .before .if1 in
     let at-is-envelope = back-8 .before .before .before .before .before .is-envelope in
     let at-args = back-8 .before .before .before .before .before .before .args in
-    message-is (at-args .sights .now) _ (at-is-envelope .ensures) (at-if1 .taken) _ _ _ _ (at-sight-of .ensures) (at-sight-of2 .ensures)
-    (at-sight-of3 .ensures) (at-sight-of4 .ensures) _ (at-both .ensures ∙ and-same (at-is-served .ensures) (at-is-command .ensures))
+    message-is (at-args .heads .now) _ (at-is-envelope .ensures) (at-if1 .taken) _ _ _ _ (at-key-head-of .ensures) (at-key-head-of2 .ensures)
+    (at-key-head-of3 .ensures) (at-key-head-of4 .ensures) _ (at-both .ensures ∙ and-same (at-is-served .ensures) (at-is-command .ensures))
     (at-if2 .taken) _ (at-read-command .ensures) _ (c .before .command .given .1))
     (λ c.
     let at-read-command = c .before .before .read-command in
@@ -36,31 +36,31 @@ read-message-spec =
     let at-both = c .before .before .before .before .both in
     let at-is-command = c .before .before .before .before .before .is-command in
     let at-is-served = c .before .before .before .before .before .before .is-served in
-    let at-sight-of4 = c .before .before .before .before .before .before .before .sight-of4 in
-    let at-sight-of3 = c .before .before .before .before .before .before .before .before .sight-of3 in
+    let at-key-head-of4 = c .before .before .before .before .before .before .before .key-head-of4 in
+    let at-key-head-of3 = c .before .before .before .before .before .before .before .before .key-head-of3 in
     let back-8 = c .before .before .before .before .before .before .before .before in
-    let at-sight-of2 = back-8 .before .sight-of2 in
-    let at-sight-of = back-8 .before .before .sight-of in
+    let at-key-head-of2 = back-8 .before .key-head-of2 in
+    let at-key-head-of = back-8 .before .before .key-head-of in
     let at-if1 = back-8 .before .before .before .if1 in
     let at-is-envelope = back-8 .before .before .before .before .is-envelope in
     let at-args = back-8 .before .before .before .before .before .args in
-    message-wrong (at-args .sights .now) _ (at-is-envelope .ensures) (at-if1 .taken) _ _ _ _ (at-sight-of .ensures) (at-sight-of2 .ensures)
-    (at-sight-of3 .ensures) (at-sight-of4 .ensures) _ (at-both .ensures ∙ and-same (at-is-served .ensures) (at-is-command .ensures))
+    message-wrong (at-args .heads .now) _ (at-is-envelope .ensures) (at-if1 .taken) _ _ _ _ (at-key-head-of .ensures) (at-key-head-of2 .ensures)
+    (at-key-head-of3 .ensures) (at-key-head-of4 .ensures) _ (at-both .ensures ∙ and-same (at-is-served .ensures) (at-is-command .ensures))
     (at-if2 .taken) _ (at-read-command .ensures) (c .enum-told .given .1))
     (λ c.
     let at-is-command = c .before .before .is-command in
     let at-is-served = c .before .before .before .is-served in
-    let at-sight-of4 = c .before .before .before .before .sight-of4 in
-    let at-sight-of3 = c .before .before .before .before .before .sight-of3 in
-    let at-sight-of2 = c .before .before .before .before .before .before .sight-of2 in
-    let at-sight-of = c .before .before .before .before .before .before .before .sight-of in
+    let at-key-head-of4 = c .before .before .before .before .key-head-of4 in
+    let at-key-head-of3 = c .before .before .before .before .before .key-head-of3 in
+    let at-key-head-of2 = c .before .before .before .before .before .before .key-head-of2 in
+    let at-key-head-of = c .before .before .before .before .before .before .before .key-head-of in
     let at-if1 = c .before .before .before .before .before .before .before .before .if1 in
     let back-8 = c .before .before .before .before .before .before .before .before in
     let at-is-envelope = back-8 .before .is-envelope in
     let at-args = back-8 .before .before .args in
-    unserved (at-args .sights .now) _ (at-is-envelope .ensures) (at-if1 .taken) _ _ _ _ (at-sight-of .ensures) (at-sight-of2 .ensures)
-    (at-sight-of3 .ensures) (at-sight-of4 .ensures) _ (c .before .both .ensures ∙ and-same (at-is-served .ensures) (at-is-command .ensures))
+    unserved (at-args .heads .now) _ (at-is-envelope .ensures) (at-if1 .taken) _ _ _ _ (at-key-head-of .ensures) (at-key-head-of2 .ensures)
+    (at-key-head-of3 .ensures) (at-key-head-of4 .ensures) _ (c .before .both .ensures ∙ and-same (at-is-served .ensures) (at-is-command .ensures))
     (c .if2 .left))
     (λ c.
     let at-args = c .before .before .args in
-    envelope-wrong (at-args .sights .now) _ (c .before .is-envelope .ensures) (c .if1 .left)))
+    envelope-wrong (at-args .heads .now) _ (c .before .is-envelope .ensures) (c .if1 .left)))

@@ -19,11 +19,11 @@ put-fields-spec =
     let at-put-map = c .before .before .before .before .before .before .put-map in
     let at-count-phases = c .before .before .before .before .before .before .before .count-phases in
     let back-8 = c .before .before .before .before .before .before .before .before in
-    let at-field-sight3 = back-8 .before .field-sight3 in
-    let at-field-sight2 = back-8 .before .before .field-sight2 in
-    let at-field-sight = back-8 .before .before .before .field-sight in
+    let at-field-key-head3 = back-8 .before .field-key-head3 in
+    let at-field-key-head2 = back-8 .before .before .field-key-head2 in
+    let at-field-key-head = back-8 .before .before .before .field-key-head in
     let at-args = back-8 .before .before .before .before .before .args in
     puts-map 1 (valueItem (at-args .p .a)) (valueItem (at-args .p .b)) (valueItem (at-args .p .c)) (flat-value (at-args .p .a))
     (flat-value (at-args .p .b)) (flat-value (at-args .p .c))
-    (rw (at-field-sight .ensures, at-field-sight2 .ensures, at-field-sight3 .ensures) at (at-count-phases .ensures)) (at-put-map .ensures)
-    (rw (at-field-sight .ensures, at-field-sight2 .ensures, at-field-sight3 .ensures) at (at-put-phases .ensures))))
+    (rw (at-field-key-head .ensures, at-field-key-head2 .ensures, at-field-key-head3 .ensures) at (at-count-phases .ensures)) (at-put-map .ensures)
+    (rw (at-field-key-head .ensures, at-field-key-head2 .ensures, at-field-key-head3 .ensures) at (at-put-phases .ensures))))

@@ -24,7 +24,7 @@ write-request-spec =
     sent-length (search needs) (at-put-request .ensures))
     (λ c κs. search needs) (λ c. search needs)
     (λ c.
-    let at-send = c .before .before .send in
+    let at-send = c .before .before .write-frame in
     let at-put-request = c .before .before .before .before .before .before .put-request in
     let at-if1 = c .before .before .before .before .before .before .before .before .if1 in
     let back-8 = c .before .before .before .before .before .before .before .before in

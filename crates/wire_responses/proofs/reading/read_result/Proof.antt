@@ -13,29 +13,29 @@ read-result-spec =
     let at-is-map = c .before .before .is-map in
     let at-if1 = c .before .before .before .if1 in
     let at-has-result = c .before .before .before .before .has-result in
-    let at-sight-of = c .before .before .before .before .before .sight-of in
+    let at-key-head-of = c .before .before .before .before .before .key-head-of in
     let at-args = c .before .before .before .before .before .before .args in
-    result-is (at-args .sights .now) (at-args .command) (at-args .status) _ (at-sight-of .ensures) _ (at-has-result .ensures) (at-if1 .taken) _
+    result-is (at-args .heads .now) (at-args .command) (at-args .status) _ (at-key-head-of .ensures) _ (at-has-result .ensures) (at-if1 .taken) _
     (at-is-map .ensures .0) (c .before .if2 .taken) _ (c .read-outcome .ensures))
     (λ c.
     let at-if1 = c .before .before .if1 in
     let at-has-result = c .before .before .before .has-result in
-    let at-sight-of = c .before .before .before .before .sight-of in
+    let at-key-head-of = c .before .before .before .before .key-head-of in
     let at-args = c .before .before .before .before .before .args in
-    result-no-map (at-args .sights .now) (at-args .command) (at-args .status) _ (at-sight-of .ensures) _ (at-has-result .ensures) (at-if1 .taken) _
+    result-no-map (at-args .heads .now) (at-args .command) (at-args .status) _ (at-key-head-of .ensures) _ (at-has-result .ensures) (at-if1 .taken) _
     (c .before .is-map .ensures .0) (c .if2 .left))
     (λ c κs. search needs)
     (λ c.
     let at-if1 = c .before .before .if1 in
     let at-has-result = c .before .before .before .has-result in
-    let at-sight-of = c .before .before .before .before .sight-of in
+    let at-key-head-of = c .before .before .before .before .key-head-of in
     let at-args = c .before .before .before .before .before .args in
-    result-none (at-args .sights .now) (at-args .command) (at-args .status) _ (at-sight-of .ensures) _ (at-has-result .ensures) (at-if1 .left) _
+    result-none (at-args .heads .now) (at-args .command) (at-args .status) _ (at-key-head-of .ensures) _ (at-has-result .ensures) (at-if1 .left) _
     (c .before .is-absent .ensures) (c .if3 .taken))
     (λ c.
     let at-if1 = c .before .before .if1 in
     let at-has-result = c .before .before .before .has-result in
-    let at-sight-of = c .before .before .before .before .sight-of in
+    let at-key-head-of = c .before .before .before .before .key-head-of in
     let at-args = c .before .before .before .before .before .args in
-    result-elsewhere (at-args .sights .now) (at-args .command) (at-args .status) _ (at-sight-of .ensures) _ (at-has-result .ensures) (at-if1 .left) _
+    result-elsewhere (at-args .heads .now) (at-args .command) (at-args .status) _ (at-key-head-of .ensures) _ (at-has-result .ensures) (at-if1 .left) _
     (c .before .is-absent .ensures) (c .if3 .left)))

@@ -19,11 +19,11 @@ put-currents-spec =
     let at-put-map = c .before .before .before .before .before .before .put-map in
     let at-count-phases = c .before .before .before .before .before .before .before .count-phases in
     let back-8 = c .before .before .before .before .before .before .before .before in
-    let at-amount-sight3 = back-8 .before .amount-sight3 in
-    let at-amount-sight2 = back-8 .before .before .amount-sight2 in
-    let at-amount-sight = back-8 .before .before .before .amount-sight in
+    let at-amount-key-head3 = back-8 .before .amount-key-head3 in
+    let at-amount-key-head2 = back-8 .before .before .amount-key-head2 in
+    let at-amount-key-head = back-8 .before .before .before .amount-key-head in
     let at-args = back-8 .before .before .before .before .before .args in
     puts-map 2 (amountItem (at-args .l .a)) (amountItem (at-args .l .b)) (amountItem (at-args .l .c)) (flat-amount (at-args .l .a))
     (flat-amount (at-args .l .b)) (flat-amount (at-args .l .c))
-    (rw (at-amount-sight .ensures, at-amount-sight2 .ensures, at-amount-sight3 .ensures) at (at-count-phases .ensures)) (at-put-map .ensures)
-    (rw (at-amount-sight .ensures, at-amount-sight2 .ensures, at-amount-sight3 .ensures) at (at-put-phases .ensures))))
+    (rw (at-amount-key-head .ensures, at-amount-key-head2 .ensures, at-amount-key-head3 .ensures) at (at-count-phases .ensures)) (at-put-map .ensures)
+    (rw (at-amount-key-head .ensures, at-amount-key-head2 .ensures, at-amount-key-head3 .ensures) at (at-put-phases .ensures))))
