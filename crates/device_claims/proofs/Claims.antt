@@ -10,7 +10,7 @@ use borrow.Author.Tests.{lt-ltb, le-ltb, le-leb, lt-leb, ltb-true, ltb-false, eq
 use lib.Dec.{ltb, leb, eqb}
 use lib.ListN.{length, getD, set, take, replicate, length-set}
 use lib.Seq.{take-suc, take-all, getD-set-same, getD-set-other}
-use Rattle.device_store.specs.Quantities.{lowest-values, leading-setpoints, isSetpoint, lowAt, leadAt}
+use Rattle.device_store.specs.Quantities.{lowestValues, leadingSetpoints, isSetpoint, lowAt, leadAt}
 use Rattle.device_store.specs.Sizes.{most}
 use Rattle.device_store.specs.Zones.{upTo, precedenceOf, idOf, rankOf, freeZone, isJoined, heldOf}
 use Rattle.device_claims.specs.Claim.{Claim, noClaim, claimOf, goesBefore, better, winner}
@@ -179,16 +179,16 @@ unfolding zoneDues
 free-ends next t x at n g e = rw e
 
 module _ (t : ℕ) (x : Zone) (e : isJoined x ≡ false) where
-  pub free-lowest-values : (g : LowestValues) → Adds LowestValuesMet t x g g × (g .next ≡ foldl (nearer t) (g .next) (zoneDues lowAt lowest-values x))
+  pub free-lowest-values : (g : LowestValues) → Adds LowestValuesMet t x g g × (g .next ≡ foldl (nearer t) (g .next) (zoneDues lowAt lowestValues x))
   free-lowest-values g = (
     λ f m. record { size = m .size; low = λ k h. rw (free-keeps t (lowAt k) (f (lowAt k)) x e) (m .low k h) },
-    free-ends (λ (g : LowestValues). g .next) t x lowAt lowest-values g e,
+    free-ends (λ (g : LowestValues). g .next) t x lowAt lowestValues g e,
   )
 
-  pub free-leading-setpoints : (g : LeadingSetpoints) → Adds LeadingSetpointsMet t x g g × (g .next ≡ foldl (nearer t) (g .next) (zoneDues leadAt leading-setpoints x))
+  pub free-leading-setpoints : (g : LeadingSetpoints) → Adds LeadingSetpointsMet t x g g × (g .next ≡ foldl (nearer t) (g .next) (zoneDues leadAt leadingSetpoints x))
   free-leading-setpoints g = (
     λ f m. record { precedenceSize = m .precedenceSize; leadSize = m .leadSize; lead = λ k h. rw (free-keeps t (leadAt k) (f (leadAt k)) x e) (m .lead k h) },
-    free-ends (λ (g : LeadingSetpoints). g .next) t x leadAt leading-setpoints g e,
+    free-ends (λ (g : LeadingSetpoints). g .next) t x leadAt leadingSetpoints g e,
   )
 
 -- A JOINED ZONE: all its limits are met, all its setpoints
@@ -204,22 +204,22 @@ module _ (t : ℕ) (x : Zone) (e : isJoined x ≡ true) where
   unfolding lowStep
   low-next k g = refl
 
-  pub lowest-values-add : (g : LowestValues) → Bounded x lowest-values → Adds LowestValuesMet t x g (lowestValuesWith t x lowest-values g)
+  pub lowest-values-add : (g : LowestValues) → Bounded x lowestValues → Adds LowestValuesMet t x g (lowestValuesWith t x lowestValues g)
   lowest-values-add g a f m =
       let array : LowestValues → List ℕ = λ (g : LowestValues). g .low in
       let taken : ℕ → LowestValues → Bool = λ (k : ℕ) (g : LowestValues). ltb t (heldOf x (lowAt k) .until) in
       let v : ℕ → LowestValues → ℕ = λ (k : ℕ) (g : LowestValues). lesser (heldOf x (lowAt k) .value) (getD (g .low) k 0) in
       record {
-        size = turns-size lowTurn array taken v low-is g lowest-values ∙ m .size;
+        size = turns-size lowTurn array taken v low-is g lowestValues ∙ m .size;
         low = λ k h.
-            turns-below lowTurn array taken v low-is g lowest-values k h (omega (arith, m .size))
+            turns-below lowTurn array taken v low-is g lowestValues k h (omega (arith, m .size))
             ∙ rw (turns-above lowTurn array taken v low-is g k k (omega arith))
             (limit-more t (lowAt k) (f (lowAt k)) x e (low-no-setpoint k) (getD (g .low) k 0) (m .low k h) (a k h));
       }
 
-  pub lowest-values-end : (g : LowestValues) → lowestValuesWith t x lowest-values g .next ≡ foldl (nearer t) (g .next) (zoneDues lowAt lowest-values x)
+  pub lowest-values-end : (g : LowestValues) → lowestValuesWith t x lowestValues g .next ≡ foldl (nearer t) (g .next) (zoneDues lowAt lowestValues x)
   unfolding zoneDues
-  lowest-values-end g = rw e (turns-next t lowTurn (λ (g : LowestValues). g .next) (λ k. heldOf x (lowAt k) .until) low-next lowest-values g)
+  lowest-values-end g = rw e (turns-next t lowTurn (λ (g : LowestValues). g .next) (λ k. heldOf x (lowAt k) .until) low-next lowestValues g)
 
   abbrev leadTurn : ℕ → LeadingSetpoints → LeadingSetpoints
   leadTurn k = leadStep t (heldOf x (leadAt k)) (x .precedence) k
@@ -239,27 +239,27 @@ module _ (t : ℕ) (x : Zone) (e : isJoined x ≡ true) where
   unfolding leadStep
   lead-next k g = refl
 
-  pub leading-setpoints-add : (g : LeadingSetpoints) → x .precedence ≤ most → Adds LeadingSetpointsMet t x g (leadingSetpointsWith t x leading-setpoints g)
+  pub leading-setpoints-add : (g : LeadingSetpoints) → x .precedence ≤ most → Adds LeadingSetpointsMet t x g (leadingSetpointsWith t x leadingSetpoints g)
   leading-setpoints-add g s f m =
       let precedences : LeadingSetpoints → List ℕ = λ (g : LeadingSetpoints). g .precedence in
       let values : LeadingSetpoints → List ℕ = λ (g : LeadingSetpoints). g .lead in
       let precedence : ℕ → LeadingSetpoints → ℕ = λ (k : ℕ) (g : LeadingSetpoints). x .precedence in
       let value : ℕ → LeadingSetpoints → ℕ = λ (k : ℕ) (g : LeadingSetpoints). heldOf x (leadAt k) .value in
       record {
-        precedenceSize = turns-size leadTurn precedences leadTaken precedence precedence-is g leading-setpoints ∙ m .precedenceSize;
-        leadSize = turns-size leadTurn values leadTaken value lead-is g leading-setpoints ∙ m .leadSize;
+        precedenceSize = turns-size leadTurn precedences leadTaken precedence precedence-is g leadingSetpoints ∙ m .precedenceSize;
+        leadSize = turns-size leadTurn values leadTaken value lead-is g leadingSetpoints ∙ m .leadSize;
         lead = λ k h.
             rw (
-              turns-below leadTurn precedences leadTaken precedence precedence-is g leading-setpoints k h (omega (arith, m .precedenceSize)),
-              turns-below leadTurn values leadTaken value lead-is g leading-setpoints k h (omega (arith, m .leadSize)),
+              turns-below leadTurn precedences leadTaken precedence precedence-is g leadingSetpoints k h (omega (arith, m .precedenceSize)),
+              turns-below leadTurn values leadTaken value lead-is g leadingSetpoints k h (omega (arith, m .leadSize)),
               turns-above leadTurn precedences leadTaken precedence precedence-is g k k (omega arith),
             )
             (lead-more t (leadAt k) (f (leadAt k)) x e (lead-setpoint k h) (getD (g .precedence) k 0) (getD (g .lead) k 0) (m .lead k h) s);
       }
 
-  pub leading-setpoints-end : (g : LeadingSetpoints) → leadingSetpointsWith t x leading-setpoints g .next ≡ foldl (nearer t) (g .next) (zoneDues leadAt leading-setpoints x)
+  pub leading-setpoints-end : (g : LeadingSetpoints) → leadingSetpointsWith t x leadingSetpoints g .next ≡ foldl (nearer t) (g .next) (zoneDues leadAt leadingSetpoints x)
   unfolding zoneDues
-  leading-setpoints-end g = rw e (turns-next t leadTurn (λ (g : LeadingSetpoints). g .next) (λ k. heldOf x (leadAt k) .until) lead-next leading-setpoints g)
+  leading-setpoints-end g = rw e (turns-next t leadTurn (λ (g : LeadingSetpoints). g .next) (λ k. heldOf x (leadAt k) .until) lead-next leadingSetpoints g)
 
 -- the loops over the limits and the setpoints of one zone
 pub lowest-values-turn : (t : ℕ) (x : Zone) (k : ℕ) (g₀ g r : LowestValues) (h : Held) → g ≡ lowestValuesWith t x k g₀ → h ≡ heldOf x (lowAt k) → r ≡ lowStep t h k g → r ≡ lowestValuesWith t x (k + 1) g₀
@@ -285,17 +285,17 @@ all-most zero k h = absurd (omega arith)
 all-most (suc n) zero h = refl
 all-most (suc n) (suc k) h = all-most n k (omega arith)
 
-pub none-lowest-values : (n : ℕ) → LowestValuesMet (record { low = replicate lowest-values most; next = n }) (λ q. noClaim)
+pub none-lowest-values : (n : ℕ) → LowestValuesMet (record { low = replicate lowestValues most; next = n }) (λ q. noClaim)
 unfolding claimNumber
-none-lowest-values n = record { size = refl; low = λ k h. all-most lowest-values k h }
+none-lowest-values n = record { size = refl; low = λ k h. all-most lowestValues k h }
 
-pub none-leading-setpoints : (n : ℕ) → LeadingSetpointsMet (record { precedence = replicate leading-setpoints most; lead = replicate leading-setpoints most; next = n }) (λ q. noClaim)
+pub none-leading-setpoints : (n : ℕ) → LeadingSetpointsMet (record { precedence = replicate leadingSetpoints most; lead = replicate leadingSetpoints most; next = n }) (λ q. noClaim)
 unfolding claimNumber placeOf
 none-leading-setpoints n =
     record {
       precedenceSize = refl;
       leadSize = refl;
-      lead = λ k h. record { place = all-most leading-setpoints k h; number = all-most leading-setpoints k h; small = omega arith };
+      lead = λ k h. record { place = all-most leadingSetpoints k h; number = all-most leadingSetpoints k h; small = omega arith };
     }
 
 -- ALL ZONES, by the kind of quantity: what its numbers stand for, and when the k-th of it ends

@@ -6,7 +6,7 @@ use native.Mathlib.Decide.{decLt}
 use native.Mathlib.Omega.{arith}
 use borrow.Author.Tests.{lt-ltb, le-ltb, le-leb, lt-leb, ltb-true, ltb-false, leb-true, leb-false}
 use lib.Dec.{ltb, leb}
-use Rattle.device_store.specs.Quantities.{helds, lowest-values, leading-setpoints, isLimit, isSetpoint, lowAt, leadAt}
+use Rattle.device_store.specs.Quantities.{helds, lowestValues, leadingSetpoints, isLimit, isSetpoint, lowAt, leadAt}
 use Rattle.device_store.proofs.Tests.{never}
 
 pub low-no-setpoint : (k : ℕ) → isSetpoint (lowAt k) ≡ false
@@ -21,7 +21,7 @@ low-no-setpoint k =
     go true = refl
     go false = refl
 
-pub lead-setpoint : (k : ℕ) → k < leading-setpoints → isSetpoint (leadAt k) ≡ true
+pub lead-setpoint : (k : ℕ) → k < leadingSetpoints → isSetpoint (leadAt k) ≡ true
 lead-setpoint k h = rw (le-leb 2 (leadAt k) (omega arith), lt-ltb (leadAt k) 4 (omega arith))
 
 -- a setpoint stands behind the limits and before the currents
@@ -52,17 +52,17 @@ current-at q h = rw (le-ltb (q - 2) 2 (omega arith)) (omega arith)
 pub no-setpoint : (q : ℕ) → isSetpoint q ≡ false → 2 ≤ q → 4 ≤ q
 no-setpoint q e h = ltb-false q 4 (rw (le-leb 2 q h) at e)
 
-pub low-of : (q : ℕ) → q < helds → isSetpoint q ≡ false → (k : ℕ) × (k < lowest-values) × (lowAt k ≡ q)
+pub low-of : (q : ℕ) → q < helds → isSetpoint q ≡ false → (k : ℕ) × (k < lowestValues) × (lowAt k ≡ q)
 low-of q h e =
     elim (decLt q 2) [
       | yes l ↦ (q, omega arith, limit-at q l)
       | no l ↦ let far : 4 ≤ q = no-setpoint q e (omega arith) in (q - 2, omega arith, current-at q far)
     ]
 
-pub lead-of : (q : ℕ) → isSetpoint q ≡ true → (k : ℕ) × (k < leading-setpoints) × (leadAt k ≡ q)
+pub lead-of : (q : ℕ) → isSetpoint q ≡ true → (k : ℕ) × (k < leadingSetpoints) × (leadAt k ≡ q)
 lead-of q e = let p : (2 ≤ q) × (q < 4) = setpoint-place q e in (q - 2, omega arith, omega arith)
 
-pub low-small : (k : ℕ) → k < lowest-values → lowAt k < helds
+pub low-small : (k : ℕ) → k < lowestValues → lowAt k < helds
 unfolding lowAt
 low-small k h =
     elim (decLt k 2) [

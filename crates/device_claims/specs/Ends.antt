@@ -2,7 +2,7 @@
 use Prim.Native.Nat.{ℕ}
 use mathlib.Core.Bool.{cond}
 use mathlib.Core.List.{List, [], _∷_, _++_}
-use Rattle.device_store.specs.Quantities.{lowest-values, leading-setpoints, lowAt, leadAt}
+use Rattle.device_store.specs.Quantities.{lowestValues, leadingSetpoints, lowAt, leadAt}
 use Rattle.device_store.specs.Zones.{upTo, heldOf, isJoined}
 use Rattle.device_store.specs.declared.Zone.{Zone}
 
@@ -16,7 +16,7 @@ heldDues at n (x ∷ xs) = zoneDues at n x ++ heldDues at n xs
 
 -- the ends of all that go by the smallest, and of all that go by the precedence
 abbrev pub lowDues : List Zone → List ℕ
-lowDues zs = heldDues lowAt lowest-values zs
+lowDues zs = heldDues lowAt lowestValues zs
 
 abbrev pub leadDues : List Zone → List ℕ
-leadDues zs = heldDues leadAt leading-setpoints zs
+leadDues zs = heldDues leadAt leadingSetpoints zs

@@ -5,7 +5,7 @@ use mathlib.Core.Path.{_≡_}
 use mathlib.Core.List.{List}
 use lib.Dec.{ltb, leb}
 use lib.ListN.{length, getD, set}
-use Rattle.device_store.specs.Quantities.{lowest-values, leading-setpoints, lowAt, leadAt}
+use Rattle.device_store.specs.Quantities.{lowestValues, leadingSetpoints, lowAt, leadAt}
 use Rattle.device_store.specs.Sizes.{ids, most}
 use Rattle.device_store.specs.Zones.{precedenceOf, heldOf}
 use Rattle.device_store.specs.declared.Held.{Held}
@@ -67,13 +67,13 @@ pub record Stands (a : Claim) (precedence value : ℕ) : Type 0 where
 
 -- the numbers met so far stand for the claim f q of each limit q, of each setpoint q
 pub record LowestValuesMet (g : LowestValues) (f : ℕ → Claim) : Type 0 where
-  pub size : length (g .low) ≡ lowest-values
-  pub low : (k : ℕ) → k < lowest-values → getD (g .low) k 0 ≡ claimNumber (f (lowAt k))
+  pub size : length (g .low) ≡ lowestValues
+  pub low : (k : ℕ) → k < lowestValues → getD (g .low) k 0 ≡ claimNumber (f (lowAt k))
 
 pub record LeadingSetpointsMet (g : LeadingSetpoints) (f : ℕ → Claim) : Type 0 where
-  pub precedenceSize : length (g .precedence) ≡ leading-setpoints
-  pub leadSize : length (g .lead) ≡ leading-setpoints
-  pub lead : (k : ℕ) → k < leading-setpoints → Stands (f (leadAt k)) (getD (g .precedence) k 0) (getD (g .lead) k 0)
+  pub precedenceSize : length (g .precedence) ≡ leadingSetpoints
+  pub leadSize : length (g .lead) ≡ leadingSetpoints
+  pub lead : (k : ℕ) → k < leadingSetpoints → Stands (f (leadAt k)) (getD (g .precedence) k 0) (getD (g .lead) k 0)
 
 -- one zone more: the numbers r stand for the better of what g stood for and what the zone claims
 abbrev pub Adds : {A : Type 0} → (A → (ℕ → Claim) → Type 0) → ℕ → Zone → A → A → Type 0

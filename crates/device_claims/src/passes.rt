@@ -19,7 +19,7 @@ ghost use mathlib.Core.Path.{_≡_};
 ghost use Prim.Native.Nat.{_<_, _≤_};
 ghost use mathlib.Core.List.{foldl};
 ghost use lib.ListN.{getD, set};
-ghost use Rattle.device_store.specs.Quantities.{lowest_values, leading_setpoints, lowAt, leadAt};
+ghost use Rattle.device_store.specs.Quantities.{lowestValues, leadingSetpoints, lowAt, leadAt};
 ghost use Rattle.device_store.specs.Sizes.{slots, most, end};
 ghost use Rattle.device_store.specs.Zones.{freeZone};
 ghost use Rattle.device_store.specs.Words.{zonesOf};
@@ -43,7 +43,7 @@ pub struct LeadingSetpoints {
 
 // The k-th quantity that goes by the smallest: the setpoints stand between.
 fn low_at(k: usize) -> usize
-    requires { ⌜ k < lowest_values ⌝ }
+    requires { ⌜ k < lowestValues ⌝ }
     ensures { λ r. ⌜ r ≡ lowAt k ⌝ }
 {
     if k < LIMITS {
@@ -54,7 +54,7 @@ fn low_at(k: usize) -> usize
 
 // One value of limit k more.
 fn low_with(t: u64, h: Held, k: usize, g: LowestValues) -> LowestValues
-    requires { ⌜ k < lowest_values ⌝ }
+    requires { ⌜ k < lowestValues ⌝ }
     ensures { λ r. ⌜ r ≡ lowStep t h k g ⌝ }
     ensures { λ _. ⌜ h .value ≤ most ⌝ }
 {
@@ -71,7 +71,7 @@ fn low_with(t: u64, h: Held, k: usize, g: LowestValues) -> LowestValues
 
 // One value of setpoint k more. A later precedence takes the place of an equal one, so that the first of all needs no test of its own.
 fn lead_with(t: u64, h: Held, precedence: u64, k: usize, g: LeadingSetpoints) -> LeadingSetpoints
-    requires { ⌜ k < leading_setpoints ⌝ }
+    requires { ⌜ k < leadingSetpoints ⌝ }
     ensures { λ r. ⌜ r ≡ leadStep t h precedence k g ⌝ }
     ensures { λ _. ⌜ precedence ≤ most ⌝ }
 {
@@ -99,7 +99,7 @@ fn lead_with(t: u64, h: Held, precedence: u64, k: usize, g: LeadingSetpoints) ->
 // The limits of a slot's zone more, read word by word. A free slot claims nothing.
 fn low_slot(d: &State, i: usize, t: u64, start: LowestValues) -> LowestValues
     ensures { λ r. ⌜ Adds LowestValuesMet t (getD (zonesOf (now (d .entry))) i freeZone) start r ⌝ }
-    ensures { λ r. ⌜ r .next ≡ foldl (nearer t) (start .next) (zoneDues lowAt lowest_values (getD (zonesOf (now (d .entry))) i freeZone)) ⌝ }
+    ensures { λ r. ⌜ r .next ≡ foldl (nearer t) (start .next) (zoneDues lowAt lowestValues (getD (zonesOf (now (d .entry))) i freeZone)) ⌝ }
 {
     if id_at(d, i) == 0 {
         return start;
@@ -116,7 +116,7 @@ fn low_slot(d: &State, i: usize, t: u64, start: LowestValues) -> LowestValues
 // Its setpoints more.
 fn lead_slot(d: &State, i: usize, t: u64, start: LeadingSetpoints) -> LeadingSetpoints
     ensures { λ r. ⌜ Adds LeadingSetpointsMet t (getD (zonesOf (now (d .entry))) i freeZone) start r ⌝ }
-    ensures { λ r. ⌜ r .next ≡ foldl (nearer t) (start .next) (zoneDues leadAt leading_setpoints (getD (zonesOf (now (d .entry))) i freeZone)) ⌝ }
+    ensures { λ r. ⌜ r .next ≡ foldl (nearer t) (start .next) (zoneDues leadAt leadingSetpoints (getD (zonesOf (now (d .entry))) i freeZone)) ⌝ }
 {
     if id_at(d, i) == 0 {
         return start;
@@ -133,7 +133,7 @@ fn lead_slot(d: &State, i: usize, t: u64, start: LeadingSetpoints) -> LeadingSet
 // The limits of a given record more.
 fn low_zone(t: u64, zone: Zone, start: LowestValues) -> LowestValues
     ensures { λ r. ⌜ Adds LowestValuesMet t zone start r ⌝ }
-    ensures { λ r. ⌜ r .next ≡ foldl (nearer t) (start .next) (zoneDues lowAt lowest_values zone) ⌝ }
+    ensures { λ r. ⌜ r .next ≡ foldl (nearer t) (start .next) (zoneDues lowAt lowestValues zone) ⌝ }
 {
     if zone.precedence % IDS == 0 {
         return start;
@@ -152,7 +152,7 @@ fn low_zone(t: u64, zone: Zone, start: LowestValues) -> LowestValues
 // Its setpoints more.
 fn lead_zone(t: u64, zone: Zone, start: LeadingSetpoints) -> LeadingSetpoints
     ensures { λ r. ⌜ Adds LeadingSetpointsMet t zone start r ⌝ }
-    ensures { λ r. ⌜ r .next ≡ foldl (nearer t) (start .next) (zoneDues leadAt leading_setpoints zone) ⌝ }
+    ensures { λ r. ⌜ r .next ≡ foldl (nearer t) (start .next) (zoneDues leadAt leadingSetpoints zone) ⌝ }
 {
     if zone.precedence % IDS == 0 {
         return start;
@@ -221,7 +221,7 @@ pub fn leading_setpoints_at(d: &State, t: u64, next: u64) -> LeadingSetpoints
 fn low_place(d: &State, slot: usize, zone: Zone, i: usize, t: u64, g: LowestValues) -> LowestValues
     requires { ⌜ i < slots ⌝ }
     ensures { λ r. ⌜ Adds LowestValuesMet t (getD (set (zonesOf (now (d .entry))) slot zone) i freeZone) g r ⌝ }
-    ensures { λ r. ⌜ r .next ≡ foldl (nearer t) (g .next) (zoneDues lowAt lowest_values (getD (set (zonesOf (now (d .entry))) slot zone) i freeZone)) ⌝ }
+    ensures { λ r. ⌜ r .next ≡ foldl (nearer t) (g .next) (zoneDues lowAt lowestValues (getD (set (zonesOf (now (d .entry))) slot zone) i freeZone)) ⌝ }
 {
     if i == slot {
         return low_zone(t, zone, g);
@@ -239,7 +239,7 @@ fn lead_place(
 ) -> LeadingSetpoints
     requires { ⌜ i < slots ⌝ }
     ensures { λ r. ⌜ Adds LeadingSetpointsMet t (getD (set (zonesOf (now (d .entry))) slot zone) i freeZone) g r ⌝ }
-    ensures { λ r. ⌜ r .next ≡ foldl (nearer t) (g .next) (zoneDues leadAt leading_setpoints (getD (set (zonesOf (now (d .entry))) slot zone) i freeZone)) ⌝ }
+    ensures { λ r. ⌜ r .next ≡ foldl (nearer t) (g .next) (zoneDues leadAt leadingSetpoints (getD (set (zonesOf (now (d .entry))) slot zone) i freeZone)) ⌝ }
 {
     if i == slot {
         return lead_zone(t, zone, g);

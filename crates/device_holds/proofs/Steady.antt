@@ -9,7 +9,7 @@ use lib.Dec.{ltb}
 use lib.IntN.{ℤ, pos}
 use lib.ListN.{length, getD, length-append}
 use borrow.Author.Tests.{ltb-true, ltb-false}
-use Rattle.device_store.specs.Quantities.{helds, lowest-values, leading-setpoints, isLimit, isSetpoint, lowAt, leadAt}
+use Rattle.device_store.specs.Quantities.{helds, lowestValues, leadingSetpoints, isLimit, isSetpoint, lowAt, leadAt}
 use Rattle.device_store.specs.Sizes.{slots}
 use Rattle.device_store.specs.Zones.{upTo, idOf, rankOf, heldOf, isJoined, anyJoined, anyUp}
 use Rattle.device_store.specs.Words.{zonesOf, sinceOf, settingsOf}
@@ -71,10 +71,10 @@ module _ (t : ℕ) (at : ℕ → ℕ) (n k : ℕ) (known : k < n) where
 
 module _ (t q : ℕ) (zs : List Zone) where
   low-steady : q < helds → isSetpoint q ≡ false → Idle (suc t) (lowDues zs) → winner (suc t) q zs ≡ winner t q zs
-  low-steady h e idle = let p : (k : ℕ) × (k < lowest-values) × (lowAt k ≡ q) = low-of q h e in rw (p .2) at (winner-steady t lowAt lowest-values (p .0) (p .1) zs idle)
+  low-steady h e idle = let p : (k : ℕ) × (k < lowestValues) × (lowAt k ≡ q) = low-of q h e in rw (p .2) at (winner-steady t lowAt lowestValues (p .0) (p .1) zs idle)
 
   lead-steady : isSetpoint q ≡ true → Idle (suc t) (leadDues zs) → winner (suc t) q zs ≡ winner t q zs
-  lead-steady e idle = let p : (k : ℕ) × (k < leading-setpoints) × (leadAt k ≡ q) = lead-of q e in rw (p .2) at (winner-steady t leadAt leading-setpoints (p .0) (p .1) zs idle)
+  lead-steady e idle = let p : (k : ℕ) × (k < leadingSetpoints) × (leadAt k ≡ q) = lead-of q e in rw (p .2) at (winner-steady t leadAt leadingSetpoints (p .0) (p .1) zs idle)
 
   both-steady : q < helds → Idle (suc t) (lowDues zs ++ leadDues zs) → winner (suc t) q zs ≡ winner t q zs
   both-steady h idle = go (isSetpoint q) refl
@@ -140,17 +140,17 @@ module _ (at : ℕ → ℕ) (n : ℕ) where
       go true = omega (arith, length-upTo (λ k. heldOf x (at k) .until) n)
       go false = omega arith
 
-held-few : (zs : List Zone) → (length (lowDues zs) ≤ length zs * lowest-values) × (length (leadDues zs) ≤ length zs * leading-setpoints)
+held-few : (zs : List Zone) → (length (lowDues zs) ≤ length zs * lowestValues) × (length (leadDues zs) ≤ length zs * leadingSetpoints)
 unfolding heldDues
 held-few [] = (omega arith, omega arith)
-held-few (x ∷ zs) = (rw length-append (omega (arith, zone-few lowAt lowest-values x, held-few zs .0)), rw length-append (omega (arith, zone-few leadAt leading-setpoints x, held-few zs .1)))
+held-few (x ∷ zs) = (rw length-append (omega (arith, zone-few lowAt lowestValues x, held-few zs .0)), rw length-append (omega (arith, zone-few leadAt leadingSetpoints x, held-few zs .1)))
 
 -- the end of the failsafe, and the limits'
-pub dues-few-down : (ws : List ℕ) → anyUp (zonesOf ws) ≡ false → length (dues (situationOf ws)) ≤ 1 + slots * lowest-values
+pub dues-few-down : (ws : List ℕ) → anyUp (zonesOf ws) ≡ false → length (dues (situationOf ws)) ≤ 1 + slots * lowestValues
 unfolding dues
 dues-few-down ws e = rw e (go (anyJoined (zonesOf ws)))
   where
-    go : (j : Bool) → length (cond j ((sinceOf ws + settingsOf ws .duration) ∷ lowDues (zonesOf ws)) []) ≤ 1 + slots * lowest-values
+    go : (j : Bool) → length (cond j ((sinceOf ws + settingsOf ws .duration) ∷ lowDues (zonesOf ws)) []) ≤ 1 + slots * lowestValues
     go true = omega (arith, held-few (zonesOf ws) .0, zones-length ws)
     go false = omega arith
 

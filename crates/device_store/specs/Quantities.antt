@@ -41,11 +41,11 @@ abbrev pub currentAt : ℕ → ℕ → ℕ
 currentAt p d = currents + 2 * p + d
 
 -- how many go by the smallest value, and how many by the precedence; the k-th of each
-abbrev pub lowest-values : ℕ
-lowest-values = helds - setpoints
+abbrev pub lowestValues : ℕ
+lowestValues = helds - setpoints
 
-abbrev pub leading-setpoints : ℕ
-leading-setpoints = setpoints
+abbrev pub leadingSetpoints : ℕ
+leadingSetpoints = setpoints
 
 unfoldable pub lowAt : ℕ → ℕ
 lowAt k = cond (ltb k limits) k (k + setpoints)

@@ -9,7 +9,7 @@ use native.Mathlib.Omega.{arith}
 use lib.Dec.{ltb, eqb}
 use lib.ListN.{length}
 use borrow.Author.Tests.{lt-ltb, ltb-true, eq-eqb}
-use Rattle.device_store.specs.Quantities.{lowest-values, leading-setpoints, lowAt, leadAt}
+use Rattle.device_store.specs.Quantities.{lowestValues, leadingSetpoints, lowAt, leadAt}
 use Rattle.device_store.specs.Sizes.{end, slots, helds}
 use Rattle.device_store.specs.Zones.{upTo, any, isJoined, heldOf, anyUp, anyJoined}
 use Rattle.device_store.specs.declared.Zone.{Zone}
@@ -95,7 +95,7 @@ module _ (s : Situation) (few : length (s .zones) ≤ slots) where
   held-one : (at : ℕ → ℕ) (n : ℕ) → ((k : ℕ) → k < n → at k < helds) → (t : ℕ) → Mem t (heldDues at n (s .zones)) → isOneOf t (candidatesOf s) ≡ true
   held-one at n known t m = let p = held-end at n (s .zones) t m in expiry-one (p .0) (at (p .2)) t (p .1) (known (p .2) (p .3)) (p .4)
 
-  low-known : (k : ℕ) → k < lowest-values → lowAt k < helds
+  low-known : (k : ℕ) → k < lowestValues → lowAt k < helds
   unfolding lowAt
   low-known k h = go (ltb k 2) refl
     where
@@ -104,10 +104,10 @@ module _ (s : Situation) (few : length (s .zones) ≤ slots) where
       go false e = omega arith
 
   low-one : (t : ℕ) → Mem t (lowDues (s .zones)) → isOneOf t (candidatesOf s) ≡ true
-  low-one t m = held-one lowAt lowest-values low-known t m
+  low-one t m = held-one lowAt lowestValues low-known t m
 
   lead-one : (t : ℕ) → Mem t (leadDues (s .zones)) → isOneOf t (candidatesOf s) ≡ true
-  lead-one t m = held-one leadAt leading-setpoints (λ k h. omega arith) t m
+  lead-one t m = held-one leadAt leadingSetpoints (λ k h. omega arith) t m
 
   failsafe-one : (t : ℕ) → t < end → t ≡ s .since + s .settings .duration → isOneOf t (candidatesOf s) ≡ true
   unfolding candidatesOf candidateAt failsafeEnd

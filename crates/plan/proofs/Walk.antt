@@ -12,7 +12,7 @@ use borrow.Author.Tests.{ltb-true, ltb-false, le-ltb}
 use Rattle.device_store.specs.Sizes.{end, slots, helds}
 use Rattle.device_store.specs.Zones.{anyUp}
 use Rattle.device_store.specs.Words.{zonesOf}
-use Rattle.device_store.specs.Quantities.{lowest-values}
+use Rattle.device_store.specs.Quantities.{lowestValues}
 use Rattle.device_holds.specs.Holds.{Situation, situationOf, valuesAt}
 use Rattle.device_holds.specs.Dues.{dues, nearest}
 use Rattle.device_holds.proofs.Steady.{Idle, values-steady, dues-few, dues-few-down}
@@ -87,7 +87,7 @@ planOf-few ws now =
     omega (arith, ap length (planOf-walk s now), walk-few (valuesAt s) (dues s) (length (dues s)) now, dues-few ws)
 
 -- "the 17 of L3 becomes 65": a plan made in FAILSAFE, likewise
-pub planOf-few-down : (ws : List ℕ) (now : ℕ) → anyUp (zonesOf ws) ≡ false → length (planOf (situationOf ws) now) ≤ 1 + slots * lowest-values
+pub planOf-few-down : (ws : List ℕ) (now : ℕ) → anyUp (zonesOf ws) ≡ false → length (planOf (situationOf ws) now) ≤ 1 + slots * lowestValues
 planOf-few-down ws now e =
     let s = situationOf ws in
     omega (arith, ap length (planOf-walk s now), walk-few (valuesAt s) (dues s) (length (dues s)) now, dues-few-down ws e)

@@ -5,7 +5,7 @@ use mathlib.Core.Path.{_≡_, refl, sym, _∙_}
 use native.Mathlib.Omega.{arith}
 use borrow.Author.Tests.{eq-eqb, ne-eqb}
 use lib.ListN.{getD}
-use Rattle.device_store.specs.Quantities.{leading-setpoints}
+use Rattle.device_store.specs.Quantities.{leadingSetpoints}
 use Rattle.device_store.specs.Sizes.{most}
 use Rattle.device_store.specs.Zones.{freeZone, isJoined}
 use Rattle.device_store.specs.Words.{zonesOf}
@@ -16,10 +16,10 @@ use Rattle.device_claims.proofs.passes.lead_slot.Statement.{statement}
 use Rattle.device_claims.proofs.passes.lead_slot.Tie as tie
 
 abbrev Inv-loop : tie.InvT-loop
-Inv-loop d i t g₀ k₀ g k = (k ≤ leading-setpoints) × (g ≡ leadingSetpointsWith t (getD (zonesOf d) i freeZone) k g₀) × (0 < k → getD (zonesOf d) i freeZone .precedence ≤ most)
+Inv-loop d i t g₀ k₀ g k = (k ≤ leadingSetpoints) × (g ≡ leadingSetpointsWith t (getD (zonesOf d) i freeZone) k g₀) × (0 < k → getD (zonesOf d) i freeZone .precedence ≤ most)
 
 abbrev μ-loop : tie.MeasureT-loop
-μ-loop d i t g₀ k₀ g k = leading-setpoints - k
+μ-loop d i t g₀ k₀ g k = leadingSetpoints - k
 
 id-at-requires : tie.Need-id-at-requires Inv-loop μ-loop
 id-at-requires c κs = tt
@@ -69,9 +69,9 @@ returns-2 c =
     let at-if1 = c .before .before .if1 in
     let at-id-at = c .before .before .before .id-at in
     let x : Zone = getD (zonesOf (at-args .d .now)) (at-args .i) freeZone in
-    let e : c .before .loop .k ≡ leading-setpoints = omega arith in
+    let e : c .before .loop .k ≡ leadingSetpoints = omega arith in
     let joined : isJoined x ≡ true = rw (ne-eqb _ _ (λ z. at-if1 .left (at-id-at .ensures ∙ z))) in
-    let is : c .before .loop .g ≡ leadingSetpointsWith (at-args .t) x leading-setpoints (at-args .start) = rw e at (c .before .loop .inv .1) in
+    let is : c .before .loop .g ≡ leadingSetpointsWith (at-args .t) x leadingSetpoints (at-args .start) = rw e at (c .before .loop .inv .1) in
     rw is (leading-setpoints-add (at-args .t) x joined (at-args .start) (c .before .loop .inv .2 (omega arith)), leading-setpoints-end (at-args .t) x joined (at-args .start))
 
 pub lead-slot-spec : {M : Type 1} → statement M

@@ -4,7 +4,7 @@ use mathlib.Core.Bool.{true, false}
 use mathlib.Core.Path.{_≡_, refl}
 use native.Mathlib.Omega.{arith}
 use borrow.Author.Tests.{eq-eqb, ne-eqb}
-use Rattle.device_store.specs.Quantities.{leading-setpoints}
+use Rattle.device_store.specs.Quantities.{leadingSetpoints}
 use Rattle.device_store.specs.Sizes.{most}
 use Rattle.device_store.specs.Zones.{idOf, isJoined, heldOf}
 use Rattle.device_claims.specs.Pass.{turns, leadingSetpointsWith}
@@ -13,10 +13,10 @@ use Rattle.device_claims.proofs.passes.lead_zone.Statement.{statement}
 use Rattle.device_claims.proofs.passes.lead_zone.Tie as tie
 
 abbrev Inv-loop : tie.InvT-loop
-Inv-loop t zone held g₀ k₀ g k = (k ≤ leading-setpoints) × (g ≡ leadingSetpointsWith t zone k g₀) × (0 < k → zone .precedence ≤ most)
+Inv-loop t zone held g₀ k₀ g k = (k ≤ leadingSetpoints) × (g ≡ leadingSetpointsWith t zone k g₀) × (0 < k → zone .precedence ≤ most)
 
 abbrev μ-loop : tie.MeasureT-loop
-μ-loop t zone held g₀ k₀ g k = leading-setpoints - k
+μ-loop t zone held g₀ k₀ g k = leadingSetpoints - k
 
 returns : tie.Need-returns Inv-loop μ-loop
 unfolding isJoined idOf
@@ -59,9 +59,9 @@ unfolding isJoined idOf
 returns-2 c =
     let at-args = c .before .before .before .before .before .args in
     let at-if1 = c .before .before .before .if1 in
-    let e : c .before .loop .k ≡ leading-setpoints = omega arith in
+    let e : c .before .loop .k ≡ leadingSetpoints = omega arith in
     let joined : isJoined (at-args .zone) ≡ true = rw (ne-eqb _ _ (at-if1 .left)) in
-    let is : c .before .loop .g ≡ leadingSetpointsWith (at-args .t) (at-args .zone) leading-setpoints (at-args .start) = rw e at (c .before .loop .inv .1) in
+    let is : c .before .loop .g ≡ leadingSetpointsWith (at-args .t) (at-args .zone) leadingSetpoints (at-args .start) = rw e at (c .before .loop .inv .1) in
     rw is (leading-setpoints-add (at-args .t) (at-args .zone) joined (at-args .start) (c .before .loop .inv .2 (omega arith)), leading-setpoints-end (at-args .t) (at-args .zone) joined (at-args .start))
 
 pub lead-zone-spec : {M : Type 1} → statement M

@@ -2,7 +2,7 @@
 use Prim.Native.Nat.{_-_, _≤_}
 use mathlib.Core.Path.{refl}
 use native.Mathlib.Omega.{arith}
-use Rattle.device_store.specs.Quantities.{leading-setpoints, leadAt}
+use Rattle.device_store.specs.Quantities.{leadingSetpoints, leadAt}
 use Rattle.device_store.specs.Sizes.{slots}
 use Rattle.device_store.specs.Words.{zonesOf}
 use Rattle.device_store.proofs.Lens.{zones-length}
@@ -12,7 +12,7 @@ use Rattle.device_claims.proofs.passes.leading_setpoints_at.Statement.{
 use Rattle.device_claims.proofs.passes.leading_setpoints_at.Tie as tie
 
 abbrev Inv-loop : tie.InvT-loop
-Inv-loop d t next g₀ i₀ g i = (i ≤ slots) × Passed LeadingSetpointsMet leadNext leadAt leading-setpoints next t (zonesOf d) i g
+Inv-loop d t next g₀ i₀ g i = (i ≤ slots) × Passed LeadingSetpointsMet leadNext leadAt leadingSetpoints next t (zonesOf d) i g
 
 abbrev μ-loop : tie.MeasureT-loop
 μ-loop d t next g₀ i₀ g i = slots - i
@@ -24,7 +24,7 @@ leading-setpoints-at-spec =
     Inv-loop μ-loop (λ c κs. tt)
     (λ c. (
       omega arith,
-      pass-none LeadingSetpointsMet leadNext leadAt leading-setpoints (c .before .args .next) (c .before .args .t) (zonesOf (c .before .args .d .now)) _ (c .no-leading-setpoints .ensures .0)
+      pass-none LeadingSetpointsMet leadNext leadAt leadingSetpoints (c .before .args .next) (c .before .args .t) (zonesOf (c .before .args .d .now)) _ (c .no-leading-setpoints .ensures .0)
           (c .no-leading-setpoints .ensures .1),
     ))
     (λ c κs. tt) (λ c. omega arith) (λ c. omega arith)
@@ -32,10 +32,10 @@ leading-setpoints-at-spec =
     let at-loop = c .before .before .loop in
     let at-args = c .before .before .before .before .args in (
       omega arith,
-      pass-turn LeadingSetpointsMet leadNext leadAt leading-setpoints (at-args .next) (at-args .t) (zonesOf (at-args .d .now)) (at-loop .i) leading-setpoints-along _ _ _
+      pass-turn LeadingSetpointsMet leadNext leadAt leadingSetpoints (at-args .next) (at-args .t) (zonesOf (at-args .d .now)) (at-loop .i) leading-setpoints-along _ _ _
           (omega (arith, zones-length (at-args .d .now))) refl (at-loop .inv .1) (c .lead-slot .ensures .0) (c .lead-slot .ensures .1),
     ))
     (λ c.
     let at-args = c .before .before .before .args in
-    pass-end LeadingSetpointsMet leadNext leadAt leading-setpoints (at-args .next) (at-args .t) (zonesOf (at-args .d .now)) (c .before .loop .i) _
+    pass-end LeadingSetpointsMet leadNext leadAt leadingSetpoints (at-args .next) (at-args .t) (zonesOf (at-args .d .now)) (c .before .loop .i) _
     (omega (arith, zones-length (at-args .d .now))) (c .before .loop .inv .1)))

@@ -5,7 +5,7 @@ use mathlib.Core.Path.{_≡_, refl, sym, _∙_}
 use native.Mathlib.Omega.{arith}
 use borrow.Author.Tests.{eq-eqb, ne-eqb}
 use lib.ListN.{getD}
-use Rattle.device_store.specs.Quantities.{lowest-values, lowAt}
+use Rattle.device_store.specs.Quantities.{lowestValues, lowAt}
 use Rattle.device_store.specs.Sizes.{most}
 use Rattle.device_store.specs.Zones.{freeZone, isJoined, heldOf}
 use Rattle.device_store.specs.Words.{zonesOf}
@@ -16,10 +16,10 @@ use Rattle.device_claims.proofs.passes.low_slot.Statement.{statement}
 use Rattle.device_claims.proofs.passes.low_slot.Tie as tie
 
 abbrev Inv-loop : tie.InvT-loop
-Inv-loop d i t g₀ k₀ g k = (k ≤ lowest-values) × (g ≡ lowestValuesWith t (getD (zonesOf d) i freeZone) k g₀) × Bounded (getD (zonesOf d) i freeZone) k
+Inv-loop d i t g₀ k₀ g k = (k ≤ lowestValues) × (g ≡ lowestValuesWith t (getD (zonesOf d) i freeZone) k g₀) × Bounded (getD (zonesOf d) i freeZone) k
 
 abbrev μ-loop : tie.MeasureT-loop
-μ-loop d i t g₀ k₀ g k = lowest-values - k
+μ-loop d i t g₀ k₀ g k = lowestValues - k
 
 id-at-requires : tie.Need-id-at-requires Inv-loop μ-loop
 id-at-requires c κs = tt
@@ -66,9 +66,9 @@ returns-2 c =
     let at-if1 = c .before .before .if1 in
     let at-id-at = c .before .before .before .id-at in
     let x : Zone = getD (zonesOf (at-args .d .now)) (at-args .i) freeZone in
-    let e : c .before .loop .k ≡ lowest-values = omega arith in
+    let e : c .before .loop .k ≡ lowestValues = omega arith in
     let joined : isJoined x ≡ true = rw (ne-eqb _ _ (λ z. at-if1 .left (at-id-at .ensures ∙ z))) in
-    let is : c .before .loop .g ≡ lowestValuesWith (at-args .t) x lowest-values (at-args .start) = rw e at (c .before .loop .inv .1) in
+    let is : c .before .loop .g ≡ lowestValuesWith (at-args .t) x lowestValues (at-args .start) = rw e at (c .before .loop .inv .1) in
     rw is (lowest-values-add (at-args .t) x joined (at-args .start) (rw e at (c .before .loop .inv .2)), lowest-values-end (at-args .t) x joined (at-args .start))
 
 pub low-slot-spec : {M : Type 1} → statement M

@@ -5,7 +5,7 @@ use mathlib.Core.Path.{_≡_, refl}
 use native.Mathlib.Omega.{arith}
 use borrow.Author.Tests.{eq-eqb, ne-eqb}
 use lib.ListN.{getD}
-use Rattle.device_store.specs.Quantities.{lowest-values, lowAt}
+use Rattle.device_store.specs.Quantities.{lowestValues, lowAt}
 use Rattle.device_store.specs.Sizes.{most}
 use Rattle.device_store.specs.Zones.{nothing, freeZone, holding, idOf, isJoined, heldOf}
 use Rattle.device_claims.specs.Pass.{turns, lowestValuesWith, Bounded}
@@ -15,10 +15,10 @@ use Rattle.device_claims.proofs.passes.low_zone.Statement.{statement}
 use Rattle.device_claims.proofs.passes.low_zone.Tie as tie
 
 abbrev Inv-loop : tie.InvT-loop
-Inv-loop t held g₀ k₀ g k = (k ≤ lowest-values) × (g ≡ lowestValuesWith t (holding freeZone held) k g₀) × Bounded (holding freeZone held) k
+Inv-loop t held g₀ k₀ g k = (k ≤ lowestValues) × (g ≡ lowestValuesWith t (holding freeZone held) k g₀) × Bounded (holding freeZone held) k
 
 abbrev μ-loop : tie.MeasureT-loop
-μ-loop t held g₀ k₀ g k = lowest-values - k
+μ-loop t held g₀ k₀ g k = lowestValues - k
 
 returns : tie.Need-returns Inv-loop μ-loop
 unfolding isJoined idOf
@@ -68,9 +68,9 @@ unfolding isJoined idOf heldOf
 returns-2 c =
     let at-args = c .before .before .before .before .before .args in
     let at-if1 = c .before .before .before .if1 in
-    let e : c .before .loop .k ≡ lowest-values = omega arith in
+    let e : c .before .loop .k ≡ lowestValues = omega arith in
     let joined : isJoined (at-args .zone) ≡ true = rw (ne-eqb _ _ (at-if1 .left)) in
-    let is : c .before .loop .g ≡ lowestValuesWith (at-args .t) (at-args .zone) lowest-values (at-args .start) = rw e at (c .before .loop .inv .1) in
+    let is : c .before .loop .g ≡ lowestValuesWith (at-args .t) (at-args .zone) lowestValues (at-args .start) = rw e at (c .before .loop .inv .1) in
     rw is (lowest-values-add (at-args .t) (at-args .zone) joined (at-args .start) (rw e at (c .before .loop .inv .2)), lowest-values-end (at-args .t) (at-args .zone) joined (at-args .start))
 
 pub low-zone-spec : {M : Type 1} → statement M
