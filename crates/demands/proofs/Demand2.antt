@@ -15,6 +15,7 @@ use Rattle.wire_laws.proofs.RequestBack.{request-reads-back}
 use Rattle.wire_laws.proofs.RequestAgain.{request-writable, request-writes-again}
 use Rattle.wire_laws.proofs.ResponseBack.{response-reads-back}
 use Rattle.wire_laws.proofs.ResponseAgain.{response-writable, response-writes-again}
+use Rattle.wire_laws.proofs.PassedOver.{request-unknown-passed, response-unknown-passed, zero-duration-passed}
 use Rattle.device_holds.proofs.Rows.{table}
 use Rattle.kernel_laws.proofs.Readable.{responses-read, unserved-reads}
 use Rattle.kernel_laws.proofs.Expiry.{expiry}
@@ -68,6 +69,9 @@ demand-2 =
       responseWritable = response-writable;
       requestAgain = request-writes-again;
       responseAgain = response-writes-again;
+      requestUnknown = request-unknown-passed;
+      responseUnknown = response-unknown-passed;
+      zeroDuration = zero-duration-passed;
       stands = frame-stands;
       counted = counts;
       response = response;

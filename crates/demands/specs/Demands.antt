@@ -18,6 +18,7 @@ use Rattle.wire_requests.specs.WrittenRequests.{requestItem, requestNumber}
 use Rattle.wire_responses.specs.Responses.{readResponse, answerNumber}
 use Rattle.wire_responses.specs.WrittenResponses.{responseItem, responseNumber, statusAlone}
 use Rattle.wire_laws.specs.RoundTrips.{FramedExact, FrameStands, RequestReadsBack, ResponseReadsBack, RequestWritable, ResponseWritable, RequestWritesAgain, ResponseWritesAgain}
+use Rattle.wire_laws.specs.PassedOver.{RequestUnknownPassed, ResponseUnknownPassed, ZeroDurationPassed}
 use Rattle.wire_output.specs.Writing.{itemFrame, writingNumber, writtenOf, leftBy}
 use Rattle.wire_requests.specs.declared.reading.Reading.{Reading}
 use Rattle.device_store.specs.declared.Settings.{Settings}
@@ -112,6 +113,11 @@ pub record Demand2 : Type 0 where
   pub responseWritable : ResponseWritable
   pub requestAgain : RequestWritesAgain
   pub responseAgain : ResponseWritesAgain
+  -- unknown keys "are passed over, still checked": a frame with them, in its envelope, parameters or result, is read as the one without
+  pub requestUnknown : RequestUnknownPassed
+  pub responseUnknown : ResponseUnknownPassed
+  -- "duration 0 or omitted": with a written zero SetLimit and SetCurrentLimits are read as without it
+  pub zeroDuration : ZeroDurationPassed
   -- an accepted writer's buffer has the frame at its front and is else as it was; its answer is the frame's length
   pub stands : FrameStands
   pub counted : (n : ℕ) (frame out : List ℕ) → writingNumber n frame (length out) ≡ 0 → writtenOf n frame (length out) .length ≡ length frame

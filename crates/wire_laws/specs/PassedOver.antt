@@ -39,11 +39,11 @@ unfoldable pub under : ℕ → (Pairs → Pairs) → Pairs → Pairs
 under key f Pairs.empty = Pairs.empty
 under key f (Pairs.pair k i ps) = Pairs.pair k (cond (eqb k key) (inMap f i) i) (under key f ps)
 
--- without unknown keys: 1 to n are known
+-- a map without unknown keys, of which 1 to n are known
 abbrev pub known : ℕ → Pairs → Pairs
 known n = kept (λ k. leb 1 k && leb k n)
 
--- a request without unknown keys, in its envelope (1 to 5) and in its parameters, by the command that it names; one that names none is refused
+-- the command that a request names under key 4; 0 where there is none, which is refused with 3
 abbrev pub orZero : Option ℕ → ℕ
 orZero (some n) = n
 orZero none = 0
@@ -51,10 +51,11 @@ orZero none = 0
 unfoldable pub commandOf : Pairs → ℕ
 commandOf ps = orZero (needed (numberUpTo 65535) (valueOf ps 4))
 
+-- "{1: message id, .. 5: parameters}": a request without unknown keys, in its envelope and in the parameters of the command that it names
 unfoldable pub requestKnown : Pairs → Pairs
 requestKnown ps = known 5 (under 5 (known (parameterKeys (commandOf ps))) ps)
 
--- a response without unknown keys, in its envelope (1 to 3) and in its result, by the command that the caller names
+-- "{1: message id, 2: status, 3: result}": a response without unknown keys, in its envelope and in the result of the command that the caller names
 unfoldable pub responseKnown : ℕ → Pairs → Pairs
 responseKnown command ps = known 3 (under 3 (known (resultKeys command)) ps)
 
