@@ -69,8 +69,8 @@ pub fn read_measurement(s: &[u8], words: &mut Words) -> u64
     let mut found = [0u64; WORDS];
     let good = payload_into(s, &mut found);
     store(words, &found, good);
-    if good {
-        return 0;
+    if !good {
+        return 3;
     }
-    3
+    0
 }

@@ -23,8 +23,8 @@ returns-3 c =
     let at-if1 = c .before .before .before .before .before .before .before .before .if1 in
     let at-has-length = c .before .before .before .before .before .before .before .before .before .has-length in
     let at-shared-slice-known = c .before .before .before .before .before .before .before .before .before .before .shared-slice-known in
-    read-whole _ _ _ (at-has-length .ensures) (not-false _ (at-if1 .left)) _ (at-is-item .ensures) (not-false _ (at-if2 .left))
-    (all-bytes _ (at-shared-slice-known .given)) _ _ _ (at-payload-into .ensures) _ (c .before .store .ensures) (search needs) (c .if3 .taken)
+    read-rows _ _ _ (at-has-length .ensures) (not-false _ (at-if1 .left)) _ (at-is-item .ensures) (not-false _ (at-if2 .left))
+    (all-bytes _ (at-shared-slice-known .given)) _ _ _ (at-payload-into .ensures) _ (c .before .store .ensures) (not-true _ (c .if3 .taken))
 
 returns-4 : tie.Need-returns-4
 returns-4 c =
@@ -34,8 +34,9 @@ returns-4 c =
     let at-if1 = c .before .before .before .before .before .before .before .before .if1 in
     let at-has-length = c .before .before .before .before .before .before .before .before .before .has-length in
     let at-shared-slice-known = c .before .before .before .before .before .before .before .before .before .before .shared-slice-known in
-    read-rows _ _ _ (at-has-length .ensures) (not-false _ (at-if1 .left)) _ (at-is-item .ensures) (not-false _ (at-if2 .left))
-    (all-bytes _ (at-shared-slice-known .given)) _ _ _ (at-payload-into .ensures) _ (c .before .store .ensures) (c .if3 .left)
+    read-whole _ _ _ (at-has-length .ensures) (not-false _ (at-if1 .left)) _ (at-is-item .ensures) (not-false _ (at-if2 .left))
+    (all-bytes _ (at-shared-slice-known .given)) _ _ _ (at-payload-into .ensures) _ (c .before .store .ensures) (search needs)
+    (not-false _ (c .if3 .left))
 
 pub read-measurement-spec : {M : Type 1} → statement M
 read-measurement-spec =
