@@ -20,14 +20,14 @@ use Rattle.wire_fields.specs.ByPhase.{keysBelow}
 use Rattle.wire_fields.specs.declared.ranges.Range.{Range}
 use Rattle.wire_fields.proofs.Joined.{and-same, and-right}
 use Rattle.wire_laws.proofs.FieldsAgain.{no-value, same-inside, bind-parts, map-part}
-use Rattle.measurement_table.specs.Rows.{bounds, boundsOf}
+use Rattle.measurement_table.specs.Rows.{ranges}
 use Rattle.measurement_table.specs.Table.{rows, rangeOf, places}
 use Rattle.measurement_table.specs.Cells.{Cell, cellIn, cellsFrom, phasesIn, blanks, rowIn, rowsIn, cellFits, cellsFit, rowsFit}
 use Rattle.measurement_table.specs.Words.{held, marksFit, rangeNumber}
 use Rattle.measurement_table.specs.Payload.{cellsOf}
 use Rattle.measurement_table.specs.declared.attributes.Row.{Row}
 use Rattle.measurement_table.proofs.Order.{table-long}
-use Rattle.measurement_laws.specs.Outside.{RowsInside, NeverRead, NeverWritten, NumberExact, RangeExact, SignedExact, UnsignedExact, SignedKinds, UnsignedKinds, KindsByWidth, KindsExact}
+use Rattle.measurement_laws.specs.Outside.{RowsInside, NeverRead, NeverWritten, NumberExact, RangeExact, SignedExact, UnsignedExact, KindsByWidth, KindsExact}
 
 -- ONE NUMBER
 tested : {X : Type 0} (b : Bool) (x y : X) → cond b (some x) none ≡ some y → (b ≡ true) × (x ≡ y)
@@ -172,14 +172,8 @@ signed-exact w z =
 pub unsigned-exact : UnsignedExact
 unsigned-exact w z = range-by 0 (2 ^ w - 1) z ∙ ap (λ (b : Bool). leZ (pos 0) z && b) (most-next (2 ^ w) z (half w))
 
-pub signed-kinds : SignedKinds
-signed-kinds w = refl
-
-pub unsigned-kinds : UnsignedKinds
-unsigned-kinds w = refl
-
 pub kinds-by-width : KindsByWidth
-unfolding rangeOf boundsOf bounds
+unfolding rangeOf ranges
 kinds-by-width = (refl, refl, refl, refl, refl, refl)
 
 pub kinds-exact : KindsExact

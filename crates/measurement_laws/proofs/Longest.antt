@@ -21,7 +21,7 @@ use Rattle.wire_fields.proofs.Joined.{and-left, and-right}
 use Rattle.wire_fields.proofs.Added.{map-bytes, fields-none, fields-more}
 use Rattle.wire_laws.proofs.Maps.{count-fields}
 use Rattle.wire_laws.proofs.Shorter.{no-longer}
-use Rattle.measurement_table.specs.Rows.{bounds, boundsOf}
+use Rattle.measurement_table.specs.Rows.{ranges}
 use Rattle.measurement_table.specs.Table.{rows, rangeOf}
 use Rattle.measurement_table.specs.Cells.{Cell, cellItem, phaseFields, someMap, firstItem, rowItem, fieldsOf, cellFits, cellsFit, rowsFit}
 use Rattle.measurement_table.specs.Payload.{itemOf}
@@ -103,7 +103,7 @@ rows-long (r ∷ rs) cs h =
     rw (fields-more (r .0) (rowItem r (take (r .1) cs)) (fieldsOf rs (drop (r .1) cs)), length-append) (omega arith)
 
 rows-most : headLen 24 + rowsMost rows ≡ 326
-unfolding rows rangeOf boundsOf bounds headLen infoOf widthOf
+unfolding rows rangeOf ranges headLen infoOf widthOf
 rows-most = refl
 
 pub payload-longest : PayloadLongest
@@ -116,7 +116,7 @@ payload-longest cs h =
     (omega (arith, l, head-length 5 k, len-positive k), omega (arith, m, rows-most))
 
 pub payload-reached : PayloadReached
-unfolding itemOf encode headBytes bytesOf widthOf infoOf countPairs encodePairs present rows rangeOf boundsOf bounds cellItem phaseFields someMap firstItem rowItem
+unfolding itemOf encode headBytes bytesOf widthOf infoOf countPairs encodePairs present rows rangeOf ranges cellItem phaseFields someMap firstItem rowItem
     fieldsOf cellFits cellsFit rowsFit within
 payload-reached =
     let int64 : Cell = some (pos 9223372036854775807) in

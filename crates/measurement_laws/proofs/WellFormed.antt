@@ -15,11 +15,9 @@ use Rattle.wire_fields.specs.Ranges.{within}
 use Rattle.wire_fields.specs.declared.ranges.Range.{Range}
 use Rattle.wire_fields.proofs.Joined.{and-left, and-right}
 use Rattle.wire_laws.proofs.Maps.{OkField, OkFields, ok-map}
-use Rattle.measurement_table.specs.Rows.{bounds, boundsOf}
-use Rattle.measurement_table.specs.Table.{rangeBy, rangeOf}
+use Rattle.measurement_table.specs.Table.{ranges, rangeOf}
 use Rattle.measurement_table.specs.Cells.{Cell, cellItem, phaseFields, someMap, firstItem, rowItem, fieldsOf, cellFits, cellsFit, rowsFit}
 use Rattle.measurement_table.specs.declared.attributes.Row.{Row}
-use Rattle.measurement_table.specs.declared.attributes.Bounds.{Bounds}
 use Rattle.measurement_table.proofs.Order.{Rising}
 use Rattle.measurement_laws.proofs.Back.{phases-ascend, fields-ascend}
 
@@ -27,19 +25,19 @@ use Rattle.measurement_laws.proofs.Back.{phases-ascend, fields-ascend}
 abbrev Wide : Range → Type 0
 Wide g = (g .below ≤ 2 ^ 64) × (g .high < 2 ^ 64)
 
-abbrev AllWide : List Bounds → Type 0
+abbrev AllWide : List Range → Type 0
 AllWide [] = Unit {0}
-AllWide (b ∷ bs) = Wide (rangeBy b) × AllWide bs
+AllWide (b ∷ bs) = Wide b × AllWide bs
 
-wide-at : (bs : List Bounds) (k : ℕ) (b : Bounds) → AllWide bs → Wide (rangeBy b) → Wide (rangeBy (getD bs k b))
+wide-at : (bs : List Range) (k : ℕ) (b : Range) → AllWide bs → Wide b → Wide (getD bs k b)
 wide-at [] k b a w = w
 wide-at (x ∷ bs) zero b a w = a .0
 wide-at (x ∷ bs) (suc k) b a w = wide-at bs k b (a .1) w
 
 kind-wide : (k : ℕ) → Wide (rangeOf k)
-unfolding rangeOf boundsOf bounds
+unfolding rangeOf ranges
 kind-wide k =
-    wide-at bounds k _
+    wide-at ranges k _
     ((omega arith, omega arith), ((omega arith, omega arith), ((omega arith, omega arith), ((omega arith, omega arith), ((omega arith, omega arith), ((omega arith, omega arith), tt))))))
     (omega arith, omega arith)
 

@@ -13,16 +13,12 @@ use Rattle.wire_cbor.specs.Item.{Item, Pairs}
 use Rattle.wire_fields.specs.Fields.{intItem}
 use Rattle.wire_fields.specs.Ranges.{within, range, signedBits, upToMost, numberIn}
 use Rattle.wire_fields.specs.declared.ranges.Range.{Range}
-use Rattle.measurement_table.specs.Rows.{signed, unsigned, int64, uint64, uint32, int16, factor, percent}
-use Rattle.measurement_table.specs.Table.{rows, places, rangeBy, rangeOf}
+use Rattle.measurement_table.specs.Rows.{int64, uint64, uint32, int16, factor, percent}
+use Rattle.measurement_table.specs.Table.{rows, places, rangeOf, unsignedBits}
 use Rattle.measurement_table.specs.Cells.{Cell, rowsIn, rowsFit}
 use Rattle.measurement_table.specs.Words.{held, rangeNumber}
 use Rattle.measurement_table.specs.Payload.{cellsOf}
 use Rattle.measurement_table.specs.declared.attributes.Row.{Row}
-
--- those of w bits
-abbrev pub unsignedBits : ℕ → Range
-unsignedBits w = upToMost (2 ^ w - 1)
 
 -- over any table: what is read has a cell for each place, and each number in the range of its row
 abbrev pub RowsInside : Type 0
@@ -55,13 +51,6 @@ SignedExact = (w : ℕ) (z : ℤ) → within (signedBits w) z ≡ inSigned w z
 
 abbrev pub UnsignedExact : Type 0
 UnsignedExact = (w : ℕ) (z : ℤ) → within (unsignedBits w) z ≡ inUnsigned w z
-
--- and the kinds of w bits have those
-abbrev pub SignedKinds : Type 0
-SignedKinds = (w : ℕ) → rangeBy (signed w) ≡ signedBits w
-
-abbrev pub UnsignedKinds : Type 0
-UnsignedKinds = (w : ℕ) → rangeBy (unsigned w) ≡ unsignedBits w
 
 -- which width each kind of the table has; two have a range of their own
 abbrev pub KindsByWidth : Type 0

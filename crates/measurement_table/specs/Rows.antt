@@ -1,9 +1,10 @@
--- Document 002: the twenty-four attributes of Measurement by number, places and kind, and the bounds of each kind. Assumes nothing: these are definitions.
+-- Document 002: the twenty-four attributes of Measurement by number, places and kind, and the range of each kind. Assumes nothing: these are definitions.
 use Prim.Native.Nat.{ℕ, _+_, _-_, _^_}
 use mathlib.Core.List.{List, [], _∷_}
 use lib.ListN.{getD}
 use Rattle.measurement_table.specs.declared.attributes.Row.{Row}
-use Rattle.measurement_table.specs.declared.attributes.Bounds.{Bounds}
+use Rattle.wire_fields.specs.Ranges.{range, signedBits, upToMost}
+use Rattle.wire_fields.specs.declared.ranges.Range.{Range}
 
 -- THE KINDS: numbers of w signed bits, of w bits, and those with a range of their own
 abbrev pub int64 : ℕ
@@ -26,24 +27,16 @@ factor = 4
 abbrev pub percent : ℕ
 percent = 5
 
--- `below` numbers below 0, and `high` the largest
-abbrev pub between : ℕ → ℕ → Bounds
-between b h = record { below = b; high = h }
-
--- those of w signed bits, w from 1 on
-abbrev pub signed : ℕ → Bounds
-signed w = between (2 ^ (w - 1)) (2 ^ (w - 1) - 1)
-
 -- those of w bits
-abbrev pub unsigned : ℕ → Bounds
-unsigned w = between 0 (2 ^ w - 1)
+abbrev pub unsignedBits : ℕ → Range
+unsignedBits w = upToMost (2 ^ w - 1)
 
-unfoldable pub bounds : List Bounds
-bounds = signed 64 ∷ unsigned 64 ∷ unsigned 32 ∷ signed 16 ∷ between 1000 1000 ∷ between 0 100 ∷ []
+unfoldable pub ranges : List Range
+ranges = signedBits 64 ∷ unsignedBits 64 ∷ unsignedBits 32 ∷ signedBits 16 ∷ range 1000 1000 ∷ upToMost 100 ∷ []
 
--- the bounds of a kind
-unfoldable pub boundsOf : ℕ → Bounds
-boundsOf k = getD bounds k (between 0 0)
+-- the range of a kind
+unfoldable pub rangeOf : ℕ → Range
+rangeOf k = getD ranges k (range 0 0)
 
 -- THE TABLE: one number, or one for each of three phases (or pairs of phases)
 abbrev pub single : ℕ → ℕ → Row

@@ -1,7 +1,8 @@
 // The attributes of Measurement (document 002): a fixed table of number, places and kind, and the bounds of each kind.
+use wire_fields::Range;
 ghost use mathlib.Core.Path.{_≡_};
 ghost use lib.ListN.{getD};
-ghost use Rattle.measurement_table.specs.Rows.{noRow, rows, boundsOf};
+ghost use Rattle.measurement_table.specs.Rows.{noRow, rows, rangeOf};
 
 // An attribute: its number, how many places it has (one number, or one for each phase), and its kind. Bytes, since a constant is laid out at each use.
 pub struct Row(pub u8, pub u8, pub u8);
@@ -57,48 +58,42 @@ pub fn row_at(k: usize) -> Row
     Row(0, 0, 0)
 }
 
-// How many numbers below 0 a kind has, and its largest.
-pub struct Bounds {
-    pub below: u64,
-    pub high: u64,
-}
-
 const KINDS: usize = 6;
 
 // By kind, in the order of their numbers above.
-const BOUNDS: [Bounds; KINDS] = [
-    Bounds {
+const RANGES: [Range; KINDS] = [
+    Range {
         below: 9223372036854775808,
         high: 9223372036854775807,
     },
-    Bounds {
+    Range {
         below: 0,
         high: 18446744073709551615,
     },
-    Bounds {
+    Range {
         below: 0,
         high: 4294967295,
     },
-    Bounds {
+    Range {
         below: 32768,
         high: 32767,
     },
-    Bounds {
+    Range {
         below: 1000,
         high: 1000,
     },
-    Bounds {
+    Range {
         below: 0,
         high: 100,
     },
 ];
 
-// The bounds of a kind; those of no kind hold 0 alone.
-pub fn bounds_of(kind: usize) -> Bounds
-    ensures { λ r. ⌜ r ≡ boundsOf kind ⌝ }
+// The range of a kind; that of no kind holds 0 alone.
+pub fn range_of(kind: usize) -> Range
+    ensures { λ r. ⌜ r ≡ rangeOf kind ⌝ }
 {
     if kind < KINDS {
-        return BOUNDS[kind];
+        return RANGES[kind];
     }
-    Bounds { below: 0, high: 0 }
+    Range { below: 0, high: 0 }
 }

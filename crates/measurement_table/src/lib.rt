@@ -1,15 +1,13 @@
 // The Measurement feature (document 002): its table of attributes, and the words that hold what is measured.
-mod table; // table.rt: the range of each kind
 mod words; // words.rt: cells as words
 
 // The attributes of the Measurement feature (document 002), as plain numbers.
-mod attributes; // attributes.rt: the attributes by number, places and kind, and the bounds of the kinds
+mod attributes; // attributes.rt: the attributes by number, places and kind, and the range of each kind
 
-pub use attributes::Bounds;
 pub use attributes::ROWS;
 pub use attributes::Row;
+pub use attributes::range_of;
 pub use attributes::row_at;
-pub use table::range_of;
 pub use words::PLACES;
 pub use words::Place;
 pub use words::WORDS;
