@@ -1,0 +1,33 @@
+-- By the form that the additional information has.
+use mathlib.Core.Path.{sym, _∙_}
+use Rattle.wire_heads.specs.declared.reading.Form.{Form}
+use borrow.Author.Needs.{needs}
+use Rattle.wire_bytes.proofs.NumberLaws.{all-bytes}
+use Rattle.wire_heads.proofs.HeadSteps.{form-width, arg-is}
+use Rattle.wire_heads.proofs.reading.argument_of.Statement.{statement}
+use Rattle.wire_heads.proofs.reading.argument_of.Tie as tie
+
+held-requires : tie.Need-held-requires
+held-requires c κs = (c .before .before .before .before .before .pre, form-width (c .before .before .before .before .before .args .info) _ _ (sym (c .before .before .before .form-of .ensures) ∙ c .before .form .given .1))
+
+returns : tie.Need-returns
+returns c = arg-is (c .before .before .before .before .args .s .now) (all-bytes _ (c .before .before .before .shared-slice-known .given)) (c .before .before .before .before .args .at) (c .before .before .before .before .args .info) Form.Itself (sym (c .enum-told .given .1) ∙ c .before .before .form-of .ensures)
+
+returns-2 : tie.Need-returns-2
+returns-2 c = c .held .ensures ∙ arg-is (c .before .before .before .before .before .before .args .s .now) (all-bytes _ (c .before .before .before .before .before .shared-slice-known .given)) (c .before .before .before .before .before .before .args .at) (c .before .before .before .before .before .before .args .info) (Form.Behind _ _) (sym (c .before .before .form .given .1) ∙ c .before .before .before .before .form-of .ensures)
+
+returns-3 : tie.Need-returns-3
+returns-3 c = arg-is (c .before .before .before .before .args .s .now) (all-bytes _ (c .before .before .before .shared-slice-known .given)) (c .before .before .before .before .args .at) (c .before .before .before .before .args .info) Form.Nowhere (sym (c .enum-told2 .given .1) ∙ c .before .before .form-of .ensures)
+
+pub argument-of-spec : {M : Type 1} → statement M
+argument-of-spec =
+    tie.close
+    (tie.spec
+    (λ c κs. search needs)
+    (λ c. search needs)
+    (λ c. search needs)
+    held-requires
+    (λ c. search needs)
+    returns
+    returns-2
+    returns-3)
