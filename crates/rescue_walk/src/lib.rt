@@ -8,4 +8,5 @@ pub use report::put_text;
 pub use scripts::MOST;
 pub use scripts::REPORT;
 pub use scripts::Rescued;
+pub use scripts::TEXT;
 pub use scripts::rescue;

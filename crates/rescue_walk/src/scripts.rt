@@ -9,8 +9,14 @@ ghost use Rattle.rescue_walk.specs.Rescue.{number, written, answer};
 // The longest script.
 pub const MOST: usize = 16384;
 
-// The most numbers of a report: a run has a byte at least, and between two of them stands a record.
-pub const REPORT: usize = 2980;
+// The most runs: each has a byte at least, and between two of them stands a record.
+const RUNS: usize = 1490;
+
+// The most numbers of a report.
+pub const REPORT: usize = 2 * RUNS;
+
+// The longest text of a report: in each line two numbers of at most five digits, a space and a newline.
+pub const TEXT: usize = 12 * RUNS;
 
 // The refusal number or 0, the bytes written and the runs.
 pub struct Rescued {
