@@ -24,10 +24,10 @@ use Rattle.bench_script.proofs.Texts.{joined-more}
 use Rattle.bench_script.proofs.Plays.{played-bound}
 use Rattle.rescue_walk.specs.Walk.{scanLen, recordLen, Piece, copied, passed, pass, walk, kept, rescued}
 use Rattle.rescue_walk.proofs.Begins.{found, stays}
+use Rattle.rescue_walk.proofs.Rooms.{kept-pass}
 use Rattle.rescue_walk.proofs.Walks.{Walk, ended as over, skips, gives, walks}
 use Rattle.bench_laws.specs.Answers.{copies, answersPieces, Answers, letterless}
 use Rattle.bench_laws.specs.Laws.{BenchReads, NeverBad}
-use Rattle.bench_laws.proofs.Sounds.{kept-pass}
 
 -- the record in front, then the script behind it
 script-front : (ws s : List ℕ) (r : Record) → recordAt s 0 ≡ Scan.Is r

@@ -9,7 +9,7 @@ use Rattle.bench_records.specs.Records.{isMark, fieldsAt, good, recordAt}
 use Rattle.rescue_walk.specs.Walk.{scanLen, recordLen, pass, walkIn, walk, kept, runsFrom, rescued, runs}
 use Rattle.bench_laws.specs.Sound.{readsIn, sound}
 
--- an advance (kind 2, no body) and a join (kind 1, a body of one byte)
+-- a leave (kind 2, no body) and a join (kind 1, a body of one byte)
 abbrev plain : List ℕ
 plain = 0x4D ∷ 0x48 ∷ 2 ∷ 0 ∷ 0 ∷ 0 ∷ 0 ∷ 7 ∷ 0 ∷ 0 ∷ []
 

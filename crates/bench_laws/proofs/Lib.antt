@@ -3,6 +3,6 @@ pub mod OtherOrder
 -- The laws, each in the file of its subject.
 pub mod Sounds
 pub mod Pinned
-pub mod Rooms
+pub mod Places
 pub mod Benches
 pub mod Examples

@@ -30,7 +30,7 @@ unfolding filled
 filled-some [] l = absurd (omega arith)
 filled-some (x ∷ r) l = refl
 
-some-filled : (r : List ℕ) → filled r ≡ true → 0 < length r
+pub some-filled : (r : List ℕ) → filled r ≡ true → 0 < length r
 unfolding filled
 some-filled [] e = absurd (let z : _≡_ {A = ℕ} 0 1 = cc in omega arith)
 some-filled (x ∷ r) e = omega arith

@@ -13,6 +13,7 @@ use Rattle.rescue_walk.specs.Walk.{recordLen, Piece, copied, passed, pass, walk
 use Rattle.bench_laws.specs.Sound.{joined, filled, runFirst, apart, readsIn, sound}
 use Rattle.bench_laws.specs.Laws.{MakeUp, Longest, ReadsOn, Unchanged, Once}
 use Rattle.rescue_walk.proofs.Begins.{found, stays}
+use Rattle.rescue_walk.proofs.Rooms.{kept-pass}
 use Rattle.rescue_walk.proofs.Walks.{Walk, ended, skips, gives, walks, walk-record, walk-none}
 
 -- the pieces make up the script
@@ -51,12 +52,6 @@ longest s = apart-walk (walks s)
 data Reads : List ℕ → Type 0 where
   done : Reads []
   more : {s : List ℕ} → 0 < recordLen s → Reads (drop (recordLen s) s) → Reads s
-
-pub kept-pass : (x : ℕ) (ps : List Piece) → kept (pass x ps) ≡ kept ps
-unfolding kept pass
-kept-pass x [] = refl
-kept-pass x (copied r ∷ ps) = refl
-kept-pass x (passed r ∷ ps) = refl
 
 more-front : (s t : List ℕ) → 0 < recordLen s → Reads t → Reads (take (recordLen s) s ++ t)
 more-front s t p r =

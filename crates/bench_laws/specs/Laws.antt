@@ -1,12 +1,10 @@
--- What is proved of the walk and of what `rescue` answers. The proof of MakeUp is make-up, in proofs/, and so for the others.
+-- What is proved of the walk and of what comes out. The proof of MakeUp is make-up, in proofs/, and so for the others.
 -- Assumes nothing: these are statements.
-use Prim.Native.Nat.{ℕ, _≤_}
+use Prim.Native.Nat.{ℕ}
 use mathlib.Core.Path.{_≡_}
 use mathlib.Core.Bool.{true}
 use mathlib.Core.List.{List, []}
-use lib.ListN.{length}
 use Rattle.rescue_walk.specs.Walk.{Piece, walk, rescued, runs}
-use Rattle.rescue_walk.specs.Rescue.{longestScript, number}
 use Rattle.bench_script.specs.Bench.{benchText}
 use Rattle.bench_laws.specs.Sound.{joined, apart, faithful, sound}
 use Rattle.bench_laws.specs.Answers.{copies, Answers, letterless}
@@ -47,7 +45,3 @@ Unchanged = (s : List ℕ) → sound s ≡ true → (rescued s ≡ s) × (runs s
 -- rescuing twice changes nothing more
 abbrev pub Once : Type 0
 Once = (s : List ℕ) → (rescued (rescued s) ≡ rescued s) × (runs (rescued s) ≡ [])
-
--- rooms that are always enough: 16,384 bytes and 2 * 1,490 numbers
-abbrev pub Enough : Type 0
-Enough = (s : List ℕ) (out report : ℕ) → length s ≤ longestScript → longestScript ≤ out → 2980 ≤ report → number s out report ≡ 0

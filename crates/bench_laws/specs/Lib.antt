@@ -3,3 +3,4 @@ pub mod OtherOrder
 pub mod Sound
 pub mod Answers
 pub mod Laws
+pub mod Places

@@ -6,9 +6,9 @@ use console_words::put_hex_or_none;
 use console_words::put_pairs;
 use console_words::read_hex;
 use console_words::span;
-use rescue_walk::MOST;
 use rescue_walk::REPORT;
 use rescue_walk::Rescued;
+use rescue_walk::SCRIPT;
 ghost use mathlib.Core.Path.{_≡_};
 ghost use Rattle.console_other_lines.specs.Rescues.{isRescue};
 
@@ -31,7 +31,7 @@ fn put_rescued(out: &mut [u8], at: usize, x: Rescued, kept: &[u8], report: &[u64
 }
 
 fn run(input: &[u8], out: &mut [u8], at: usize) -> usize {
-    let mut kept = [0u8; MOST];
+    let mut kept = [0u8; SCRIPT];
     let mut report = [0u64; REPORT];
     let x = rescue_walk::rescue(input, &mut kept, &mut report);
     put_rescued(out, at, x, &kept, &report)

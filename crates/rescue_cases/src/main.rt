@@ -6,8 +6,8 @@ use kernel::State;
 use kernel::WORDS;
 use libc::STDIN_FILENO;
 use libc::STDOUT_FILENO;
-use rescue_walk::MOST;
 use rescue_walk::REPORT;
+use rescue_walk::SCRIPT;
 
 fn show(bytes: &[u8], n: usize) {
     if n <= bytes.len() {
@@ -67,7 +67,7 @@ fn run(input: &[u8], kept: &mut [u8], report: &mut [u64], page: &mut [u8]) {
 }
 
 fn rescue(input: &[u8]) {
-    let mut kept = [0u8; MOST];
+    let mut kept = [0u8; SCRIPT];
     let mut report = [0u64; REPORT];
     let mut page = io::large_buffer();
     run(input, &mut kept, &mut report, &mut page);
@@ -92,7 +92,7 @@ fn case(n: u64) -> bool {
     io::write_all(STDOUT_FILENO, b"script ");
     io::print_decimal(STDOUT_FILENO, n);
     io::write_all(STDOUT_FILENO, b"\n");
-    let mut input = [0u8; MOST + 1];
+    let mut input = [0u8; SCRIPT + 1];
     take(&mut input, wire_bytes::get_u32(&prefix, 0) as usize)
 }
 

@@ -6,3 +6,7 @@ pub mod Loops
 pub mod Writings
 -- What the proofs use.
 mod Pairs
+-- How much room is always enough, and what the program leaves in it.
+pub mod Rooms
+pub mod Lengths
+pub mod Programs

@@ -5,7 +5,8 @@ mod writes; // writes.rt: the pieces written
 mod report_lines; // report_lines.rt: what the program `rescue` says on the error output
 
 pub use report_lines::put_text;
-pub use scripts::MOST;
 pub use scripts::REPORT;
 pub use scripts::Rescued;
+pub use scripts::SCRIPT;
+pub use scripts::TEXT;
 pub use scripts::rescue;

@@ -7,10 +7,16 @@ ghost use Rattle.rescue_walk.specs.Walk.{rescued, runs};
 ghost use Rattle.rescue_walk.specs.Rescue.{number, written, answer};
 
 // The longest script.
-pub const MOST: usize = 16384;
+pub const SCRIPT: usize = 16384;
 
-// The most numbers of a report: a run has a byte at least, and between two of them stands a record.
-pub const REPORT: usize = 2980;
+// The most runs: each has a byte at least, and between two of them stands a record.
+const RUNS: usize = 1490;
+
+// The most numbers of a report.
+pub const REPORT: usize = 2 * RUNS;
+
+// The longest text of a report: in each line two numbers of at most five digits, a space and a newline.
+pub const TEXT: usize = 12 * RUNS;
 
 // The refusal number or 0, the bytes written and the runs.
 pub struct Rescued {
@@ -40,7 +46,7 @@ pub fn rescue(input: &[u8], out: &mut [u8], report: &mut [u64]) -> Rescued
         ≡ written (number (now (input .entry)) (length (now (out .entry))) (length (now (report .entry))))
         (now (report .entry)) (runs (now (input .entry))) ⌝ }
 {
-    if MOST < input.len() {
+    if SCRIPT < input.len() {
         return refused(1);
     }
     let c = count(input);
