@@ -2,8 +2,8 @@
 use mathlib.Core.Path.{refl}
 use borrow.Author.Needs.{needs}
 use Rattle.wire_output.proofs.Sends.{send-refused, send-whole}
-use Rattle.wire_output.proofs.write-frame.Statement.{statement}
-use Rattle.wire_output.proofs.write-frame.Tie as tie
+use Rattle.wire_output.proofs.write_frame.Statement.{statement}
+use Rattle.wire_output.proofs.write_frame.Tie as tie
 
 pub send-spec : {M : Type 1} → statement M
 send-spec =

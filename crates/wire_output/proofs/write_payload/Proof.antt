@@ -2,8 +2,8 @@
 use mathlib.Core.Path.{refl}
 use borrow.Author.Needs.{needs}
 use Rattle.wire_output.proofs.Sends.{deliver-refused, deliver-whole}
-use Rattle.wire_output.proofs.write-payload.Statement.{statement}
-use Rattle.wire_output.proofs.write-payload.Tie as tie
+use Rattle.wire_output.proofs.write_payload.Statement.{statement}
+use Rattle.wire_output.proofs.write_payload.Tie as tie
 
 pub deliver-spec : {M : Type 1} → statement M
 deliver-spec =
