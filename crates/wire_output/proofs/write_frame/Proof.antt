@@ -5,8 +5,8 @@ use Rattle.wire_output.proofs.Sends.{send-refused, send-whole}
 use Rattle.wire_output.proofs.write_frame.Statement.{statement}
 use Rattle.wire_output.proofs.write_frame.Tie as tie
 
-pub send-spec : {M : Type 1} → statement M
-send-spec =
+pub write-frame-spec : {M : Type 1} → statement M
+write-frame-spec =
     tie.close
     (tie.spec
     (λ c κs. search needs) (λ c κs. search needs) (λ c κs. search needs) (λ c. search needs) (λ c. search needs)

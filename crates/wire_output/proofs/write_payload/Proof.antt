@@ -5,8 +5,8 @@ use Rattle.wire_output.proofs.Sends.{deliver-refused, deliver-whole}
 use Rattle.wire_output.proofs.write_payload.Statement.{statement}
 use Rattle.wire_output.proofs.write_payload.Tie as tie
 
-pub deliver-spec : {M : Type 1} → statement M
-deliver-spec =
+pub write-payload-spec : {M : Type 1} → statement M
+write-payload-spec =
     tie.close
     (tie.spec
     (λ c κs. search needs) (λ c κs. search needs) (λ c. search needs)

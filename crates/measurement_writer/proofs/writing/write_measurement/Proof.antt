@@ -27,7 +27,7 @@ write-measurement-spec =
     sent-length (search needs) (at-put-payload .ensures))
     (λ c κs. search needs) (λ c. search needs)
     (λ c.
-    let at-deliver = c .before .before .write-payload in
+    let at-write-payload = c .before .before .write-payload in
     let at-put-payload = c .before .before .before .before .before .before .put-payload in
     let at-if1 = c .before .before .before .before .before .before .before .before .if1 in
     let back-8 = c .before .before .before .before .before .before .before .before in
@@ -35,4 +35,4 @@ write-measurement-spec =
     let at-args = back-8 .before .before .before .args in
     no-refusal _ (rangeNumber (at-args .words .now)) (encode (itemOf (held (at-args .words .now)))) (at-args .out .now) _ _ (at-range-number .ensures)
     (at-if1 .left)
-    (deliver-item (itemOf (held (at-args .words .now))) (at-args .out .now) (search needs) (at-put-payload .ensures) (at-deliver .ensures))))
+    (deliver-item (itemOf (held (at-args .words .now))) (at-args .out .now) (search needs) (at-put-payload .ensures) (at-write-payload .ensures))))

@@ -24,7 +24,7 @@ write-request-spec =
     sent-length (search needs) (at-put-request .ensures))
     (λ c κs. search needs) (λ c. search needs)
     (λ c.
-    let at-send = c .before .before .write-frame in
+    let at-write-frame = c .before .before .write-frame in
     let at-put-request = c .before .before .before .before .before .before .put-request in
     let at-if1 = c .before .before .before .before .before .before .before .before .if1 in
     let back-8 = c .before .before .before .before .before .before .before .before in
@@ -32,4 +32,4 @@ write-request-spec =
     let at-args = back-8 .before .before .before .args in
     no-refusal _ (requestNumber (at-args .r)) (itemFrame (requestItem (at-args .r))) (at-args .out .now) _ _ (at-request-number .ensures)
     (at-if1 .left)
-    (send-item (requestItem (at-args .r)) (at-args .out .now) (search needs) (at-put-request .ensures) (at-send .ensures))))
+    (send-item (requestItem (at-args .r)) (at-args .out .now) (search needs) (at-put-request .ensures) (at-write-frame .ensures))))

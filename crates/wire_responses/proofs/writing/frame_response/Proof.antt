@@ -17,8 +17,8 @@ frame-response-spec =
     sent-length (search needs) (at-put-response .ensures))
     (λ c κs. search needs) (λ c. search needs)
     (λ c.
-    let at-send = c .before .before .write-frame in
+    let at-write-frame = c .before .before .write-frame in
     let at-put-response = c .before .before .before .before .before .before .put-response in
     let back-8 = c .before .before .before .before .before .before .before .before in
     let at-args = back-8 .before .args in
-    send-item (responseItem (at-args .r)) (at-args .out .now) (search needs) (at-put-response .ensures) (at-send .ensures)))
+    send-item (responseItem (at-args .r)) (at-args .out .now) (search needs) (at-put-response .ensures) (at-write-frame .ensures)))
