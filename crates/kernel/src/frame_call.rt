@@ -1,4 +1,12 @@
 // The frame call: a request is read, decided and answered; only then is anything stored.
+//
+// A frame is refused in this order:
+//   1                `frame`: its length
+//   2                `wire_requests::read_payload`: strict CBOR
+//   3, 4, 3          `read_message` there: the envelope, what is served, the parameters
+//   5, 9, 10         `command_tests::number_of`: the second, the zone, its link
+//   11, 12, 13, 14   `content_number` there: the command itself
+//   15               `answer`: the response that has no space, once nothing else is refused
 use device_calls::State;
 use device_calls::commands::decide;
 use device_calls::commands::enact;
