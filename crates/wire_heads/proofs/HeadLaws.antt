@@ -9,9 +9,10 @@ use lib.ListN.{length, getD, drop}
 use lib.Dec.{leb, ltb, eqb}
 use borrow.Author.Tests.{lt-leb, le-leb, le-ltb, lt-ltb, ltb-true, leb-true, leb-false, eqb-true, eq-eqb}
 use Rattle.wire_bytes.specs.Bytes.{numberAt, bytesOf, Bytes, Stands}
-use Rattle.wire_heads.specs.Head.{Arg, infoOf, widthOf, headBytes, headLen, wideAt, argAt, allowed, withMajor, headAt, Within}
+use Rattle.wire_heads.specs.Head.{infoOf, widthOf, headBytes, headLen, wideAt, argAt, allowed, withMajor, headAt, Within}
 use Rattle.wire_heads.specs.Laws.{HeadReadsBack, HeadExact}
 use Rattle.wire_heads.specs.declared.reading.Head.{Head}
+use Rattle.wire_heads.specs.declared.reading.Argument.{Argument}
 use Rattle.wire_bytes.proofs.Order.{below}
 use Rattle.wire_bytes.proofs.NumberLaws.{at-first, past, room, cons-at, bytes-length, number-of, number-there, number-fits}
 use Rattle.wire_heads.proofs.Widths.{info-low, width-low, info-small, info-high, width-enough, width-small, head-length}
@@ -36,10 +37,10 @@ allowed-arg : (m v : ℕ) → allowed m (infoOf v) ≡ true → Within m v
 allowed-arg m v ok = ⊎-elim (λ h. rw (info-low v h) at ok) (λ h. allowed-wide m (infoOf v) v (info-high v h) ok) (below v 24)
 
 -- an argument that stands behind the first byte is read
-arg-reads : (s t : List ℕ) (q v : ℕ) → v < 2 ^ 64 → drop q s ≡ bytesOf (widthOf (infoOf v)) v ++ t → argAt s q (infoOf v) ≡ Arg.Is v (q + widthOf (infoOf v))
+arg-reads : (s t : List ℕ) (q v : ℕ) → v < 2 ^ 64 → drop q s ≡ bytesOf (widthOf (infoOf v)) v ++ t → argAt s q (infoOf v) ≡ Argument.Is v (q + widthOf (infoOf v))
 unfolding argAt
 arg-reads s t q v small e = ⊎-elim
-    (λ h. rw (info-low v h, width-low v h, lt-ltb v 24 h) (ap (Arg.Is v) (omega arith)))
+    (λ h. rw (info-low v h, width-low v h, lt-ltb v 24 h) (ap (Argument.Is v) (omega arith)))
     (λ h.
     let w : ℕ = widthOf (infoOf v) in
     let n = number-of w s t q v (width-enough v h small) e in
@@ -68,13 +69,13 @@ record ArgFound (s : List ℕ) (q i v e : ℕ) : Type 0 where
   small : v < 2 ^ 64
 
 module _ (s : List ℕ) (ok : Bytes s) (q v e i : ℕ) (le : q ≤ length s) where
-  wide-found : (w : ℕ) → w ≡ widthOf i → wideAt s q i w (numberAt s q w) ≡ Arg.Is v e → ArgFound s q i v e
+  wide-found : (w : ℕ) → w ≡ widthOf i → wideAt s q i w (numberAt s q w) ≡ Argument.Is v e → ArgFound s q i v e
   wide-found w wi = go (leb w (length s - q)) (eqb (infoOf (numberAt s q w)) i) refl refl
     where
       x : ℕ
       x = numberAt s q w
 
-      go : (a b : Bool) → leb w (length s - q) ≡ a → eqb (infoOf x) i ≡ b → cond a (cond b (Arg.Is x (q + w)) Arg.Bad) Arg.Bad ≡ Arg.Is v e → ArgFound s q i v e
+      go : (a b : Bool) → leb w (length s - q) ≡ a → eqb (infoOf x) i ≡ b → cond a (cond b (Argument.Is x (q + w)) Argument.Bad) Argument.Bad ≡ Argument.Is v e → ArgFound s q i v e
       go false b ha hb h = absurd (let z : _≡_ {A = ℕ} 0 1 = cc in omega arith)
       go true false ha hb h = absurd (let z : _≡_ {A = ℕ} 0 1 = cc in omega arith)
       go true true ha hb h =
@@ -89,11 +90,11 @@ module _ (s : List ℕ) (ok : Bytes s) (q v e i : ℕ) (le : q ≤ length s) whe
             small = omega (arith, number-fits s ok w q (rw wi (width-small i)));
           }
 
-  arg-found : argAt s q i ≡ Arg.Is v e → ArgFound s q i v e
+  arg-found : argAt s q i ≡ Argument.Is v e → ArgFound s q i v e
   unfolding argAt bytesOf
   arg-found = go (ltb i 24) refl
     where
-      go : (a : Bool) → ltb i 24 ≡ a → cond a (Arg.Is i q) (wideAt s q i (widthOf i) (numberAt s q (widthOf i))) ≡ Arg.Is v e → ArgFound s q i v e
+      go : (a : Bool) → ltb i 24 ≡ a → cond a (Argument.Is i q) (wideAt s q i (widthOf i) (numberAt s q (widthOf i))) ≡ Argument.Is v e → ArgFound s q i v e
       go true ha h =
           let x : i ≡ v = cc in
           let y : q ≡ e = cc in
@@ -114,9 +115,9 @@ pub record HeadFound (s : List ℕ) (p m v e : ℕ) : Type 0 where
   pub small : v < 2 ^ 64
   pub within : Within m v
 
-with-major : (m m′ v e : ℕ) (a : Arg) → withMajor m a ≡ Head.Is m′ v e → (m ≡ m′) × (a ≡ Arg.Is v e)
-with-major m m′ v e (Arg.Is x y) h = let a : x ≡ v = cc in let b : y ≡ e = cc in (cc, cc)
-with-major m m′ v e Arg.Bad h = absurd (let z : _≡_ {A = ℕ} 0 1 = cc in omega arith)
+with-major : (m m′ v e : ℕ) (a : Argument) → withMajor m a ≡ Head.Is m′ v e → (m ≡ m′) × (a ≡ Argument.Is v e)
+with-major m m′ v e (Argument.Is x y) h = let a : x ≡ v = cc in let b : y ≡ e = cc in (cc, cc)
+with-major m m′ v e Argument.Bad h = absurd (let z : _≡_ {A = ℕ} 0 1 = cc in omega arith)
 
 pub head-found : (s : List ℕ) → Bytes s → (p m v e : ℕ) → headAt s p ≡ Head.Is m v e → HeadFound s p m v e
 unfolding headAt headBytes

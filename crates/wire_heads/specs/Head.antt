@@ -7,6 +7,7 @@ use lib.ListN.{length, getD}
 use lib.Dec.{ltb, leb, eqb}
 use Rattle.wire_bytes.specs.Bytes.{numberAt, bytesOf}
 use Rattle.wire_heads.specs.declared.reading.Head.{Head}
+use Rattle.wire_heads.specs.declared.reading.Argument.{Argument}
 
 -- the additional information of the shortest head of an argument
 unfoldable pub infoOf : ℕ → ℕ
@@ -35,27 +36,17 @@ allowed m v = cond (leb m 5) true (cond (eqb m 7) (cond (leb 20 v) (leb v 22) fa
 abbrev pub Within : ℕ → ℕ → Type 0
 Within m v = allowed m v ≡ true
 
--- an argument and the position past it, or none in shortest form
-pub data Arg : Type 0 where
-  Is : ℕ → ℕ → Arg
-  Bad : Arg
-
 -- the argument v that w bytes at p say, where they are there and i is its shortest form
-abbrev pub wideAt : List ℕ → ℕ → ℕ → ℕ → ℕ → Arg
-wideAt s p i w v = cond (leb w (length s - p)) (cond (eqb (infoOf v) i) (Arg.Is v (p + w)) Arg.Bad) Arg.Bad
+abbrev pub wideAt : List ℕ → ℕ → ℕ → ℕ → ℕ → Argument
+wideAt s p i w v = cond (leb w (length s - p)) (cond (eqb (infoOf v) i) (Argument.Is v (p + w)) Argument.Bad) Argument.Bad
 
 -- the argument of additional information i, whose bytes start at p
-unfoldable pub argAt : List ℕ → ℕ → ℕ → Arg
-argAt s p i = cond (ltb i 24) (Arg.Is i p) (wideAt s p i (widthOf i) (numberAt s p (widthOf i)))
+unfoldable pub argAt : List ℕ → ℕ → ℕ → Argument
+argAt s p i = cond (ltb i 24) (Argument.Is i p) (wideAt s p i (widthOf i) (numberAt s p (widthOf i)))
 
--- an argument alone; 0 where there is none, as no argument of more than one byte is 0
-abbrev pub argOrZero : Arg → ℕ
-argOrZero (Arg.Is v e) = v
-argOrZero Arg.Bad = 0
-
-abbrev pub withMajor : ℕ → Arg → Head
-withMajor m (Arg.Is v e) = Head.Is m v e
-withMajor m Arg.Bad = Head.Bad
+abbrev pub withMajor : ℕ → Argument → Head
+withMajor m (Argument.Is v e) = Head.Is m v e
+withMajor m Argument.Bad = Head.Bad
 
 -- the head whose first byte is b, its argument's bytes at p
 abbrev pub headFrom : List ℕ → ℕ → ℕ → Head

@@ -1,3 +1,4 @@
 pub mod Head
+pub mod Forms
 pub mod Key
 pub mod Laws

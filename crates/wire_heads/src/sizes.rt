@@ -1,7 +1,6 @@
 // How long a head is: its argument in the shortest form.
 ghost use mathlib.Core.Path.{_≡_};
-ghost use Prim.Native.Nat.{_≤_};
-ghost use Rattle.wire_heads.specs.Head.{infoOf, widthOf, headLen};
+ghost use Rattle.wire_heads.specs.Head.{infoOf, headLen};
 
 // The additional information of the shortest head of an argument.
 pub(crate) fn info_of(arg: u64) -> u64
@@ -22,29 +21,21 @@ pub(crate) fn info_of(arg: u64) -> u64
     27
 }
 
-// How many bytes of argument stand behind a first byte with this additional information.
-pub(crate) fn width_of(info: u64) -> usize
-    ensures { λ r. ⌜ r ≡ widthOf info ⌝ }
-    ensures { λ r. ⌜ r ≤ 8 ⌝ }
-{
-    if info == 24 {
-        return 1;
-    }
-    if info == 25 {
-        return 2;
-    }
-    if info == 26 {
-        return 4;
-    }
-    if info == 27 {
-        return 8;
-    }
-    0
-}
-
 // How many bytes the head of an argument has.
 pub fn head_len(arg: u64) -> usize
     ensures { λ r. ⌜ r ≡ headLen arg ⌝ }
 {
-    1 + width_of(info_of(arg))
+    if arg < 24 {
+        return 1;
+    }
+    if arg < 256 {
+        return 2;
+    }
+    if arg < 65536 {
+        return 3;
+    }
+    if arg < 4294967296 {
+        return 5;
+    }
+    9
 }
