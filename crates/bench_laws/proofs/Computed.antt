@@ -45,11 +45,13 @@ use Rattle.command_effects.specs.Says.{says, someOf}
 use Rattle.command_effects.specs.Content.{unsupported, invalid, tooLow, belowTheMinimum}
 use Rattle.device_calls.specs.Commands.{commandNumber, commandAfter, commandAnswer}
 use Rattle.command_effects.specs.Effects.{fieldAction, action, untilOf, done, obeyed}
+use Rattle.wire_messages.specs.Statuses.{stands}
 use Rattle.command_effects.specs.Outcomes.{isCapped, reasonOf, outcomeWith}
 use Rattle.device_rules.specs.Rules.{badMaximum, outside, badSettings}
 use Rattle.device_calls.specs.Start.{startAfter}
 use Rattle.plan.specs.Plan.{rowsFrom}
-use Rattle.plan.specs.Walk.{sameNumber, alike, step, walk}
+use Rattle.device_holds.specs.Alike.{sameNumber, alike}
+use Rattle.plan.specs.Walk.{step, walk}
 use Rattle.plan.proofs.Walk.{planOf-walk}
 use Rattle.bench_script.specs.Runs.{callOf, bodyOf}
 use Rattle.bench_script.specs.Answers.{cell, rowPieces}
@@ -131,7 +133,7 @@ unfolding joined decimal digits widthIn cell rowPieces planPieces rowsFrom walk 
     rankOf isJoined isUp slotOf joinedIn zoneOf heldOf anyJoined anyUp settingsOf heldIn zoneAt zonesOf bit heldWords putZone applied after settingWords fresh supports
     claimOf goesBefore better winner inFailsafe smallestWith failsafeValue valueAt present stateAt shown valuesAt firstOf late sinceAfter zoneChange
     headChange badJoin joinNumber joinAfter moveNumber moveAfter unsupported invalid tooLow belowTheMinimum
-    commandNumber says someOf fieldAction action untilOf done obeyed commandAfter isCapped reasonOf outcomeWith commandAnswer
+    commandNumber says someOf fieldAction action untilOf done obeyed commandAfter isCapped reasonOf stands outcomeWith commandAnswer
     badMaximum outside badSettings startAfter
 answers = simp planOf-walk
 

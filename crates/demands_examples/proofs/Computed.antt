@@ -18,11 +18,13 @@ use Rattle.command_effects.specs.Content.{unsupported, invalid}
 use Rattle.device_calls.specs.Commands.{commandNumber, commandAfter, commandAnswer}
 use Rattle.command_effects.specs.Content.{tooLow, belowTheMinimum}
 use Rattle.command_effects.specs.Effects.{fieldAction, action, untilOf, done, obeyed}
+use Rattle.wire_messages.specs.Statuses.{stands}
 use Rattle.command_effects.specs.Outcomes.{isCapped, reasonOf, outcomeWith}
 use Rattle.device_rules.specs.Rules.{badMaximum, outside, badSettings}
 use Rattle.device_calls.specs.Start.{startAfter}
 use Rattle.plan.specs.Plan.{numbersOf}
-use Rattle.plan.specs.Walk.{sameNumber, alike, step, walk}
+use Rattle.device_holds.specs.Alike.{sameNumber, alike}
+use Rattle.plan.specs.Walk.{step, walk}
 use Rattle.plan.proofs.Walk.{planOf-walk}
 use Rattle.demands_examples.specs.Examples.{Case, reached, found, commandCases, failsafeCases, planCases, currentCases, table, Marked}
 
@@ -47,7 +49,7 @@ unfolding found reached part commandCases failsafeCases planCases currentCases n
     joined zoneOf heldOf anyJoined anyUp settingsOf heldIn zoneAt zonesOf bit heldWords putZone applied after settingWords fresh supports lowAt
     claimOf goesBefore better winner inFailsafe smallestWith failsafeValue valueAt present stateAt shown valuesAt firstOf late sinceAfter zoneChange
     headChange badJoin joinNumber joinAfter leaveNumber leaveAfter same linkNumber linkAfter says someOf unsupported invalid tooLow
-    belowTheMinimum commandNumber fieldAction action untilOf done obeyed commandAfter isCapped reasonOf outcomeWith commandAnswer
+    belowTheMinimum commandNumber fieldAction action untilOf done obeyed commandAfter isCapped reasonOf stands outcomeWith commandAnswer
     badMaximum outside badSettings startAfter
 right zero zero h = refl
 right zero (suc zero) h = refl
