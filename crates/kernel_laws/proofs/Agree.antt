@@ -84,7 +84,7 @@ module _ (s : Situation) (few : length (s .zones) ≤ slots) where
   stands-changes (suc t) h e =
       λ q.
       let a : suc t - 1 ≡ t = omega arith in
-      let k : alike (valuesAt s (suc t)) (valuesAt s t) ≡ true = subst (λ (v : List ℤ). alike (valuesAt s (suc t)) v ≡ true) q (alike-alike (valuesAt s (suc t))) in
+      let k : alike (valuesAt s (suc t)) (valuesAt s t) ≡ true = subst (λ (v : List ℤ). alike (valuesAt s (suc t)) v ≡ true) q (alike-same (valuesAt s (suc t))) in
       go (isOneOf (suc t) (candidatesOf s)) (rw (a, k) at e)
     where
       go : (b : Bool) → (b && false) ≡ true → ⊥
