@@ -12,7 +12,12 @@ use Rattle.wire_heads.specs.declared.reading.Form.{Form}
 
 -- where additional information i says the argument (RFC 8949, 3), and from which number on it needs all its bytes
 unfoldable pub formOf : ℕ → Form
-formOf i = cond (ltb i 24) Form.Itself (cond (eqb i 24) (Form.Behind 1 24) (cond (eqb i 25) (Form.Behind 2 256) (cond (eqb i 26) (Form.Behind 4 65536) (cond (eqb i 27) (Form.Behind 8 4294967296) Form.Nowhere))))
+formOf i =
+    cond (ltb i 24) Form.Itself
+    (cond (eqb i 24) (Form.Behind 1 24)
+    (cond (eqb i 25) (Form.Behind 2 256)
+    (cond (eqb i 26) (Form.Behind 4 65536)
+    (cond (eqb i 27) (Form.Behind 8 4294967296) Form.Nowhere))))
 
 -- one byte, or bytes that are read by twos
 abbrev pub Width : ℕ → Type 0

@@ -8,7 +8,10 @@ use Rattle.wire_heads.proofs.keys.key_of.Statement.{statement}
 use Rattle.wire_heads.proofs.keys.key_of.Tie as tie
 
 returns : tie.Need-returns
-returns c = c .later .ensures ∙ ap (λ (a : Argument). keyOf (least (c .before .before .before .before .args .first) (c .before .before .before .before .args .last)) (withMajor 0 a)) (sym (c .before .before .a .given .1))
+returns c =
+    let at-a = c .before .before .a in
+    let at-args = c .before .before .before .before .args in
+    c .later .ensures ∙ ap (λ (a : Argument). keyOf (least (at-args .first) (at-args .last)) (withMajor 0 a)) (sym (at-a .given .1))
 
 pub key-of-spec : {M : Type 1} → statement M
 key-of-spec =

@@ -8,17 +8,25 @@ use Rattle.wire_heads.proofs.keys.read_key.Statement.{statement}
 use Rattle.wire_heads.proofs.keys.read_key.Tie as tie
 
 returns : tie.Need-returns
-returns c = key-end (c .before .before .args .s .now) (c .before .before .args .at) (least (c .before .before .args .first) (c .before .before .args .last)) (c .if1 .taken)
+returns c =
+    let at-args = c .before .before .args in
+    key-end (at-args .s .now) (at-args .at) (least (at-args .first) (at-args .last)) (c .if1 .taken)
 
 cast-b : tie.Need-cast-b
 cast-b c = omega (arith, c .before .before .shared-slice-known .given (c .before .before .before .args .at))
 
 returns-2 : tie.Need-returns-2
-returns-2 c = key-other (c .before .before .before .before .args .s .now) (c .before .before .before .before .args .at) _ (least (c .before .before .before .before .args .first) (c .before .before .before .before .args .last)) (c .before .before .if1 .left) refl (c .if2 .taken)
+returns-2 c =
+    let at-if1 = c .before .before .if1 in
+    let at-args = c .before .before .before .before .args in
+    key-other (at-args .s .now) (at-args .at) _ (least (at-args .first) (at-args .last)) (at-if1 .left) refl (c .if2 .taken)
 
 returns-3 : tie.Need-returns-3
 returns-3 c =
-    key-zero (c .before .before .before .before .before .before .args .s .now) (c .before .before .before .before .before .before .args .at) _ (least (c .before .before .before .before .before .before .args .first) (c .before .before .before .before .before .before .args .last)) (c .before .before .before .before .if1 .left) refl (c .before .before .if2 .left) _ _ (c .before .argument-of .ensures) (c .key-of .ensures)
+    let at-if2 = c .before .before .if2 in
+    let at-if1 = c .before .before .before .before .if1 in
+    let at-args = c .before .before .before .before .before .before .args in
+    key-zero (at-args .s .now) (at-args .at) _ (least (at-args .first) (at-args .last)) (at-if1 .left) refl (at-if2 .left) _ _ (c .before .argument-of .ensures) (c .key-of .ensures)
 
 pub read-key-spec : {M : Type 1} → statement M
 read-key-spec =

@@ -8,16 +8,33 @@ use Rattle.wire_heads.proofs.reading.argument_of.Statement.{statement}
 use Rattle.wire_heads.proofs.reading.argument_of.Tie as tie
 
 held-requires : tie.Need-held-requires
-held-requires c κs = (c .before .before .before .before .before .pre, form-width (c .before .before .before .before .before .args .info) _ _ (sym (c .before .before .before .form-of .ensures) ∙ c .before .form .given .1))
+held-requires c κs =
+    let at-form-of = c .before .before .before .form-of in
+    let at-args = c .before .before .before .before .before .args in
+    let at-pre = c .before .before .before .before .before .pre in
+    (at-pre, form-width (at-args .info) _ _ (sym (at-form-of .ensures) ∙ c .before .form .given .1))
 
 returns : tie.Need-returns
-returns c = arg-is (c .before .before .before .before .args .s .now) (all-bytes _ (c .before .before .before .shared-slice-known .given)) (c .before .before .before .before .args .at) (c .before .before .before .before .args .info) Form.Itself (sym (c .enum-told .given .1) ∙ c .before .before .form-of .ensures)
+returns c =
+    let at-form-of = c .before .before .form-of in
+    let at-shared-slice-known = c .before .before .before .shared-slice-known in
+    let at-args = c .before .before .before .before .args in
+    arg-is (at-args .s .now) (all-bytes _ (at-shared-slice-known .given)) (at-args .at) (at-args .info) Form.Itself (sym (c .enum-told .given .1) ∙ at-form-of .ensures)
 
 returns-2 : tie.Need-returns-2
-returns-2 c = c .held .ensures ∙ arg-is (c .before .before .before .before .before .before .args .s .now) (all-bytes _ (c .before .before .before .before .before .shared-slice-known .given)) (c .before .before .before .before .before .before .args .at) (c .before .before .before .before .before .before .args .info) (Form.Behind _ _) (sym (c .before .before .form .given .1) ∙ c .before .before .before .before .form-of .ensures)
+returns-2 c =
+    let at-form = c .before .before .form in
+    let at-form-of = c .before .before .before .before .form-of in
+    let at-shared-slice-known = c .before .before .before .before .before .shared-slice-known in
+    let at-args = c .before .before .before .before .before .before .args in
+    c .held .ensures ∙ arg-is (at-args .s .now) (all-bytes _ (at-shared-slice-known .given)) (at-args .at) (at-args .info) (Form.Behind _ _) (sym (at-form .given .1) ∙ at-form-of .ensures)
 
 returns-3 : tie.Need-returns-3
-returns-3 c = arg-is (c .before .before .before .before .args .s .now) (all-bytes _ (c .before .before .before .shared-slice-known .given)) (c .before .before .before .before .args .at) (c .before .before .before .before .args .info) Form.Nowhere (sym (c .enum-told2 .given .1) ∙ c .before .before .form-of .ensures)
+returns-3 c =
+    let at-form-of = c .before .before .form-of in
+    let at-shared-slice-known = c .before .before .before .shared-slice-known in
+    let at-args = c .before .before .before .before .args in
+    arg-is (at-args .s .now) (all-bytes _ (at-shared-slice-known .given)) (at-args .at) (at-args .info) Form.Nowhere (sym (c .enum-told2 .given .1) ∙ at-form-of .ensures)
 
 pub argument-of-spec : {M : Type 1} → statement M
 argument-of-spec =

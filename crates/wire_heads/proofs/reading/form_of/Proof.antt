@@ -14,19 +14,32 @@ returns-2 c = simp (le-ltb _ _ (c .before .if1 .left), eq-eqb _ _ (c .if2 .taken
 
 returns-3 : tie.Need-returns-3
 unfolding formOf
-returns-3 c = simp (le-ltb _ _ (c .before .before .if1 .left), ne-eqb _ _ (c .before .if2 .left), eq-eqb _ _ (c .if3 .taken))
+returns-3 c =
+    let at-if1 = c .before .before .if1 in
+    simp (le-ltb _ _ (at-if1 .left), ne-eqb _ _ (c .before .if2 .left), eq-eqb _ _ (c .if3 .taken))
 
 returns-4 : tie.Need-returns-4
 unfolding formOf
-returns-4 c = simp (le-ltb _ _ (c .before .before .before .if1 .left), ne-eqb _ _ (c .before .before .if2 .left), ne-eqb _ _ (c .before .if3 .left), eq-eqb _ _ (c .if4 .taken))
+returns-4 c =
+    let at-if2 = c .before .before .if2 in
+    let at-if1 = c .before .before .before .if1 in
+    simp (le-ltb _ _ (at-if1 .left), ne-eqb _ _ (at-if2 .left), ne-eqb _ _ (c .before .if3 .left), eq-eqb _ _ (c .if4 .taken))
 
 returns-5 : tie.Need-returns-5
 unfolding formOf
-returns-5 c = simp (le-ltb _ _ (c .before .before .before .before .if1 .left), ne-eqb _ _ (c .before .before .before .if2 .left), ne-eqb _ _ (c .before .before .if3 .left), ne-eqb _ _ (c .before .if4 .left), eq-eqb _ _ (c .if5 .taken))
+returns-5 c =
+    let at-if3 = c .before .before .if3 in
+    let at-if2 = c .before .before .before .if2 in
+    let at-if1 = c .before .before .before .before .if1 in
+    simp (le-ltb _ _ (at-if1 .left), ne-eqb _ _ (at-if2 .left), ne-eqb _ _ (at-if3 .left), ne-eqb _ _ (c .before .if4 .left), eq-eqb _ _ (c .if5 .taken))
 
 returns-6 : tie.Need-returns-6
 unfolding formOf
-returns-6 c = simp (le-ltb _ _ (c .before .before .before .before .if1 .left), ne-eqb _ _ (c .before .before .before .if2 .left), ne-eqb _ _ (c .before .before .if3 .left), ne-eqb _ _ (c .before .if4 .left), ne-eqb _ _ (c .if5 .left))
+returns-6 c =
+    let at-if3 = c .before .before .if3 in
+    let at-if2 = c .before .before .before .if2 in
+    let at-if1 = c .before .before .before .before .if1 in
+    simp (le-ltb _ _ (at-if1 .left), ne-eqb _ _ (at-if2 .left), ne-eqb _ _ (at-if3 .left), ne-eqb _ _ (c .before .if4 .left), ne-eqb _ _ (c .if5 .left))
 
 pub form-of-spec : {M : Type 1} → statement M
 form-of-spec =

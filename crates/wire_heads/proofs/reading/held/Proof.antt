@@ -11,11 +11,15 @@ returns c = rw (lt-leb _ _ (c .if1 .taken))
 
 returns-2 : tie.Need-returns-2
 unfolding heldAt
-returns-2 c = rw (le-leb _ _ (c .before .before .if1 .left), ← (c .before .number .ensures), lt-ltb _ _ (c .if2 .taken))
+returns-2 c =
+    let at-if1 = c .before .before .if1 in
+    rw (le-leb _ _ (at-if1 .left), ← (c .before .number .ensures), lt-ltb _ _ (c .if2 .taken))
 
 returns-3 : tie.Need-returns-3
 unfolding heldAt
-returns-3 c = rw (le-leb _ _ (c .before .before .if1 .left), ← (c .before .number .ensures), le-ltb _ _ (c .if2 .left))
+returns-3 c =
+    let at-if1 = c .before .before .if1 in
+    rw (le-leb _ _ (at-if1 .left), ← (c .before .number .ensures), le-ltb _ _ (c .if2 .left))
 
 pub held-spec : {M : Type 1} → statement M
 held-spec =

@@ -18,32 +18,47 @@ cast-result : tie.Need-cast-result Inv-loop μ-loop
 cast-result c = omega (arith, c .before .before .shared-slice-known .given (c .before .before .before .args .at))
 
 returns : tie.Need-returns Inv-loop μ-loop
-returns c = rw (c .before .if1 .taken) (number-one (c .before .before .before .args .s .now) (c .before .before .before .args .at))
+returns c =
+    let at-args = c .before .before .before .args in
+    rw (c .before .if1 .taken) (number-one (at-args .s .now) (at-args .at))
 
 pair-requires : tie.Need-pair-requires Inv-loop μ-loop
-pair-requires c κs = omega (arith, by-twos (c .before .before .args .width) (c .before .before .pre .1) (c .if1 .left) .0)
+pair-requires c κs =
+    let at-args = c .before .before .args in
+    let at-pre = c .before .before .pre in
+    omega (arith, by-twos (at-args .width) (at-pre .1) (c .if1 .left) .0)
 
 loop-holds : tie.Need-loop-holds Inv-loop μ-loop
 loop-holds c =
-    let twos = by-twos (c .before .before .before .args .width) (c .before .before .before .pre .1) (c .before .if1 .left) in
+    let at-args = c .before .before .before .args in
+    let at-pre = c .before .before .before .pre in
+    let twos = by-twos (at-args .width) (at-pre .1) (c .before .if1 .left) in
     (omega arith, twos .0, refl, twos .1, c .pair .ensures)
 
 mul-n : tie.Need-mul-n Inv-loop μ-loop
 mul-n c =
-    omega (arith, two-more-fit (c .before .before .before .before .before .args .s .now) (c .before .before .before .before .before .args .at) (c .before .loop .i) _ (c .before .loop .inv .4) (all-bytes _ (c .before .before .before .before .shared-slice-known .given)) (omega arith))
+    let at-shared-slice-known = c .before .before .before .before .shared-slice-known in
+    let at-args = c .before .before .before .before .before .args in
+    omega (arith, two-more-fit (at-args .s .now) (at-args .at) (c .before .loop .i) _ (c .before .loop .inv .4) (all-bytes _ (at-shared-slice-known .given)) (omega arith))
 
 add-n : tie.Need-add-n Inv-loop μ-loop
 add-n c =
-    omega (arith, c .pair2 .ensures, two-more-fit (c .before .before .before .before .before .before .args .s .now) (c .before .before .before .before .before .before .args .at) (c .before .before .loop .i) _ (c .before .before .loop .inv .4) (all-bytes _ (c .before .before .before .before .before .shared-slice-known .given)) (omega arith))
+    let at-loop = c .before .before .loop in
+    let at-shared-slice-known = c .before .before .before .before .before .shared-slice-known in
+    let at-args = c .before .before .before .before .before .before .args in
+    omega (arith, c .pair2 .ensures, two-more-fit (at-args .s .now) (at-args .at) (at-loop .i) _ (at-loop .inv .4) (all-bytes _ (at-shared-slice-known .given)) (omega arith))
 
 loop-again : tie.Need-loop-again Inv-loop μ-loop
 loop-again c =
-    (omega arith, omega arith, omega arith, c .before .before .loop .inv .3, two-more (c .before .before .before .before .before .before .args .s .now) (c .before .before .before .before .before .before .args .at) (c .before .before .loop .i) _ (c .before .before .loop .inv .4) _ (c .pair2 .ensures))
+    let at-loop = c .before .before .loop in
+    let at-args = c .before .before .before .before .before .before .args in
+    (omega arith, omega arith, omega arith, at-loop .inv .3, two-more (at-args .s .now) (at-args .at) (at-loop .i) _ (at-loop .inv .4) _ (c .pair2 .ensures))
 
 returns-2 : tie.Need-returns-2 Inv-loop μ-loop
 returns-2 c =
-    let whole : c .before .loop .i ≡ c .before .before .before .before .before .args .width = omega arith in
-    c .before .loop .inv .4 ∙ ap (numberAt (c .before .before .before .before .before .args .s .now) (c .before .before .before .before .before .args .at)) whole
+    let at-args = c .before .before .before .before .before .args in
+    let whole : c .before .loop .i ≡ at-args .width = omega arith in
+    c .before .loop .inv .4 ∙ ap (numberAt (at-args .s .now) (at-args .at)) whole
 
 pub number-spec : {M : Type 1} → statement M
 number-spec =

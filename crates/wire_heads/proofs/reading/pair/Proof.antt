@@ -16,10 +16,14 @@ cast-result-2 : tie.Need-cast-result-2
 cast-result-2 c = omega (arith, c .before .shared-slice-known .given (c .before .before .args .at + 1))
 
 add-result-2 : tie.Need-add-result-2
-add-result-2 c = omega (arith, c .before .shared-slice-known .given (c .before .before .args .at), c .before .shared-slice-known .given (c .before .before .args .at + 1))
+add-result-2 c =
+    let at-args = c .before .before .args in
+    omega (arith, c .before .shared-slice-known .given (at-args .at), c .before .shared-slice-known .given (at-args .at + 1))
 
 returns : tie.Need-returns
-returns c = number-halves (c .before .before .args .s .now) (c .before .before .args .at) 1 _ _ (number-one (c .before .before .args .s .now) (c .before .before .args .at)) (number-one (c .before .before .args .s .now) (c .before .before .args .at + 1))
+returns c =
+    let at-args = c .before .before .args in
+    number-halves (at-args .s .now) (at-args .at) 1 _ _ (number-one (at-args .s .now) (at-args .at)) (number-one (at-args .s .now) (at-args .at + 1))
 
 pub pair-spec : {M : Type 1} → statement M
 pair-spec =

@@ -16,24 +16,38 @@ cast-first c = omega (arith, c .before .before .shared-slice-known .given (c .be
 
 returns-2 : tie.Need-returns-2
 returns-2 c =
-    c .with-major .ensures ∙ head-low (c .before .before .before .before .before .before .args .s .now) (c .before .before .before .before .before .before .args .at) _ (c .before .before .before .before .if1 .left) refl (c .before .before .if2 .taken) _ (sym (c .before .argument-of .ensures))
+    let at-if2 = c .before .before .if2 in
+    let at-if1 = c .before .before .before .before .if1 in
+    let at-args = c .before .before .before .before .before .before .args in
+    c .with-major .ensures ∙ head-low (at-args .s .now) (at-args .at) _ (at-if1 .left) refl (at-if2 .taken) _ (sym (c .before .argument-of .ensures))
 
 returns-3 : tie.Need-returns-3
 returns-3 c =
-    let seven : getD (c .before .before .before .before .before .before .args .s .now) (c .before .before .before .before .before .before .args .at) 0 / 32 ≡ 7 = omega arith in
-    rw seven at (head-in (c .before .before .before .before .before .before .args .s .now) (c .before .before .before .before .before .before .args .at) _ (c .before .before .before .before .if1 .left) refl
-    (in-simple _ (c .before .before .if2 .left) (c .before .before .before .before .before .shared-slice-known .given (c .before .before .before .before .before .before .args .at) .fits) (c .before .if3 .taken) (c .if4 .taken)) _
-    (arg-low (c .before .before .before .before .before .before .args .s .now) (c .before .before .before .before .before .before .args .at + 1) _ (omega arith)))
+    let at-if2 = c .before .before .if2 in
+    let at-if1 = c .before .before .before .before .if1 in
+    let at-shared-slice-known = c .before .before .before .before .before .shared-slice-known in
+    let at-args = c .before .before .before .before .before .before .args in
+    let seven : getD (at-args .s .now) (at-args .at) 0 / 32 ≡ 7 = omega arith in
+    rw seven at (head-in (at-args .s .now) (at-args .at) _ (at-if1 .left) refl
+    (in-simple _ (at-if2 .left) (at-shared-slice-known .given (at-args .at) .fits) (c .before .if3 .taken) (c .if4 .taken)) _
+    (arg-low (at-args .s .now) (at-args .at + 1) _ (omega arith)))
 
 returns-4 : tie.Need-returns-4
 returns-4 c =
-    head-out (c .before .before .before .before .before .before .args .s .now) (c .before .before .before .before .before .before .args .at) _ (c .before .before .before .before .if1 .left) refl
-    (in-none _ (c .before .before .if2 .left) (c .before .before .before .before .before .shared-slice-known .given (c .before .before .before .before .before .before .args .at) .fits) (λ g h. omega arith))
+    let at-if2 = c .before .before .if2 in
+    let at-if1 = c .before .before .before .before .if1 in
+    let at-shared-slice-known = c .before .before .before .before .before .shared-slice-known in
+    let at-args = c .before .before .before .before .before .before .args in
+    head-out (at-args .s .now) (at-args .at) _ (at-if1 .left) refl
+    (in-none _ (at-if2 .left) (at-shared-slice-known .given (at-args .at) .fits) (λ g h. omega arith))
 
 returns-5 : tie.Need-returns-5
 returns-5 c =
-    head-out (c .before .before .before .before .before .args .s .now) (c .before .before .before .before .before .args .at) _ (c .before .before .before .if1 .left) refl
-    (in-none _ (c .before .if2 .left) (c .before .before .before .before .shared-slice-known .given (c .before .before .before .before .before .args .at) .fits) (λ g h. omega arith))
+    let at-if1 = c .before .before .before .if1 in
+    let at-shared-slice-known = c .before .before .before .before .shared-slice-known in
+    let at-args = c .before .before .before .before .before .args in
+    head-out (at-args .s .now) (at-args .at) _ (at-if1 .left) refl
+    (in-none _ (c .before .if2 .left) (at-shared-slice-known .given (at-args .at) .fits) (λ g h. omega arith))
 
 pub read-head-spec : {M : Type 1} → statement M
 read-head-spec =
