@@ -22,6 +22,8 @@ DESK.chmod(0o755)
 atexit.register(shutil.rmtree, DESK, True)
 if signal.getsignal(signal.SIGINT) == signal.SIG_IGN:  # as in a job of a shell's background, where tools would ignore it too
     signal.signal(signal.SIGINT, signal.default_int_handler)
+if signal.getsignal(signal.SIGHUP) == signal.SIG_IGN:  # as under nohup
+    signal.signal(signal.SIGHUP, signal.SIG_DFL)
 
 
 # ---- cases
