@@ -1,1 +1,1 @@
-// No code: document 01's example of a bench script is a statement in specs/, proved in proofs/.
+// No code: what bench scripts print and what a rescue keeps, as statements in specs/, proved in proofs/.

@@ -1,1 +1,1 @@
-// No code: the flat forms that C has, and the kernel's, are each other's inverse.
+// No code: C's flat forms and the kernel's are each other's inverse, and a refused read leaves what it was lent.

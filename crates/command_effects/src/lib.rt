@@ -1,7 +1,7 @@
-// A command by itself, over values alone: what it says of each quantity, what is asked of it, what it leaves held, and its answer.
-mod outcomes; // outcomes.rt: the result that its response has
-mod actions; // actions.rt: what a command leaves held by its zone
-mod obey; // obey.rt: the held values worked over field by field
+// What a command does: what it leaves held by its zone, and the result that its response has.
+mod actions; // what a command does to one quantity: keep, remove or put
+mod obey; // the zone's record once it has obeyed
+mod outcomes; // the result in the response
 
 pub use actions::Action;
 pub use command_fields::is_negative;

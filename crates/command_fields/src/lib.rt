@@ -1,9 +1,7 @@
-// The fields of a command, by direction or phase.
-mod durations; // durations.rt: how long a value holds
-
-// What one field of a command says, and what one number of its answer is: the leaves of a command.
-mod fields; // fields.rt: what a field says
-mod numbers; // numbers.rt: a reason, a stated value
+// One field of a command: what it says, its bounds, the reason of a refusal, and how long a value holds.
+mod durations; // how long a value holds
+mod fields; // what a field says
+mod numbers; // the reason of a refusal, and a value as a response has it
 
 pub use durations::setpoint_duration;
 pub use durations::until_of;

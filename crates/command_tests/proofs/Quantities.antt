@@ -1,4 +1,4 @@
--- A question that no absent field answers: the quantities that a Set command has fields of decide it.
+-- A test that no absent field passes: the quantities that a Set command has fields of decide it.
 use Prim.Native.Nat.{ℕ, zero, suc}
 use mathlib.Core.Bool.{Bool, true, false, cond, _||_}
 use mathlib.Core.Path.{_≡_, refl, sym, ap, _∙_}

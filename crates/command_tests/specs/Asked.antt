@@ -1,4 +1,4 @@
--- One question, asked of what a command says of each quantity. Assumes nothing: these are definitions.
+-- One test, tried on what a command says of each quantity. Assumes nothing: these are definitions.
 use Prim.Native.Nat.{ℕ}
 use mathlib.Core.Bool.{Bool, not, _&&_}
 use lib.Dec.{leb}

@@ -1,14 +1,8 @@
-// Console lines about the kernel: start, conf, frame, request, response and rows.
-mod starts; // starts.rt: the line `start`
-
-// The console's line about a device's conformance: `conf` with its nine numbers and its attributes.
-mod reports; // reports.rt: one such line
-
-// The console's lines whose last word is bytes: `frame`, `request` and `response`.
-mod calls; // calls.rt: one such line
-
-// The console's line `rows RECORDS`: the plain planner's rows, at the device's own time.
-mod prints; // prints.rt: one such line
+// Console lines about the kernel: one module for each kind of line.
+mod calls; // `frame`, `request`, `response`: lines whose last word is bytes
+mod prints; // `rows RECORDS`: the plain planner's rows at the device's own second
+mod reports; // `conf`: the conformance report
+mod starts; // `start`: the settings that its numbers say
 
 pub use calls::with_bytes;
 pub use prints::rows;

@@ -1,16 +1,8 @@
-// Console lines beside the kernel: scrap, tick, rescue and meas.
-
-// The console's lines about frames that come in scraps: `scrap new ROOM BYTES`, `scrap same ROOM BYTES`.
-mod scraps; // scraps.rt: one such line
-
-// The console's lines about a tick counter: `tick new TICK`, `tick same TICK`.
-mod prints; // prints.rt: one such line
-
-// The console's line about a damaged bench script: `rescue BYTES`.
-mod rescues; // rescues.rt: one such line
-
-// The console's line `meas BYTES`: a payload of Measurement read, written again, and its flows.
-mod readings; // readings.rt: one such line
+// Console lines beside the kernel: one module for each kind of line.
+mod prints; // `tick new TICK`, `tick same TICK`: a tick counter
+mod readings; // `meas BYTES`: a payload of Measurement read, written again, and its flows
+mod rescues; // `rescue BYTES`: a damaged bench script
+mod scraps; // `scrap new ROOM BYTES`, `scrap same ROOM BYTES`: frames that come in scraps
 
 pub use prints::is_tick;
 pub use prints::tick;

@@ -24,7 +24,8 @@ use Rattle.device_store.specs.Words.{headChange}
 use Rattle.command_effects.specs.Effects.{obeyed}
 use Rattle.device_store.proofs.Lens.{zones-length}
 use Rattle.device_store.proofs.Effects.{applied-length, applied-settings, applied-clock, applied-since, applied-override, applied-zones}
-use Rattle.demands.specs.History.{Told, joins, leaves, links, commands, overrides, passes, Entry, Log, about, newest, saysOverride, saysClock, clockBy, overrideBy, joinedBy, recordBy, zonesBy, sinceBy, situationBy}
+use Rattle.demands.specs.History.{Told, joins, leaves, links, commands, overrides, passes, Entry, Log, about}
+use Rattle.demands.specs.History.{newest, saysOverride, saysClock, clockBy, overrideBy, joinedBy, recordBy, zonesBy, sinceBy, situationBy}
 use Rattle.demands.specs.Accepted.{kept}
 use Rattle.demands.proofs.Lists.{never}
 use Rattle.demands.proofs.Says.{joined-other, record-other, joined-join, record-join, joined-leave, joined-link, record-link, joined-command, record-command, record-size}

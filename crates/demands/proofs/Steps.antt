@@ -14,7 +14,8 @@ use Rattle.device_store.specs.Sizes.{slots}
 use Rattle.device_store.specs.Zones.{slotOf, joined, zoneOf, newZone, freeZone, linked}
 use Rattle.device_store.specs.Words.{clockOf, overrideOf, settingsOf, zonesOf, applied}
 use Rattle.device_calls.specs.Refusals.{firstOf, late}
-use Rattle.device_calls.specs.Calls.{zoneChange, joinTests, joinNumber, joinAfter, leaveTests, leaveNumber, leaveAfter, same, linkNumber, linkAfter, overrideNumber, overrideAfter, overrideWord, clearNumber, clearAfter, moveNumber, moveAfter}
+use Rattle.device_calls.specs.Calls.{zoneChange, joinTests, joinNumber, joinAfter, leaveTests, leaveNumber, leaveAfter, same}
+use Rattle.device_calls.specs.Calls.{linkNumber, linkAfter, overrideNumber, overrideAfter, overrideWord, clearNumber, clearAfter, moveNumber, moveAfter}
 use Rattle.device_rules.specs.Rules.{ranks, badJoin}
 use Rattle.device_store.specs.Words.{headChange}
 use Rattle.command_effects.specs.Content.{isUnserved, contentTests}

@@ -1,1 +1,1 @@
-// No code: the history, the three demands and the marked examples are statements in specs/, proved in proofs/.
+// No code: the history and the three demands are statements in specs/, proved in proofs/.

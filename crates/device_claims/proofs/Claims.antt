@@ -262,7 +262,8 @@ module _ (t : ℕ) (x : Zone) (e : isJoined x ≡ true) where
   leading-setpoints-end g = rw e (turns-next t leadTurn (λ (g : LeadingSetpoints). g .next) (λ k. heldOf x (leadAt k) .until) lead-next leadingSetpoints g)
 
 -- the loops over the limits and the setpoints of one zone
-pub lowest-values-turn : (t : ℕ) (x : Zone) (k : ℕ) (g₀ g r : LowestValues) (h : Held) → g ≡ lowestValuesWith t x k g₀ → h ≡ heldOf x (lowAt k) → r ≡ lowStep t h k g → r ≡ lowestValuesWith t x (k + 1) g₀
+pub lowest-values-turn : (t : ℕ) (x : Zone) (k : ℕ) (g₀ g r : LowestValues) (h : Held) → g ≡ lowestValuesWith t x k g₀ → h ≡ heldOf x (lowAt k) → r ≡ lowStep t h k g → r
+    ≡ lowestValuesWith t x (k + 1) g₀
 unfolding turns
 lowest-values-turn t x k g₀ g r h e p q = q ∙ rw (p, e, add-one k)
 

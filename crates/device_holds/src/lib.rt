@@ -1,7 +1,7 @@
 // What holds at a second: the table of links over what the zones claim, and the next second at which it can change.
-mod values; // values.rt: the table
-mod compare; // compare.rt: whether two rows have the same values
-mod links; // links.rt: which links are up, and since when none is
+mod compare; // whether two rows have the same values
+mod links; // which links are up, and since when none is
+mod values; // the table
 
 pub use compare::alike;
 use device_store::VALUES;

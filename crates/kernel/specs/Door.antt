@@ -1,6 +1,7 @@
 -- What the contracts of the kernel's calls cite from the rooms beneath, for those who enter by the kernel.
 unfoldable pub use Rattle.device_calls.specs.Start.{startNumber, startAfter}
-unfoldable pub use Rattle.device_calls.specs.Calls.{joinNumber, joinAfter, leaveNumber, leaveAfter, linkNumber, linkAfter, overrideNumber, overrideAfter, clearNumber, clearAfter, askAnswer, moveNumber, moveAfter}
+unfoldable pub use Rattle.device_calls.specs.Calls.{joinNumber, joinAfter, leaveNumber, leaveAfter, linkNumber, linkAfter}
+unfoldable pub use Rattle.device_calls.specs.Calls.{overrideNumber, overrideAfter, clearNumber, clearAfter, askAnswer, moveNumber, moveAfter}
 unfoldable pub use Rattle.plan.specs.Plan.{planAnswer, planSlice}
 unfoldable pub use Rattle.plan_plain.specs.Records.{plainAnswer, plainSlice, recordAfter}
 unfoldable pub use Rattle.wire_requests.specs.Requests.{readRequest}

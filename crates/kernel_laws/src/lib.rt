@@ -1,1 +1,2 @@
-// No code: the laws of calls and commands that no code proof needs, proved in proofs/.
+// No code: laws over the calls of the kernel, each in a file of specs/ and proved in proofs/: calls and commands, responses,
+// frames in scraps, two zones in one second, the two planners, ticks.

@@ -18,7 +18,8 @@ use Rattle.measurement_table.specs.Payload.{cellsOf, readNumber, flatOr, readAf
 use Rattle.measurement_laws.specs.Examples.{plain, ends, beyond, others, found, written, Worked}
 
 pub worked : Worked
-unfolding plain ends beyond others found written readNumber firstOf cellsOf flatOr readAfter flat placeOf held heldFrom heldAt cellOf payloadOf itemAt fromHead pairsAt itemsAt keyAt headAt argAt numberAt widthOf
+unfolding plain ends beyond others found written readNumber firstOf cellsOf flatOr readAfter flat placeOf
+    held heldFrom heldAt cellOf payloadOf itemAt fromHead pairsAt itemsAt keyAt headAt argAt numberAt widthOf
     infoOf mapIn bind valueOf rows ranges rangeOf within numberIn cellIn cellsFrom keysBelow phasesIn blanks rowIn rowsIn itemOf encode encodePairs headBytes
     bytesOf countPairs present cellItem phaseFields someMap firstItem rowItem fieldsOf
 worked = (refl, refl)

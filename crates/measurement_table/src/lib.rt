@@ -1,8 +1,6 @@
 // The Measurement feature (document 002): its table of attributes, and the words that hold what is measured.
-mod words; // words.rt: cells as words
-
-// The attributes of the Measurement feature (document 002), as plain numbers.
-mod attributes; // attributes.rt: the attributes by number, places and kind, and the range of each kind
+mod attributes; // the attributes by number, places and kind, and the range of each kind
+mod words; // cells as words
 
 pub use attributes::ROWS;
 pub use attributes::Row;

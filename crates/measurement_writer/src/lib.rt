@@ -1,9 +1,7 @@
-// Payloads of Measurement, written: tested, then put into a local and delivered.
-mod puts; // puts.rt: attributes, counted and put
-mod writing; // writing.rt: a payload, written
-
-// Words that hold a measurement, judged before they are written.
-mod fits; // fits.rt: marks and ranges, tested
-mod heads; // heads.rt: a cell as it is to be seen
+// Payloads of Measurement, written: words are judged, then put into a local and written whole.
+mod fits; // marks and ranges, judged
+mod heads; // the head that a cell is written with
+mod puts; // attributes, counted and put
+mod writing; // a payload, written
 
 pub use writing::write_measurement;

@@ -1,8 +1,8 @@
 // A damaged bench script: its whole, sound records, and the runs of bytes between them.
-mod scripts; // scripts.rt: a whole script
-mod steps; // steps.rt: from piece to piece
-mod writes; // writes.rt: the pieces written
-mod report_lines; // report_lines.rt: what the program `rescue` says on the error output
+mod report_lines; // the report as text, for the error output
+mod scripts; // a whole script
+mod steps; // from piece to piece
+mod writes; // the pieces written
 
 pub use report_lines::put_text;
 pub use scripts::REPORT;

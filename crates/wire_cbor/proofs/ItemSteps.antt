@@ -11,7 +11,8 @@ use lib.Dec.{leb, eqb}
 use borrow.Author.Tests.{ne-eqb, lt-leb}
 use Rattle.wire_bytes.specs.Bytes.{Bytes}
 use Rattle.wire_heads.specs.Head.{headBytes, headAt}
-use Rattle.wire_cbor.specs.Item.{Item, Items, Pairs, Got, got, bad, andThen, itemsAt, pairsAt, stringAt, fromHead, itemAt, restAt, endOf, pastOf, levels, payloadOf, isSome, encode, encodeItems, encodePairs, count, countPairs}
+use Rattle.wire_cbor.specs.Item.{Item, Items, Pairs, Got, got, bad, andThen, itemsAt, pairsAt, stringAt, fromHead}
+use Rattle.wire_cbor.specs.Item.{itemAt, restAt, endOf, pastOf, levels, payloadOf, isSome, encode, encodeItems, encodePairs, count, countPairs}
 use Rattle.wire_heads.specs.Key.{keyAt}
 use Rattle.wire_heads.specs.declared.reading.Head.{Head}
 use Rattle.wire_heads.specs.declared.keys.Key.{Key}

@@ -337,7 +337,8 @@ word-key-head l k e h =
     let a : List ℕ = map (λ (x : KeyHead). x .arg) l in
     let n : length m ≡ KEY_HEADS = length-map l (λ (x : KeyHead). x .major) ∙ e in
     let first : getD (m ++ a) k 0 ≡ getD l k noKeyHead .major = List·getD-append m a 0 k (omega arith) ∙ map-at (λ (x : KeyHead). x .major) l k (omega arith) in
-    let second : getD (m ++ a) (KEY_HEADS + k) 0 ≡ getD l k noKeyHead .arg = ap (λ (j : ℕ). getD (m ++ a) (j + k) 0) (sym n) ∙ getD-append-add m a k 0 ∙ map-at (λ (x : KeyHead). x .arg) l k (omega arith) in
+    let second : getD (m ++ a) (KEY_HEADS + k) 0 ≡ getD l k noKeyHead .arg = ap (λ (j : ℕ). getD (m ++ a) (j + k) 0) (sym n) ∙ getD-append-add m a k 0 ∙ map-at
+    (λ (x : KeyHead). x .arg) l k (omega arith) in
     rw (first, second)
 
 from-length : (n k : ℕ) (ps : Pairs) → length (keyHeadsFrom n k ps) ≡ n

@@ -1,7 +1,7 @@
-// RFC 8949's strict subset: items checked, a key of a map sought, a payload scanned.
-mod items; // items.rt: items, arrays and maps, checked
-mod pairs; // pairs.rt: the value under a key of a map
-mod heads; // heads.rt: one pass that checks a payload and keeps the heads under its small keys
+// RFC 8949's strict subset: items checked, a key of a map sought, a payload read in one pass.
+mod heads; // one pass that checks a payload and keeps the heads found under its small keys
+mod items; // items, arrays and maps, checked
+mod pairs; // the value under a key of a map
 
 pub use heads::KEYS;
 pub use heads::KeyHead;

@@ -1,4 +1,4 @@
-// Which number the head says that was seen under a key: an unsigned one, or a signed one or null.
+// Turns the CBOR head found under a key into a number: an unsigned one, or a signed one or null.
 use wire_cbor::KeyHead;
 use wire_messages::Amount;
 use wire_messages::Field;

@@ -37,7 +37,8 @@ use Rattle.wire_responses.specs.Sizes.{longestResponse}
 use Rattle.wire_requests.specs.WrittenSettings.{targetField, durationAmount, settingOfLimits, settingOfSetpoints, settingFields, currentLimitFields}
 use Rattle.wire_requests.specs.WrittenRequests.{commandFields, requestFields, requestItem, requestNumber, requestWide, requestUnserved, commandWide, aimWide, isServed}
 use Rattle.wire_messages.specs.Numbers.{servedAt, servedCommand}
-use Rattle.wire_responses.specs.WrittenResponses.{limitFields, setpointFields, currentFields, clearFields, outcomeItem, responseFields, responseItem, responseNumber, responseFits, fits, goesWith, limitInRange, currentInRange, amountUpTo, isNothing}
+use Rattle.wire_responses.specs.WrittenResponses.{limitFields, setpointFields, currentFields, clearFields, outcomeItem, responseFields, responseItem}
+use Rattle.wire_responses.specs.WrittenResponses.{responseNumber, responseFits, fits, goesWith, limitInRange, currentInRange, amountUpTo, isNothing}
 use Rattle.wire_responses.specs.Responses.{stands, isStatus}
 use Rattle.wire_laws.specs.Longest.{RequestLongest, RequestReached, ResponseLongest, ResponseReached}
 use Rattle.wire_laws.proofs.Maps.{count-fields}

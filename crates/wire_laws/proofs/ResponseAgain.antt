@@ -20,8 +20,10 @@ use Rattle.wire_prefix.specs.Prefix.{framed, payloadIn}
 use Rattle.wire_fields.specs.Fields.{present, numberUpTo, truth, mapIn, needed, most32, mostValue, amountIn, successIn}
 use Rattle.wire_fields.specs.ByPhase.{currentsIn}
 use Rattle.wire_messages.specs.Numbers.{servedCommand}
-use Rattle.wire_responses.specs.Responses.{isStatus, onlyStatus, stands, statusIn, limitResultIn, setpointResultIn, currentResultIn, clearResultIn, outcomeIn, noResult, resultIn, responseIn, answerOf, answerIn, answerFrom, readResponse}
-use Rattle.wire_responses.specs.WrittenResponses.{limitFields, setpointFields, currentFields, clearFields, outcomeItem, responseFields, responseItem, limitInRange, setpointInRange, currentInRange, goesWith, fits, responseFits, responseNumber}
+use Rattle.wire_responses.specs.Responses.{isStatus, onlyStatus, stands, statusIn, limitResultIn, setpointResultIn, currentResultIn, clearResultIn}
+use Rattle.wire_responses.specs.Responses.{outcomeIn, noResult, resultIn, responseIn, answerOf, answerIn, answerFrom, readResponse}
+use Rattle.wire_responses.specs.WrittenResponses.{limitFields, setpointFields, currentFields, clearFields, outcomeItem, responseFields, responseItem}
+use Rattle.wire_responses.specs.WrittenResponses.{limitInRange, setpointInRange, currentInRange, goesWith, fits, responseFits, responseNumber}
 use Rattle.wire_output.specs.Writing.{itemFrame}
 use Rattle.wire_laws.specs.RoundTrips.{KeysTo, resultKeys, PlainResponse, ResponseWritable, ResponseWritesAgain}
 use Rattle.wire_responses.specs.declared.reading.Answer.{Answer}

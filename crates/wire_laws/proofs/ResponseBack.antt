@@ -19,7 +19,8 @@ use Rattle.wire_messages.specs.declared.Response.{Response}
 use Rattle.wire_fields.specs.Fields.{mapItem, Fields, present, mapIn, needed, most32, mostValue, successIn}
 use Rattle.wire_messages.specs.Numbers.{servedCommand}
 use Rattle.wire_responses.specs.Responses.{isStatus, stands, statusIn, limitResultIn, setpointResultIn, currentResultIn, outcomeIn, noResult, resultIn, responseIn, answerOf, readResponse}
-use Rattle.wire_responses.specs.WrittenResponses.{limitFields, setpointFields, currentFields, clearFields, outcomeItem, responseFields, responseItem, amountUpTo, limitInRange, setpointInRange, currentInRange, goesWith, isNothing, fits, responseFits, responseNumber}
+use Rattle.wire_responses.specs.WrittenResponses.{limitFields, setpointFields, currentFields, clearFields, outcomeItem, responseFields, responseItem, amountUpTo}
+use Rattle.wire_responses.specs.WrittenResponses.{limitInRange, setpointInRange, currentInRange, goesWith, isNothing, fits, responseFits, responseNumber}
 use Rattle.wire_fields.specs.Puts.{fieldBytes}
 use Rattle.wire_output.specs.Writing.{itemFrame}
 use Rattle.wire_laws.specs.RoundTrips.{ResponseReadsBack, OneResponse}

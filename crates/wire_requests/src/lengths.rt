@@ -1,4 +1,4 @@
-// Requests, written: tested, then put into a local and sent behind their length.
+// How long a message can be.
 
 // The longest frame of a request that is written: a theorem of wire_laws.
 pub const REQUEST: usize = 62;

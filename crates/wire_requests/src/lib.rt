@@ -1,9 +1,7 @@
-// Requests, read and written behind their length.
-mod lengths; // lengths.rt: requests, written
-mod writing; // writing.rt: requests, written
-
-// Requests, read: the frame's prefix, the payload's one pass, the envelope, the parameters of each command.
-mod reading; // reading.rt: requests, read
+// Requests: read from a frame in document 01's order, and written behind their length.
+mod lengths; // the longest request, and the space that a writer takes for one
+mod reading; // the prefix, the payload in one pass, the envelope, the parameters of each command
+mod writing; // judged, put into a local, then written whole
 
 pub use lengths::REQUEST;
 pub use reading::Reading;

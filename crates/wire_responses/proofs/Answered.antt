@@ -17,7 +17,8 @@ use Rattle.wire_messages.specs.declared.Response.{Response}
 use Rattle.wire_prefix.specs.Prefix.{framed, payloadIn}
 use Rattle.wire_fields.specs.Fields.{numberUpTo, truth, mapIn, needed, most32, mostValue, successIn}
 use Rattle.wire_messages.specs.Numbers.{servedCommand}
-use Rattle.wire_responses.specs.Responses.{isStatus, stands, statusIn, limitResultIn, setpointResultIn, currentResultIn, outcomeIn, noResult, resultIn, responseIn, answerOf, answerIn, answerFrom, readResponse}
+use Rattle.wire_responses.specs.Responses.{isStatus, stands, statusIn, limitResultIn, setpointResultIn, currentResultIn, outcomeIn}
+use Rattle.wire_responses.specs.Responses.{noResult, resultIn, responseIn, answerOf, answerIn, answerFrom, readResponse}
 use Rattle.wire_fields.specs.KeyHeads.{found, Reads, UintReads, MapReads, amountOf, Shown, Inside}
 use Rattle.wire_responses.specs.KeyHeads.{resultPath, InResult, OutcomeReads, ResultReads, BodyReads, resultFrom}
 use Rattle.wire_fields.specs.ByPhase.{currentsIn, PhasesRead}

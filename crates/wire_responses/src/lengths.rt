@@ -1,4 +1,4 @@
-// Responses, written: tested for a command that the caller names, or as the kernel made them.
+// How long a message can be.
 
 // The longest frame of a response that is written: a theorem of wire_laws.
 pub const RESPONSE: usize = 49;

@@ -1,10 +1,8 @@
-// Responses, read for a command that the caller names, made for a request, and written behind their length.
-mod lengths; // lengths.rt: responses, written
-mod writing; // writing.rt: responses, written
-mod replies; // replies.rt: the response that is made for a request
-
-// Responses, read for a command that the caller names.
-mod reading; // reading.rt: responses, read
+// Responses: read for a command that the caller names, made for a request, and written behind their length.
+mod lengths; // the longest response, and the space that a writer takes for one
+mod reading; // the prefix, the payload in one pass, the status, the result
+mod replies; // the response that is made for a request
+mod writing; // judged, put into a local, then written whole
 
 pub use lengths::RESPONSE;
 pub use reading::Answer;

@@ -1,4 +1,4 @@
--- Each question is the case of the definition.
+-- Each test is the case of the definition.
 use borrow.Author.Needs.{needs}
 use Rattle.command_tests.proofs.asks.is_so.Statement.{statement}
 use Rattle.command_tests.proofs.asks.is_so.Tie as tie

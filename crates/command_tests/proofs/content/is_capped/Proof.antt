@@ -1,4 +1,4 @@
--- The question is whether a number is above the most that it may be; a clear has none.
+-- The test is whether a number is above the most that it may be; a clear has none.
 use mathlib.Core.Path.{_∙_}
 use Rattle.command_tests.proofs.Capped.{capped}
 use borrow.Author.Needs.{needs}

@@ -192,7 +192,9 @@ same-length c = search needs
 -- src/commands.rt:96:1
 returns-2 : tie.Need-returns-2
 unfolding numbersGood numbersStored
-returns-2 c = (rw (c .before .before .before .before .before .enum-told2 .given .1) (c .before .before .read .ensures .0), rw (c .before .before .before .before .before .enum-told2 .given .1) (c .before .before .read .ensures .1))
+returns-2 c =
+    let told = c .before .before .before .before .before .enum-told2 .given .1 in
+    (rw told (c .before .before .read .ensures .0), rw told (c .before .before .read .ensures .1))
 
 -- src/commands.rt:96:1
 same-length-2 : tie.Need-same-length-2
@@ -201,7 +203,9 @@ same-length-2 c = search needs
 -- src/commands.rt:96:1
 returns-3 : tie.Need-returns-3
 unfolding numbersGood numbersStored
-returns-3 c = (rw (c .before .before .before .before .before .enum-told3 .given .1) (c .before .before .read2 .ensures .0), rw (c .before .before .before .before .before .enum-told3 .given .1) (c .before .before .read2 .ensures .1))
+returns-3 c =
+    let told = c .before .before .before .before .before .enum-told3 .given .1 in
+    (rw told (c .before .before .read2 .ensures .0), rw told (c .before .before .read2 .ensures .1))
 
 -- src/commands.rt:96:1
 same-length-3 : tie.Need-same-length-3
@@ -210,7 +214,9 @@ same-length-3 c = search needs
 -- src/commands.rt:96:1
 returns-4 : tie.Need-returns-4
 unfolding numbersGood numbersStored
-returns-4 c = (rw (c .before .before .before .before .before .enum-told4 .given .1) (c .before .before .read3 .ensures .0), rw (c .before .before .before .before .before .enum-told4 .given .1) (c .before .before .read3 .ensures .1))
+returns-4 c =
+    let told = c .before .before .before .before .before .enum-told4 .given .1 in
+    (rw told (c .before .before .read3 .ensures .0), rw told (c .before .before .read3 .ensures .1))
 
 -- src/commands.rt:96:1
 same-length-4 : tie.Need-same-length-4
@@ -219,7 +225,9 @@ same-length-4 c = search needs
 -- src/commands.rt:96:1
 returns-5 : tie.Need-returns-5
 unfolding numbersGood numbersStored
-returns-5 c = (rw (c .before .before .before .before .before .enum-told5 .given .1) (c .before .before .read4 .ensures .0), rw (c .before .before .before .before .before .enum-told5 .given .1) (c .before .before .read4 .ensures .1))
+returns-5 c =
+    let told = c .before .before .before .before .before .enum-told5 .given .1 in
+    (rw told (c .before .before .read4 .ensures .0), rw told (c .before .before .read4 .ensures .1))
 
 -- src/commands.rt:96:1
 same-length-5 : tie.Need-same-length-5
@@ -228,7 +236,9 @@ same-length-5 c = search needs
 -- src/commands.rt:96:1
 returns-6 : tie.Need-returns-6
 unfolding numbersGood numbersStored
-returns-6 c = (rw (c .before .before .before .before .before .enum-told6 .given .1) (c .before .before .read5 .ensures .0), rw (c .before .before .before .before .before .enum-told6 .given .1) (c .before .before .read5 .ensures .1))
+returns-6 c =
+    let told = c .before .before .before .before .before .enum-told6 .given .1 in
+    (rw told (c .before .before .read5 .ensures .0), rw told (c .before .before .read5 .ensures .1))
 
 -- src/commands.rt:96:1
 same-length-6 : tie.Need-same-length-6
@@ -237,7 +247,9 @@ same-length-6 c = search needs
 -- src/commands.rt:96:1
 returns-7 : tie.Need-returns-7
 unfolding numbersGood numbersStored
-returns-7 c = (rw (c .before .before .before .before .before .enum-told7 .given .1) (c .before .before .read6 .ensures .0), rw (c .before .before .before .before .before .enum-told7 .given .1) (c .before .before .read6 .ensures .1))
+returns-7 c =
+    let told = c .before .before .before .before .before .enum-told7 .given .1 in
+    (rw told (c .before .before .read6 .ensures .0), rw told (c .before .before .read6 .ensures .1))
 
 -- src/commands.rt:96:1
 same-length-7 : tie.Need-same-length-7
@@ -246,7 +258,9 @@ same-length-7 c = search needs
 -- src/commands.rt:96:1
 returns-8 : tie.Need-returns-8
 unfolding numbersGood numbersStored
-returns-8 c = (rw (c .before .before .before .before .before .enum-told8 .given .1) (c .before .before .read7 .ensures .0), rw (c .before .before .before .before .before .enum-told8 .given .1) (c .before .before .read7 .ensures .1))
+returns-8 c =
+    let told = c .before .before .before .before .before .enum-told8 .given .1 in
+    (rw told (c .before .before .read7 .ensures .0), rw told (c .before .before .read7 .ensures .1))
 
 -- src/commands.rt:96:1
 same-length-8 : tie.Need-same-length-8
@@ -255,7 +269,9 @@ same-length-8 c = search needs
 -- src/commands.rt:96:1
 returns-9 : tie.Need-returns-9
 unfolding numbersGood numbersStored
-returns-9 c = (rw (c .before .before .before .before .before .enum-told9 .given .1) (c .before .before .read8 .ensures .0), rw (c .before .before .before .before .before .enum-told9 .given .1) (c .before .before .read8 .ensures .1))
+returns-9 c =
+    let told = c .before .before .before .before .before .enum-told9 .given .1 in
+    (rw told (c .before .before .read8 .ensures .0), rw told (c .before .before .read8 .ensures .1))
 
 -- src/commands.rt:96:1
 returns-10 : tie.Need-returns-10
@@ -269,7 +285,9 @@ same-length-9 c = search needs
 -- src/commands.rt:96:1
 returns-11 : tie.Need-returns-11
 unfolding numbersGood numbersStored
-returns-11 c = (rw (c .before .before .before .before .before .enum-told11 .given .1) (c .before .before .read9 .ensures .0), rw (c .before .before .before .before .before .enum-told11 .given .1) (c .before .before .read9 .ensures .1))
+returns-11 c =
+    let told = c .before .before .before .before .before .enum-told11 .given .1 in
+    (rw told (c .before .before .read9 .ensures .0), rw told (c .before .before .read9 .ensures .1))
 
 -- src/commands.rt:96:1
 same-length-10 : tie.Need-same-length-10
@@ -278,7 +296,9 @@ same-length-10 c = search needs
 -- src/commands.rt:96:1
 returns-12 : tie.Need-returns-12
 unfolding numbersGood numbersStored
-returns-12 c = (rw (c .before .before .before .before .before .enum-told12 .given .1) (c .before .before .read10 .ensures .0), rw (c .before .before .before .before .before .enum-told12 .given .1) (c .before .before .read10 .ensures .1))
+returns-12 c =
+    let told = c .before .before .before .before .before .enum-told12 .given .1 in
+    (rw told (c .before .before .read10 .ensures .0), rw told (c .before .before .read10 .ensures .1))
 
 -- src/commands.rt:96:1
 same-length-11 : tie.Need-same-length-11
@@ -287,7 +307,9 @@ same-length-11 c = search needs
 -- src/commands.rt:96:1
 returns-13 : tie.Need-returns-13
 unfolding numbersGood numbersStored
-returns-13 c = (rw (c .before .before .before .before .before .enum-told13 .given .1) (c .before .before .read11 .ensures .0), rw (c .before .before .before .before .before .enum-told13 .given .1) (c .before .before .read11 .ensures .1))
+returns-13 c =
+    let told = c .before .before .before .before .before .enum-told13 .given .1 in
+    (rw told (c .before .before .read11 .ensures .0), rw told (c .before .before .read11 .ensures .1))
 
 -- src/commands.rt:96:1
 returns-14 : tie.Need-returns-14
@@ -301,7 +323,9 @@ same-length-12 c = search needs
 -- src/commands.rt:96:1
 returns-15 : tie.Need-returns-15
 unfolding numbersGood numbersStored
-returns-15 c = (rw (c .before .before .before .before .before .enum-told15 .given .1) (c .before .before .read12 .ensures .0), rw (c .before .before .before .before .before .enum-told15 .given .1) (c .before .before .read12 .ensures .1))
+returns-15 c =
+    let told = c .before .before .before .before .before .enum-told15 .given .1 in
+    (rw told (c .before .before .read12 .ensures .0), rw told (c .before .before .read12 .ensures .1))
 
 -- src/commands.rt:96:1
 same-length-13 : tie.Need-same-length-13
@@ -310,7 +334,9 @@ same-length-13 c = search needs
 -- src/commands.rt:96:1
 returns-16 : tie.Need-returns-16
 unfolding numbersGood numbersStored
-returns-16 c = (rw (c .before .before .before .before .before .enum-told16 .given .1) (c .before .before .read13 .ensures .0), rw (c .before .before .before .before .before .enum-told16 .given .1) (c .before .before .read13 .ensures .1))
+returns-16 c =
+    let told = c .before .before .before .before .before .enum-told16 .given .1 in
+    (rw told (c .before .before .read13 .ensures .0), rw told (c .before .before .read13 .ensures .1))
 
 -- src/commands.rt:96:1
 returns-17 : tie.Need-returns-17

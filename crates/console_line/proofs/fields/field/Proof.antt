@@ -16,4 +16,9 @@ field-spec =
     (λ c κs. search needs) (λ c κs. search needs)
     (λ c. rw (ne-eqb _ _ (c .before .before .before .if1 .left), ← c .before .before .number-in .ensures, via (c .before .is-of .ensures) (c .if2 .taken)))
     (λ c κs. search needs)
-    (λ c. rw (ne-eqb _ _ (c .before .before .before .before .if1 .left), ← c .before .before .before .number-in .ensures, via (c .before .before .is-of .ensures) (c .before .if2 .left)) (c .no-number .ensures)))
+    (λ c. rw (
+      ne-eqb _ _ (c .before .before .before .before .if1 .left),
+      ← c .before .before .before .number-in .ensures,
+      via (c .before .before .is-of .ensures)
+          (c .before .if2 .left),
+    ) (c .no-number .ensures)))

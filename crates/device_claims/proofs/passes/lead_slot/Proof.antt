@@ -57,7 +57,8 @@ loop-again c =
     let at-held-at = c .before .before .held-at in
     let x : Zone = getD (zonesOf (at-args .d .now)) (at-args .i) freeZone in (
       omega arith,
-      leading-setpoints-turn (at-args .t) x (at-loop .k) (at-args .start) (at-loop .g) (c .lead-with .result) (at-held-at .result) (c .before .precedence-at .result) (at-loop .inv .1) (at-held-at .ensures)
+      leading-setpoints-turn (at-args .t) x (at-loop .k) (at-args .start) (at-loop .g) (c .lead-with .result) (at-held-at .result) (c .before .precedence-at .result)
+          (at-loop .inv .1) (at-held-at .ensures)
           (c .before .precedence-at .ensures) (c .lead-with .ensures .0),
       λ h. rw (c .before .precedence-at .ensures) at (c .lead-with .ensures .1),
     )

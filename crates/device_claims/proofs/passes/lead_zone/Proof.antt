@@ -62,7 +62,11 @@ returns-2 c =
     let e : c .before .loop .k ≡ leadingSetpoints = omega arith in
     let joined : isJoined (at-args .zone) ≡ true = rw (ne-eqb _ _ (at-if1 .left)) in
     let is : c .before .loop .g ≡ leadingSetpointsWith (at-args .t) (at-args .zone) leadingSetpoints (at-args .start) = rw e at (c .before .loop .inv .1) in
-    rw is (leading-setpoints-add (at-args .t) (at-args .zone) joined (at-args .start) (c .before .loop .inv .2 (omega arith)), leading-setpoints-end (at-args .t) (at-args .zone) joined (at-args .start))
+    rw is (
+      leading-setpoints-add (at-args .t) (at-args .zone) joined (at-args .start) (c .before .loop .inv .2 (omega arith)),
+      leading-setpoints-end (at-args .t)
+          (at-args .zone) joined (at-args .start),
+    )
 
 pub lead-zone-spec : {M : Type 1} → statement M
 lead-zone-spec =

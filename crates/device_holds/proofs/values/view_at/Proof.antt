@@ -30,7 +30,8 @@ returns c =
     let s : Situation = situationOf (at-args .d .now) in
     let up : anyUp (s .zones) ≡ true = up-of s (via (at-link-row .ensures) (at-if1 .taken)) in
     rw (
-      c .values-up .ensures ∙ values-up s (at-args .t) up (at-lowest-values-at .result) (c .before .leading-setpoints-at .result) (at-lowest-values-at .ensures .0) (c .before .leading-setpoints-at .ensures .0),
+      c .values-up .ensures ∙ values-up s (at-args .t) up (at-lowest-values-at .result) (c .before .leading-setpoints-at .result) (at-lowest-values-at .ensures .0)
+          (c .before .leading-setpoints-at .ensures .0),
       c .before .leading-setpoints-at .ensures .1,
       at-lowest-values-at .ensures .1,
       due-up s (at-args .t) up,

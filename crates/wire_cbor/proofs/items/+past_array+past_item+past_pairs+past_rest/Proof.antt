@@ -1,6 +1,7 @@
 -- `past_item`, `past_rest`, `past_array` and `past_pairs` call each other. What falls is the number of bytes left: three times that for the
 -- item, one more for the array and the pairs, which call it where they stand, and two more for the rest, which calls those. Assumes nothing.
-use Rattle.wire_cbor.proofs.ItemSteps.{item-rest, item-ends, head-ends, key-ends, item-bad, item-got, head-rest, items-none, items-bad, items-next, pairs-none, pairs-key, pairs-bad, pairs-next, item-no-head, rest-flat, rest-string, rest-deep, rest-array, rest-pairs}
+use Rattle.wire_cbor.proofs.ItemSteps.{item-rest, item-ends, head-ends, key-ends, item-bad, item-got, head-rest, items-none, items-bad, items-next}
+use Rattle.wire_cbor.proofs.ItemSteps.{pairs-none, pairs-key, pairs-bad, pairs-next, item-no-head, rest-flat, rest-string, rest-deep, rest-array, rest-pairs}
 use Prim.Native.Nat.{ℕ, _+_, _-_, _*_, _≤_, _<_}
 use native.Mathlib.Omega.{arith}
 use borrow.Author.Needs.{needs}
