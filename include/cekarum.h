@@ -141,9 +141,12 @@ static inline uint64_t cekarum_start(uint64_t *device, struct cekarum_settings s
 
 /* ---- zones, links, override, the clock ----
  * An accepted call moves the clock to its time, and so does an accepted frame; no other call moves it. Each gives its refusal
- * number, 0 if accepted. */
+ * number, 0 if accepted.
+ * Give times of a clock that never goes back, not the time of day: a time before the last accepted one is refused with 5, and after
+ * one call at CEKARUM_LAST_SECOND every earlier time is, for good. */
 
-/* Joins a zone, link up, with no values; rank 1 is the highest, 3 the lowest. Refuses: 5, 6, 7, 8. */
+/* Joins a zone, link up, with no values; rank 1 is the highest, 3 the lowest. Refuses: 5, 6, 7, 8.
+ * A zone that connects again is told so: where cekarum_join gives 7 it is joined still, with what it set; call cekarum_back. */
 static inline uint64_t cekarum_join(uint64_t *device, uint64_t zone, uint64_t rank, uint64_t time)
 {
     return cekarum_interface_2_join(device, zone, rank, time);
@@ -155,7 +158,9 @@ static inline uint64_t cekarum_leave(uint64_t *device, uint64_t zone, uint64_t t
     return cekarum_interface_2_leave(device, zone, time);
 }
 
-/* A zone's link went down. When no link is up any more, the failsafe begins. Refuses: 5, 9, 7. */
+/* A zone's link went down; what it set stays. When no link is up any more, the failsafe begins: no limit is above the failsafe's,
+ * and setpoints are absent. It ends when a link is up again, or after failsafe_duration seconds; behind that end nothing holds, and
+ * all values are absent. Refuses: 5, 9, 7. */
 static inline uint64_t cekarum_lost(uint64_t *device, uint64_t zone, uint64_t time)
 {
     return cekarum_interface_2_lost(device, zone, time);
@@ -167,8 +172,11 @@ static inline uint64_t cekarum_back(uint64_t *device, uint64_t zone, uint64_t ti
     return cekarum_interface_2_back(device, zone, time);
 }
 
-/* Sets the override, or replaces it. Reasons 0 and 1 go with consumption (direction 0), 2 with either; on an energy manager
- * also 3 with consumption and 4 with production (direction 1). Refuses: 5, 18. */
+/* Sets the override, or replaces it: the box cannot follow limits, and says why. No value changes by it; until it is cleared,
+ * SetLimit and SetCurrentLimits are refused with 12, and the control state says OVERRIDE outside the failsafe.
+ * Reasons: 0 the box protects itself from damage, 1 safety asks for it (both with consumption, direction 0); 2 a law or a
+ * regulation asks for it (either direction); on an energy manager also 3 loads that nobody controls (consumption) and 4 producers
+ * that nobody controls (production, direction 1). Refuses: 5, 18. */
 static inline uint64_t cekarum_override(uint64_t *device, uint64_t reason, uint64_t direction, uint64_t time)
 {
     return cekarum_interface_2_override(device, reason, direction, time);
@@ -201,7 +209,8 @@ enum {
     CEKARUM_CURRENT = 5 /* the first of six current limits: CEKARUM_CURRENT + 2 * phase (A 0, B 1, C 2) + direction */
 };
 
-/* Limits and setpoints in mW, current limits in mA, -1 is absent. */
+/* Limits and setpoints in mW, current limits in mA, -1 is absent. A limit that is absent is no limit: a fresh device has none, and
+ * the contractual maximum is none by itself, it only caps what zones set. A setpoint is not cut by a limit: keep to both. */
 struct cekarum_answer {
     int64_t values[11];
 };
@@ -259,7 +268,9 @@ static inline struct cekarum_written cekarum_plain_plan(const uint64_t *device, 
 /* Applies one frame (four bytes of length, then the payload) that came from a zone, and writes the response.
  * Refuses, in this order: 1, 2, 3 (envelope), 4, 3 (parameters), 5, 9, 10, 11, 12, 13, 14, 15. At 4, 5 and 9 to 14 the response
  * says so in its status and is written if it has room; if it has none, length is 0 and out stays as it was. At 1, 2, 3 and 15
- * there is no response. CEKARUM_RESPONSE_MAX bytes of room are always enough. length is in bytes. */
+ * there is no response. CEKARUM_RESPONSE_MAX bytes of room are always enough. length is in bytes.
+ * What a driver does then: after 2 or 3 the stream is still in step; drop the frame and go on, or close a peer that sends such
+ * frames. After 1 it is not known where the next frame starts: close the connection, and tell the zone's link lost. */
 static inline struct cekarum_written cekarum_frame(uint64_t *device, uint64_t zone, uint64_t time, const uint8_t *in,
                                                    uint64_t in_length, uint8_t *out, uint64_t out_length)
 {
@@ -354,7 +365,9 @@ struct cekarum_request {
     struct cekarum_field consumption;
     struct cekarum_field production;
     uint64_t duration; /* seconds, 32 bits */
-    uint64_t cause;    /* 0 to 255 */
+    uint64_t cause;    /* 0 to 255, not kept. Of limits: 0 grid emergency, 1 grid optimisation, 2 local protection, 3 local
+                        * optimisation, 4 user preference; of setpoints: 0 grid request, 1 self-consumption, 2 price
+                        * optimisation, 3 phase balancing, 4 user preference */
     bool directed;      /* whether a clear names a direction; if not, it clears both */
     uint64_t direction; /* 0 or 1 */
     struct cekarum_field phases[3]; /* mA by phase: A, B, C */
