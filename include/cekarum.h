@@ -93,7 +93,8 @@ enum {
     CEKARUM_OVERRIDDEN = 12,     /* SetLimit or SetCurrentLimits while an override is set */
     CEKARUM_BAD_VALUE = 13,      /* a Set command with a negative value or naming nothing, or a phase from the phase count up */
     CEKARUM_BELOW_MINIMUM = 14,  /* a consumption limit below the minimum, 0 aside: that means off */
-    CEKARUM_NO_ROOM = 15,        /* nothing else is refused, and the output is longer than the lent buffer */
+    CEKARUM_NO_SPACE = 15,       /* nothing else is refused, and the output is longer than the lent buffer */
+    CEKARUM_NO_ROOM = 15,        /* the same by its name before version 0.13 */
     CEKARUM_BAD_SETTINGS = 16,   /* bad settings, or conformance inputs out of range */
     CEKARUM_NOT_ASCENDING = 17,  /* attribute list not strictly ascending */
     CEKARUM_BAD_OVERRIDE = 18    /* override reason and direction do not go together */
