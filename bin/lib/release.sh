@@ -20,7 +20,7 @@ versions() {
     done
 }
 
-# The time that all files bear, so that one commit gives one tarball.
+# The time that all files bear, so that one commit gives one tarball: seconds since 1970.
 epoch() {
     if [ -n "${SOURCE_DATE_EPOCH:-}" ]; then
         echo "$SOURCE_DATE_EPOCH"
