@@ -13,7 +13,7 @@ import tarfile
 import threading
 
 import desk
-from desk import DESK, TOP, case, check, copy_of_sources, environment, folder, kit, replace, run, run_cases, start, tool, written
+from desk import DESK, TOP, case, check, copy_of_sources, environment, folder, kit, replace, run, run_cases, stand_in, start, tool, written
 
 VERSION = (TOP / "VERSION").read_text().strip()
 NAME = f"cekarum-{VERSION}-unproved"
@@ -204,13 +204,40 @@ def unproved():
         check(b", NOTHING IS PROVED\0" in library.read_bytes(), f"{library}")
 
 
-@case("a release with its proof wants what is committed, and archives that are proved")
+# A toolchain that proves nothing and says that the library is proved: a module of one function goes to its compiler.
+STAND_IN = """
+[ "$1 $2" = 'staticlib capi' ] || exit 2
+cat >"$TMPDIR/one.ll" <<'END'
+define i64 @cekarum_interface_@NUMBER@_start() { ret i64 0 }
+!llvm.ident = !{!0}
+!0 = !{!"@MARK@"}
+END
+@CLANG@ -Wno-override-module -c -emit-llvm -x ir "$TMPDIR/one.ll" -o "$TMPDIR/one.bc" &&
+    "$RATTLE_HOME/on/$(uname -m)/toolchain/bin/clang" -c "$TMPDIR/one.bc" -o "$TMPDIR/one.o"
+"""
+
+
+def standing_in(name, mark):
+    number = re.search(r"#define CEKARUM_INTERFACE ([0-9]+)", HEADER.read_text()).group(1)
+    script = STAND_IN.replace("@CLANG@", str(CLANG)).replace("@MARK@", mark).replace("@NUMBER@", number)
+    return environment(PATH=stand_in(name, script))
+
+
+@case("a release with its proof: of what is committed, with archives that are proved, and the gate's figures")
 def proved_release():
-    top = DESK / "sources"
-    copy = DESK / "dirty"
-    done("git", "clone", "-q", top, copy)
+    copy = DESK / "committed"
+    done("git", "clone", "-q", DESK / "sources", copy)
+    log = gate_log("proved.log")
+    said = done(tool("release", copy), log, env=standing_in("proving", "rattle"))
+    check(", NOTHING IS PROVED" not in said and said.count(", proved\n") == len(targets()), said)
+    with tarfile.open(copy / "dist" / f"cekarum-{VERSION}.tar.gz") as packed:
+        proof = packed.extractfile(f"cekarum-{VERSION}/PROOF.txt").read().decode()
+    check("\ngate       421 passed, 0 failed\n" in proof and "NOT PROVED" not in proof, proof)
+    ran = run(tool("release", copy), log, DESK / "elsewhere", env=standing_in("pretending", "rattle unproved"))
+    check(ran.status == 1 and "an archive is not proved" in ran.said[-1], f"{ran} {ran.said}")
+    check(list((DESK / "elsewhere").iterdir()) == [], "nothing is written")
     written(copy / "crates" / "stray", b"")
-    run(tool("release", copy), gate_log("dirty.log")).failed(2, "not committed")
+    run(tool("release", copy), log).failed(2, "not committed")
 
 
 # ---- versions and the interface
@@ -267,6 +294,7 @@ def missing_symbols(target, objects, name):
         linker = [link, "--no-entry", "--export=run"]
     ran = run(*linker, "--error-limit=0", *objects, R / "lib" / target / "libcekarum.a", "-o", DESK / f"{name}.out")
     said = ran.err.decode()
+    check("warning" not in said, f"{target}: {said}")
     missing = set(re.findall(r"undefined symbol: (\S+)", said))
     check(bool(missing) == (ran.status != 0), f"{target}: {said}")
     return missing
@@ -379,6 +407,31 @@ def link_bare(place, target, way, *more):
     return run("arm-none-eabi-gcc", *words, "-I", R / "include", place / "bare.c", *more, *whole, *last)
 
 
+LINKERS = {"aarch64-linux": "aarch64-linux-gnu-ld", "riscv64-linux": "riscv64-linux-gnu-ld", "riscv32imac": "riscv64-unknown-elf-ld"}
+NEEDED = """
+typedef __SIZE_TYPE__ size;
+void *memset(void *to, int byte, size count) { for (char *at = to; count-- > 0;) *at++ = (char)byte; return to; }
+void *memmove(void *to, const void *from, size count) { char *t = to; const char *f = from; while (count-- > 0) *t++ = *f++; return to; }
+void *memcpy(void *to, const void *from, size count) { return memmove(to, from, count); }
+unsigned long long __udivdi3(unsigned long long a, unsigned long long b) { return b == 1 ? a : 0; }
+void _start(void) {}
+"""
+
+
+@case("GNU's linkers say nothing about the archives for AArch64 and RISC-V")
+def no_other_warning():
+    place = folder("linkers")
+    written(place / "needed.c", NEEDED.encode())
+    for target, linker in LINKERS.items():
+        if not shutil.which(linker):
+            skipped.append(f"tests/release: SKIPPED, {linker} is missing: the archive for {target}")
+            continue
+        code = place / f"{target}.o"
+        done(CLANG, *listed_flags()[target].split(), "-fno-builtin", "-nostdinc", "-c", place / "needed.c", "-o", code)
+        emulation = ["-m", "elf32lriscv"] if target == "riscv32imac" else []
+        run(linker, *emulation, code, "--whole-archive", R / "lib" / target / "libcekarum.a", "-o", place / "out").did(b"")
+
+
 # ---- projects
 FACTS = [  # worked by hand from document 01's rules and the driver's calls
     "join zone 9: accepted 0",
@@ -403,7 +456,8 @@ def is_driver(said, who):
 def driver_says():
     """What the driver prints, built with one command line."""
     program = DESK / "driver"
-    done("cc", "-I", R / "include", R / "examples" / "driver.c", R / "lib" / HOST / "libcekarum.a", "-o", program)
+    words = ["-I", R / "include", R / "examples" / "driver.c", R / "lib" / HOST / "libcekarum.a", "-Wl,--fatal-warnings"]
+    run("cc", *words, "-o", program).did(b"")
     return is_driver(done(program), "cc")
 
 

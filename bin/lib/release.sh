@@ -115,6 +115,7 @@ archives() {
 }
 
 fill() {
+    stage=$room/$name
     archives
     mkdir -p "$stage"/{include,docs,examples,bindings,vectors,lib/cmake/cekarum}
     libraries

@@ -189,7 +189,8 @@ def answer(console, line):
 
 def main(lines, answers):
     console, compared, passed, differ = Console(), 0, 0, 0
-    sys.set_int_max_str_digits(LONGEST)
+    if hasattr(sys, "set_int_max_str_digits"):
+        sys.set_int_max_str_digits(LONGEST)
     with open(lines, encoding="latin-1", newline="\n") as questions, open(answers, encoding="latin-1", newline="\n") as expected:
         asked = [line.rstrip("\n") for line in questions]
         wanted = [line.rstrip("\n") for line in expected]
