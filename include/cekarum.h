@@ -1,8 +1,9 @@
 /* Cekarum: the control kernel for one energy endpoint, for C11 and C++17.
  *
  * Link libcekarum.a (bin/archive TARGET makes it for each board). The kernel has no state of its own, takes no memory and calls
- * nothing but the compiler's memcpy and memset: all that it reads and writes is what a call lends it. Every call ends with an
- * answer, for every number and every byte it is given; nothing has to be checked first.
+ * nothing but what a compiler calls by itself to copy bytes and to reckon with 64 bits (docs/BOARDS.md lists it for each board):
+ * all that it reads and writes is what a call lends it. Every call ends with an answer, for every number and every byte it is
+ * given; nothing has to be checked first.
  *
  * What a driver must keep, all of it:
  * - no pointer is NULL, not even beside the count 0 (lend any valid address);
@@ -32,6 +33,16 @@
 #ifdef __cplusplus
 extern "C" {
 #endif
+
+/* The version, the same as the file VERSION's: as text, as numbers, and as one number that grows with it. */
+#define CEKARUM_VERSION "0.13.0"
+#define CEKARUM_VERSION_MAJOR 0
+#define CEKARUM_VERSION_MINOR 13
+#define CEKARUM_VERSION_PATCH 0
+#define CEKARUM_VERSION_NUMBER (1000000 * CEKARUM_VERSION_MAJOR + 1000 * CEKARUM_VERSION_MINOR + CEKARUM_VERSION_PATCH)
+
+/* One line in the archive that says what it is: version, commit, target, interface, toolchain, and whether it is proved. */
+extern const char cekarum_made_by[];
 
 /* What this header and the archive have agreed upon: the functions of the library, what they take and what they leave. The number
  * is part of their names, so that a header and an archive of two interfaces do not link: `undefined reference to

@@ -63,8 +63,8 @@ board_cc() { # TARGET SOURCE OBJECT [FLAGS...]
 # which has all of its instructions.
 places() { # TARGET
     case $1 in
-    cortex-m0plus | cortex-m4 | cortex-m7) echo 0x0 0x400000 0x20000000 0x400000 ;;
-    cortex-m33) echo 0x10000000 0x400000 0x38000000 0x200000 ;;
+    cortex-m0plus | cortex-m3 | cortex-m4* | cortex-m7*) echo 0x0 0x400000 0x20000000 0x400000 ;;
+    cortex-m33*) echo 0x10000000 0x400000 0x38000000 0x200000 ;;
     riscv32imac) echo 0x80000000 0x400000 0x80400000 0x400000 ;;
     esac
 }
@@ -89,7 +89,7 @@ link_board() { # TARGET PROGRAM FILE...
     case $target in
     x86_64-linux) link "$@" ;;
     aarch64-linux | riscv64-linux) "${target%-linux}-linux-gnu-gcc" -static -Wl,--gc-sections -Wl,-Map="$1.map" -o "$@" ;;
-    cortex-*) picolibc "$target" "arm-none-eabi-gcc -mcpu=$target -mthumb -mfloat-abi=soft" "$@" ;;
+    cortex-*) picolibc "$target" "arm-none-eabi-gcc $(flags_of "$target" | grep -o -- '-m\(cpu\|fpu\|float-abi\)=[^ ]*' | paste -s -d ' ') -mthumb" "$@" ;;
     riscv32imac) picolibc "$target" "riscv64-unknown-elf-gcc -march=rv32imac -mabi=ilp32" "$@" ;;
     wasm32)
         ln -sf "$tools/bin/clang" "$boards/wasm-ld"
@@ -200,9 +200,10 @@ board_run() { # TARGET PROGRAM WORDS...
     aarch64-linux | riscv64-linux)
         if natively "$target" && [ ${#trace[@]} -eq 0 ]; then "$@"; else "qemu-${target%-linux}" "${trace[@]}" "$@"; fi
         ;;
-    cortex-m0plus | cortex-m4) semihosting qemu-system-arm mps2-an386 "$@" ;;
-    cortex-m7) semihosting qemu-system-arm mps2-an500 "$@" ;;
-    cortex-m33) semihosting qemu-system-arm mps2-an505 "$@" ;;
+    cortex-m3) semihosting qemu-system-arm mps2-an385 "$@" ;;
+    cortex-m0plus | cortex-m4*) semihosting qemu-system-arm mps2-an386 "$@" ;;
+    cortex-m7*) semihosting qemu-system-arm mps2-an500 "$@" ;;
+    cortex-m33*) semihosting qemu-system-arm mps2-an505 "$@" ;;
     riscv32imac) semihosting "qemu-system-riscv32 -bios none" virt "$@" ;;
     wasm32) node "$here/wasm.mjs" "$@" ;;
     esac

@@ -10,7 +10,7 @@ MAP = 'docs/ARCHITECTURE.md'
 EXACT = (MAP, 'docs/RULES.md')
 BEGIN, END = '<!-- picture: bin/docs draws it from crates.txt -->', '<!-- end of the picture -->'
 STAND_INS = {'NAME', 'ROOM', 'room'}
-FOLDERS = {'crates', 'docs', 'bin', 'perf', 'examples', 'include', 'specs', 'proofs', 'src', 'must-fail', 'target'}
+FOLDERS = {'crates', 'docs', 'bin', 'perf', 'examples', 'include', 'tests', 'bindings', 'release', 'specs', 'proofs', 'src', 'must-fail', 'target'}
 
 
 def read(path):
@@ -175,7 +175,7 @@ def pages():
 
 def paths_in(page, line):
     """Files that a line names, in a code span or not, and links: each with whether it is there."""
-    for path in re.findall(r'(?<![\w/.-])((?:crates|docs|bin|perf|examples|include)/[\w./-]*\w)', line):
+    for path in re.findall(r'(?<![\w/.-])((?:crates|docs|bin|perf|examples|include|tests|bindings)/[\w./-]*\w)', line):
         if not STAND_INS & set(path.split('/')):
             yield path, there(path)
     for link in re.findall(r'\]\(([^)#:\s]+)(?:#[^)]*)?\)', re.sub(r'`[^`]*`', '', line)):
