@@ -273,6 +273,26 @@ def bindings_know():
     check(f"pub const INTERFACE: u32 = {number};" in (TOP / "bindings/rust/src/raw.rs").read_text(), "the Rust crate's number")
 
 
+@case("the bindings have the header's refusals and sizes")
+def bindings_agree():
+    header = HEADER.read_text()
+    refusals = {number: name for name, number in re.findall(r"CEKARUM_([A-Z_]+) = ([0-9]+)", header.split("enum {")[1].split("};")[0])[::-1]}
+    check(len(refusals) == 19, f"the first of two names counts: {refusals}")
+    rust = (TOP / "bindings/rust/src/refusal.rs").read_text()
+    own = {"0": "OK", **{number: name for name, number in re.findall(r"^    ([A-Z_]+) = ([0-9]+), ", rust, re.MULTILINE)}}
+    check(own == refusals, f"Rust: {own}")
+    python = (TOP / "bindings/python/cekarum.py").read_text()
+    listed = python.split("class Refusal(enum.IntEnum):")[1].split("\n\n\n")[0]
+    own = {number: name for name, number in re.findall(r"^    ([A-Z_]+) = ([0-9]+)$", listed, re.MULTILINE)}
+    check(own == refusals, f"Python: {own}")
+    sizes = dict(re.findall(r"^#define CEKARUM_([A-Z_]*(?:WORDS|MAX)) ([0-9]+)\b", header, re.MULTILINE))
+    check({"WORDS", "FRAME_MAX", "RESPONSE_MAX", "REQUEST_MAX", "ROWS_MAX", "MEASUREMENT_MAX"} <= set(sizes), f"{sizes}")
+    for file, form in (("rust/src/lib.rs", r"^pub const ([A-Z_]+): usize = ([0-9]+);"), ("python/cekarum.py", r"^([A-Z_]+) = ([0-9]+)$")):
+        own = dict(re.findall(form, (TOP / "bindings" / file).read_text(), re.MULTILINE))
+        shared = set(own) & set(sizes)
+        check(len(shared) >= 6 and all(own[name] == sizes[name] for name in shared), f"{file}: {own}; the header: {sizes}")
+
+
 PROGRAM = """
 #include "cekarum.h"
 #if CEKARUM_VERSION_NUMBER != @NUMBER@

@@ -51,7 +51,7 @@ class Refusal(enum.IntEnum):
     OVERRIDDEN = 12
     BAD_VALUE = 13
     BELOW_MINIMUM = 14
-    NO_ROOM = 15
+    NO_SPACE = 15
     BAD_SETTINGS = 16
     NOT_ASCENDING = 17
     BAD_OVERRIDE = 18

@@ -37,7 +37,7 @@ refusals! {
     OVERRIDDEN = 12, "SetLimit or SetCurrentLimits while an override is set";
     BAD_VALUE = 13, "a Set command with a negative value or naming nothing, or a phase from the phase count up";
     BELOW_MINIMUM = 14, "a consumption limit below the minimum, 0 aside";
-    NO_ROOM = 15, "the output is longer than the lent buffer";
+    NO_SPACE = 15, "the output is longer than the lent buffer";
     BAD_SETTINGS = 16, "bad settings, or conformance inputs out of range";
     NOT_ASCENDING = 17, "attribute list not strictly ascending";
     BAD_OVERRIDE = 18, "override reason and direction do not go together";

@@ -155,7 +155,7 @@ fn p10_a_row_where_something_changes() {
     assert_eq!(plan[0].values(), Values { state: ControlState::Controlled, ..Values::default() });
     let mut records = [Row::EMPTY; ROWS_MAX];
     assert_eq!(device.plain_plan(&mut records).unwrap(), plan);
-    assert_eq!(device.plan(&mut []), Err(Refusal::NO_ROOM));
+    assert_eq!(device.plan(&mut []), Err(Refusal::NO_SPACE));
 }
 
 #[test]
@@ -301,7 +301,7 @@ fn a_report() {
     assert_eq!(report(&inputs, &[], &mut pairs), Ok(&[Pair { group: 5, number: 0 }][..]));
     assert_eq!(report(&inputs, &[2, 2], &mut pairs), Err(Refusal::NOT_ASCENDING));
     assert_eq!(report(&Inputs { phases: 0, ..inputs }, &[], &mut pairs), Err(Refusal::BAD_SETTINGS));
-    assert_eq!(report(&inputs, &[], &mut []), Err(Refusal::NO_ROOM));
+    assert_eq!(report(&inputs, &[], &mut []), Err(Refusal::NO_SPACE));
 }
 
 #[test]
