@@ -9,8 +9,8 @@ fn case(n: u64) -> bool {
     io::write_all(1, b"script ");
     io::print_decimal(1, n);
     io::write_all(1, b"\n");
-    let left = bench_stream::play(wire_bytes::get_u32(&prefix, 0));
-    bench_stream::skip(left);
+    let x = bench_stream::play(wire_bytes::get_u32(&prefix, 0));
+    bench_stream::skip(x.left);
     true
 }
 

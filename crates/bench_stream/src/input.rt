@@ -1,10 +1,8 @@
 // What of a script is read and not yet run.
 ghost use mathlib.Core.Path.{_≡_};
-ghost use Prim.Native.Nat.{_+_, _-_, _≤_};
-ghost use mathlib.Core.Bool.{_&&_};
-ghost use lib.Dec.{ltb};
-ghost use lib.ListN.{length};
-ghost use Rattle.bench_records.specs.Kinds.{longest};
+ghost use Prim.Native.Nat.{_+_, _≤_};
+ghost use lib.ListN.{length, take};
+ghost use Rattle.bench_stream.specs.Buffer.{shifted, isShort, Filled};
 
 // The bytes of the buffer from `from` to `to`; `left` more may be read.
 pub(crate) struct Input {
@@ -16,6 +14,7 @@ pub(crate) struct Input {
 // Moves the bytes from `from` to `to` to the front.
 fn shift(buf: &mut [u8], from: usize, to: usize)
     requires { ⌜ (from ≤ to) × (to ≤ length (now buf)) ⌝ }
+    ensures { λ _. ⌜ now (buf .exit) ≡ shifted (now (buf .entry)) from to ⌝ }
 {
     let n = to - from;
     let mut i = 0;
@@ -36,10 +35,11 @@ fn read_end(len: usize, to: usize, left: u64) -> usize
     len
 }
 
-// One read behind `to`: how many bytes it brought, 0 at the end of the input.
+// One read behind `to`: how many bytes it brought, 0 at the end of the input. What stands before stays.
 fn read_more(buf: &mut [u8], to: usize, left: u64) -> usize
     requires { ⌜ to ≤ length (now buf) ⌝ }
     ensures { λ r. ⌜ (to + r ≤ length (now (buf .entry))) × (r ≤ left) ⌝ }
+    ensures { λ _. ⌜ take to (now (buf .exit)) ≡ take to (now (buf .entry)) ⌝ }
 {
     let end = read_end(buf.len(), to, left);
     let got = libc::read(0, &mut buf[to..end]);
@@ -47,7 +47,7 @@ fn read_more(buf: &mut [u8], to: usize, left: u64) -> usize
 }
 
 fn is_short(to: usize, left: u64) -> bool
-    ensures { λ r. ⌜ r ≡ (ltb to longest && ltb 0 left) ⌝ }
+    ensures { λ r. ⌜ r ≡ isShort to left ⌝ }
 {
     to < bench_records::LONGEST && 0 < left
 }
@@ -55,7 +55,7 @@ fn is_short(to: usize, left: u64) -> bool
 // Brings what is left to the front, and reads until a whole record must be there or the input ends.
 pub(crate) fn fill(buf: &mut [u8], x: Input) -> Input
     requires { ⌜ (x .from ≤ x .to) × (x .to ≤ length (now buf)) ⌝ }
-    ensures { λ r. ⌜ (r .from ≡ 0) × (r .to ≤ length (now (buf .entry))) × (r .to + r .left ≤ (x .to - x .from) + x .left) ⌝ }
+    ensures { λ r. ⌜ Filled (now (buf .entry)) x (now (buf .exit)) r ⌝ }
 {
     let from = x.from;
     let end = x.to;

@@ -4,4 +4,5 @@ mod pieces; // pieces.rt: the records of one piece
 mod scripts; // scripts.rt: a script from its first record to its last
 
 pub use input::skip;
+pub use scripts::Ended;
 pub use scripts::play;

@@ -9,9 +9,16 @@ use kernel::State;
 use kernel::WORDS;
 ghost use mathlib.Core.Path.{_≡_};
 ghost use mathlib.Core.Bool.{true};
-ghost use Prim.Native.Nat.{_≤_, _<_};
+ghost use Prim.Native.Nat.{_≤_};
 ghost use lib.ListN.{length};
-ghost use Rattle.bench_script.specs.Bench.{frameRoom, rowsRoom};
+ghost use Rattle.bench_script.specs.Bench.{frameRoom, rowsRoom, answerRoom};
+ghost use Rattle.bench_stream.specs.Ready.{goesOn};
+
+// How a script ended: at a bad record, or at the end of what may be read; and how many bytes of that were not read.
+pub struct Ended {
+    pub left: u64,
+    pub good: bool,
+}
 
 // Writes the answers on a page, and the last line where a record was bad.
 fn show(page: &[u8], p: Place) {
@@ -27,15 +34,12 @@ fn show(page: &[u8], p: Place) {
 
 // A piece in which nothing was run is the last.
 fn goes_on(p: Place) -> bool
-    ensures { λ r. ⌜ (r ≡ true → 0 < p .from) ⌝ }
+    ensures { λ r. ⌜ r ≡ goesOn p ⌝ }
 {
-    if p.from == 0 {
-        return false;
-    }
-    p.good
+    0 < p.from && p.good
 }
 
-// Plays up to `limit` bytes of the input, piece by piece; says how many of them were not read.
+// Plays up to `limit` bytes of the input, piece by piece: up to a bad record, or all of them.
 fn play_with(
     d: &mut State,
     limit: u64,
@@ -43,8 +47,9 @@ fn play_with(
     page: &mut [u8],
     out: &mut [u8],
     rows: &mut [i64],
-) -> u64
-    requires { ⌜ (frameRoom ≤ length (now out)) × (length (now rows) ≡ rowsRoom) ⌝ }
+) -> Ended
+    requires { ⌜ (frameRoom ≤ length (now out)) × (length (now rows) ≡ rowsRoom) × (answerRoom ≤ length (now page)) ⌝ }
+    ensures { λ r. ⌜ (r .left ≤ limit) × (r .good ≡ true → r .left ≡ 0) ⌝ }
 {
     let mut x = Input {
         from: 0,
@@ -64,13 +69,18 @@ fn play_with(
                 left: left,
             };
         } else {
-            return left;
+            return Ended {
+                left: left,
+                good: p.good,
+            };
         }
     }
 }
 
-// Plays a script of at most `limit` bytes on a fresh device, and says how many of them were not read.
-pub fn play(limit: u64) -> u64 {
+// Plays a script of at most `limit` bytes on a fresh device. A script without a bad record is read to its end.
+pub fn play(limit: u64) -> Ended
+    ensures { λ r. ⌜ (r .left ≤ limit) × (r .good ≡ true → r .left ≡ 0) ⌝ }
+{
     let mut d = [0u64; WORDS];
     kernel::start(&mut d, bench_script::bench_settings());
     let mut buf = io::large_buffer();

@@ -15,6 +15,6 @@ skip-spec =
     tie.close
     (tie.spec
     Inv-loop μ-loop (λ c κs. tt) (λ c. search needs) (λ c. tt) (λ c κs. omega arith) (λ c. tt)
-    (λ c. omega (arith, c .before .before .before .read-more .ensures .1))
-    (λ c. omega (arith, c .before .before .before .read-more .ensures .1))
+    (λ c. omega (arith, c .before .before .before .read-more .ensures .0 .1))
+    (λ c. omega (arith, c .before .before .before .read-more .ensures .0 .1))
     (λ c. tt) (λ c. tt))
