@@ -280,6 +280,6 @@ run_boards() { # [N] [TARGET...]
             failed="$failed $target"
         fi
     done
-    echo "boards: $ran ran and printed the same; skipped:${skipped:- none}; failed:${failed:- none}"
+    echo "boards: $ran ran and printed the same; skipped:${skipped:- none}; failed:${failed:- none}${UNPROVED:+; NOTHING IS PROVED of these archives}"
     [ -z "$failed" ]
 }
