@@ -3,6 +3,10 @@
 # All C is compiled by the kit's compiler with the flags of bin/archive, so that the mix is the same on every board; a
 # board's own tools (Debian's packages) link and run it. What the comparison prints must be the same text everywhere.
 
+lib=$root/bin/lib
+# shellcheck source=bin/lib/annotate.sh
+. "$lib/annotate.sh"
+
 boards=$work/boards
 trace=() # words for the emulator, where instructions are counted
 
@@ -127,7 +131,7 @@ kept_bytes() { # TARGET PROGRAM
     local bytes sum=0
     [ -f "$boards/$1/$2.map" ] || return 0
     while read -r bytes; do sum=$((sum + bytes)); done < <(awk '$1 ~ /^\.[a-zA-Z]/ { code = $1 ~ /^\.text/ }
-        /libcekarum\.a\(kernel\.o\)$/ && code && $(NF - 2) !~ /^0x0*$/ { print $(NF - 1) }' "$boards/$1/$2.map")
+        /libcekarum\.a\((kernel|words)\.o\)$/ && code && $(NF - 2) !~ /^0x0*$/ { print $(NF - 1) }' "$boards/$1/$2.map")
     echo "$sum"
 }
 
@@ -163,17 +167,20 @@ board_per_call() { # TARGET PROGRAM CASE
     echo $(((many - few + 10) / 20))
 }
 
-# Instructions per call under qemu, plain.c beside the archive that run_boards has left.
+# Instructions per call under qemu, plain.c beside the archive that run_boards has left. Both sides copy by the archive's own
+# functions where it has them: plain.c's calls get their names too, and the archive hands it that object alone.
 board_count() { # TARGET [CASE...]
     local target=${1:?TARGET} at=$boards/$1 names name plain proved
     shift
     case $target in x86_64-linux | wasm32) die "$target is not counted here (perf/run count)" ;; esac
     [ -f "$at/libcekarum.a" ] || die "no $at/libcekarum.a (perf/run boards)"
-    board_cc "$target" "$here/plain.c" "$at/plain.o"
-    board_cc "$target" "$here/count.c" "$at/count_plain.o"
-    board_cc "$target" "$here/count.c" "$at/count.o" -DPROVED
-    board_link "$target" "$at/count_plain" "$at/count_plain.o" "$at/plain.o"
-    board_link "$target" "$at/count" "$at/count.o" "$at/plain.o" "$at/libcekarum.a"
+    word_names "$target" | sed 's/\(.*\) \(.*\)/__asm__("\1 = \2");/' >"$at/words.h"
+    board_cc "$target" "$here/plain.c" "$at/plain_words.o" -include "$at/words.h"
+    board_cc "$target" "$here/count.c" "$at/count_plain.o" -include "$at/words.h"
+    board_cc "$target" "$here/count.c" "$at/count_words.o" -include "$at/words.h" -DPROVED
+    board_link "$target" "$at/count_plain" "$at/count_plain.o" "$at/plain_words.o" "$at/libcekarum.a"
+    board_link "$target" "$at/count" "$at/count_words.o" "$at/plain_words.o" "$at/libcekarum.a"
+    if [ -s "$at/words.h" ]; then echo "both sides copy and fill by bin/lib/words.c"; fi
     names=("$@")
     [ $# -gt 0 ] || mapfile -t names < <(board_run "$target" "$at/count" | cut -f1)
     for name in "${names[@]}"; do
@@ -273,6 +280,6 @@ run_boards() { # [N] [TARGET...]
             failed="$failed $target"
         fi
     done
-    echo "boards: $ran ran and printed the same; skipped:${skipped:- none}; failed:${failed:- none}"
+    echo "boards: $ran ran and printed the same; skipped:${skipped:- none}; failed:${failed:- none}${UNPROVED:+; NOTHING IS PROVED of these archives}"
     [ -z "$failed" ]
 }
