@@ -1,13 +1,14 @@
 -- Whether a zone holds a value; and one zone more: who is better placed.
 use Prim.Native.Nat.{ℕ, _<_, _≤_}
 use mathlib.Core.Bool.{Bool, true, false, cond, not, _&&_}
-use mathlib.Core.Path.{_≡_, refl, sym}
+use mathlib.Core.Path.{_≡_, refl, sym, _∙_}
 use borrow.Author.Tests.{lt-ltb, le-ltb, eq-eqb, ne-eqb}
 use lib.Dec.{ltb, eqb}
 use Rattle.device_store.specs.Zones.{idOf, isJoined, heldOf}
 use Rattle.device_store.specs.declared.Held.{Held}
 use Rattle.device_store.specs.declared.Zone.{Zone}
-use Rattle.device_holders.specs.Holders.{holdsValue, betterPlaced}
+use Rattle.device_holds.specs.Holds.{Situation}
+use Rattle.device_holders.specs.Holders.{holdsValue, betterPlaced, named}
 
 -- a zone's value of quantity q, as it was read
 module _ (t q v : ℕ) (x : Zone) (h : Held) (read : h ≡ heldOf x q) where
@@ -55,3 +56,8 @@ module _ (p : Zone → Bool) (a x : Zone) where
   pub placed-fails : p x ≡ false → a ≡ betterPlaced p a x
   unfolding betterPlaced
   placed-fails e = rw e
+
+-- a slot that a zone has
+pub named-zone : (s : Situation) (q : ℕ) (x : Zone) (n : ℕ) (h : Held) → n ≡ idOf x → (n ≡ 0 → ⊥) → h ≡ heldOf x q → record { who = n; until = h .until } ≡ named s q x
+unfolding named isJoined
+named-zone s q x n h i e k = rw (ne-eqb (idOf x) 0 (λ z. e (i ∙ z)), i, k)

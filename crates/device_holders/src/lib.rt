@@ -150,7 +150,8 @@ fn holders_at(d: &State, t: u64) -> [Holder; HELDS]
 pub fn holders(d: &State, t: u64) -> Answer
     ensures { λ r. ⌜ r ≡ holdersAnswer (now (d .entry)) t ⌝ }
 {
-    if is_late(clock(d), t) {
+    let own = clock(d);
+    if is_late(own, t) {
         return Answer {
             number: BAD_TIME,
             holders: [Holder {

@@ -1,10 +1,10 @@
 -- No zone has a free slot: the failsafe is named.
-use mathlib.Core.Path.{_∙_}
 use borrow.Author.Needs.{needs}
-use borrow.Author.Tests.{eq-eqb, ne-eqb}
+use borrow.Author.Tests.{eq-eqb}
 use Rattle.device_store.specs.Zones.{isJoined}
 use Rattle.device_store.proofs.Tests.{via}
 use Rattle.device_holders.specs.Holders.{named}
+use Rattle.device_holders.proofs.Places.{named-zone}
 use Rattle.device_holders.proofs.named.Statement.{statement}
 use Rattle.device_holders.proofs.named.Tie as tie
 
@@ -17,10 +17,9 @@ returns c =
     rw (eq-eqb _ _ (via (at-id-at .ensures) (at-if1 .taken)), c .end-of-failsafe .ensures, at-since .ensures, c .before .settings-at .ensures)
 
 returns-2 : tie.Need-returns-2
-unfolding named isJoined
 returns-2 c =
     let at-id-at = c .before .before .id-at in
-    rw (ne-eqb _ _ (λ z. c .before .if1 .left (at-id-at .ensures ∙ z)), at-id-at .ensures, c .held-at .ensures)
+    named-zone _ _ _ (at-id-at .result) (c .held-at .result) (at-id-at .ensures) (c .before .if1 .left) (c .held-at .ensures)
 
 pub named-spec : {M : Type 1} → statement M
 named-spec =
