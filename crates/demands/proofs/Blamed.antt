@@ -37,7 +37,11 @@ use Rattle.demands.proofs.SameHolders.{holder-same}
 
 -- what is shown as v is v
 shown-is : (a : Amount) (v : ℕ) → shown a ≡ pos v → a ≡ Is v
-shown-is a v e = ⊎-elim (λ k. k .1 ∙ ap Is (let f : pos (k .0) ≡ pos v = sym (k .2) ∙ e in cc)) (λ n. absurd (let f : pos v ≡ negsuc 0 = sym e ∙ n in let z : _≡_ {A = ℕ} 0 1 = cc in omega arith)) (shown-as a)
+shown-is a v e =
+    ⊎-elim
+    (λ k. k .1 ∙ ap Is (let f : pos (k .0) ≡ pos v = sym (k .2) ∙ e in cc))
+    (λ n. absurd (let f : pos v ≡ negsuc 0 = sym e ∙ n in let z : _≡_ {A = ℕ} 0 1 = cc in omega arith))
+    (shown-as a)
 
 module _ (s : Settings) (pairs : InPairs s) (calls : List Call) (t q : ℕ) where
   abbrev here : Situation

@@ -28,7 +28,8 @@ module _ (p : Zone → Bool) (joined : (x : Zone) → p x ≡ true → isJoined 
       let passes : p x ≡ true = ap p (sym (r .3)) ∙ r .2 in
       let k = mem-getD m x freeZone (w .has x e here) in
       let there : p (getD m (k .0) freeZone) ≡ true = ap p (k .2) ∙ passes in
-      (here, stands (isJoined (bestPlaced p m)) refl (k .0) (k .1) there, subst (λ (y : Zone). bestPlaced p m .precedence ≤ y .precedence) (k .2) (best-placed-is p joined m .first (k .0) (k .1) there))
+      let no-worse = subst (λ (y : Zone). bestPlaced p m .precedence ≤ y .precedence) (k .2) (best-placed-is p joined m .first (k .0) (k .1) there) in
+      (here, stands (isJoined (bestPlaced p m)) refl (k .0) (k .1) there, no-worse)
     where
       stands : (b : Bool) → isJoined (bestPlaced p m) ≡ b → (i : ℕ) → i < length m → p (getD m i freeZone) ≡ true → b ≡ true
       stands true f i h g = refl

@@ -22,13 +22,23 @@ loop-holds c = seeking-start (c .before .args .d .now) (c .before .args .t) (c .
 
 returns : tie.Need-returns Inv-loop μ-loop
 unfolding answerOf
-returns c = rw (c .row-of .ensures, ← seeking-found (c .before .before .before .before .before .before .before .before .loop .inv) (c .before .before .before .before .view-at2 .ensures) (omega arith) (via (c .before .before .alike .ensures) (not-true _ (c .before .if2 .taken))))
+returns c =
+    let at-alike = c .before .before .alike in
+    let at-view-at2 = c .before .before .before .before .view-at2 in
+    let at-loop = c .before .before .before .before .before .before .before .before .loop in
+    rw (c .row-of .ensures, ← seeking-found (at-loop .inv) (at-view-at2 .ensures) (omega arith) (via (at-alike .ensures) (not-true _ (c .before .if2 .taken))))
 
 loop-less : tie.Need-loop-less Inv-loop μ-loop
-loop-less c = omega (arith, seeking-later (c .before .before .before .before .before .before .before .loop .inv) (c .before .before .before .view-at2 .ensures) (omega arith))
+loop-less c =
+    let at-view-at2 = c .before .before .before .view-at2 in
+    let at-loop = c .before .before .before .before .before .before .before .loop in
+    omega (arith, seeking-later (at-loop .inv) (at-view-at2 .ensures) (omega arith))
 
 loop-again : tie.Need-loop-again Inv-loop μ-loop
-loop-again c = seeking-same (c .before .before .before .before .before .before .before .loop .inv) (c .before .before .before .view-at2 .ensures) (omega arith) (via (c .before .alike .ensures) (not-false _ (c .if2 .left)))
+loop-again c =
+    let at-view-at2 = c .before .before .before .view-at2 in
+    let at-loop = c .before .before .before .before .before .before .before .loop in
+    seeking-same (at-loop .inv) (at-view-at2 .ensures) (omega arith) (via (c .before .alike .ensures) (not-false _ (c .if2 .left)))
 
 returns-2 : tie.Need-returns-2 Inv-loop μ-loop
 returns-2 c = c .no-row .ensures ∙ ap (answerOf 0) (seeking-end (c .before .before .before .loop .inv) (omega arith))

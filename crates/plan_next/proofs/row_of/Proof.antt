@@ -33,17 +33,21 @@ loop-holds c =
 
 loop-again : tie.Need-loop-again Inv-loop μ-loop
 loop-again c =
-    let f : SFits w64 (getD (c .before .before .before .args .t2) (c .before .before .loop .i) (pos 0)) = search needs in (
+    let at-loop = c .before .before .loop in
+    let at-args = c .before .before .before .args in
+    let f : SFits w64 (getD (at-args .t2) (at-loop .i) (pos 0)) = search needs in (
       omega arith,
-      length-set (c .before .before .loop .row) _ _ ∙ c .before .before .loop .inv .1,
-      fill-turn (placeOf (c .before .before .before .args .t) (c .before .before .before .args .t2)) (c .before .before .loop .row) (c .before .before .loop .i + 1) _ (omega arith) (c .before .before .loop .inv .2)
-          (rw (toZ-ofZ w64 _ f) (place-value (c .before .before .before .args .t) (c .before .before .before .args .t2) (c .before .before .loop .i))),
+      length-set (at-loop .row) _ _ ∙ at-loop .inv .1,
+      fill-turn (placeOf (at-args .t) (at-args .t2)) (at-loop .row) (at-loop .i + 1) _ (omega arith) (at-loop .inv .2)
+          (rw (toZ-ofZ w64 _ f) (place-value (at-args .t) (at-args .t2) (at-loop .i))),
     )
 
 returns : tie.Need-returns Inv-loop μ-loop
 returns c =
-    fill-end (placeOf (c .before .before .args .t) (c .before .before .args .t2)) (c .before .loop .row) (c .before .loop .i + 1) rowSize (c .before .loop .inv .1) (omega arith) (omega arith) (c .before .loop .inv .2)
-    ∙ places (c .before .before .args .t) (c .before .before .args .t2) values (search needs)
+    let at-loop = c .before .loop in
+    let at-args = c .before .before .args in
+    fill-end (placeOf (at-args .t) (at-args .t2)) (at-loop .row) (at-loop .i + 1) rowSize (at-loop .inv .1) (omega arith) (omega arith) (at-loop .inv .2)
+    ∙ places (at-args .t) (at-args .t2) values (search needs)
 
 pub row-of-spec : {M : Type 1} → statement M
 row-of-spec =
