@@ -151,7 +151,7 @@ module _ (a b : Situation) (k : Alike a b) where
       let w = winner-same t q (a .zones) (b .zones) (k .there) (k .back) (k .one) in
       smallest-by n (winner t q (a .zones)) ∙ ap (smallestOf n) w ∙ sym (smallest-by n (winner t q (b .zones)))
 
-  value-same : (t q : ℕ) → valueAt a t q ≡ valueAt b t q
+  pub value-same : (t q : ℕ) → valueAt a t q ≡ valueAt b t q
   unfolding valueAt failsafeValue
   value-same t q =
       let u = anyUp-same (a .zones) (b .zones) (k .there) (k .back) in

@@ -33,6 +33,7 @@ use Rattle.demands.proofs.Reached.{agree-run}
 use Rattle.demands.proofs.Ranges.{value-small}
 use Rattle.demands.proofs.Slots.{released-slot}
 use Rattle.demands.proofs.Moving.{moves-as-planned}
+use Rattle.demands.proofs.Blamed.{never-the-wrong-zone}
 
 -- an accepted plan lists what changes of any values that are the device's
 lists : (ws : List ℕ) (f : ℕ → List ℤ) → valuesAt (situationOf ws) ≡ f → (up : Bool) → anyUp (zonesOf ws) ≡ up → (now : ℕ) → clockOf ws ≡ now
@@ -81,4 +82,5 @@ demand-3 s k calls =
       precedences = precedences (startedWith s) (zonesOf d) h (a .zones);
       eight = at-most (startedWith s) (zonesOf d) h (a .zones);
       slots = released-slot s k calls;
+      holders = never-the-wrong-zone s k calls;
     }

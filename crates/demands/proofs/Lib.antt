@@ -18,6 +18,9 @@ pub mod Own
 pub mod Ranges
 pub mod Slots
 pub mod Moving
+pub mod SameHolders
+pub mod FailsafeEnd
+pub mod Blamed
 pub mod Demand1
 pub mod Demand2
 pub mod Demand3

@@ -52,6 +52,7 @@ use Rattle.demands.specs.Answers.{ByTests, Answers, Starts, Written, Res
 use Rattle.demands.specs.Later.{Receives, ReceivesWords, ReadsMeasurement, WritesMeasurement, ReadsTick, PlansPlainly, Rescues}
 use Rattle.demands.specs.ReleasedSlot.{ReleasedSlot}
 use Rattle.demands.specs.Moving.{Moving}
+use Rattle.demands.specs.Blame.{Blames}
 
 -- DEMAND 1
 -- "Every call ends with an answer, for every frame, time, zone number and state": each contract gives its call's answer for all inputs, and asks for nothing.
@@ -181,6 +182,8 @@ pub record FromHistory (s : Settings) (calls : List Call) : Type 0 where
   pub eight : length (told s calls .zones) ≤ 8
   -- "no released slot may speak for its new owner"
   pub slots : ReleasedSlot s calls
+  -- who holds each value comes from the history too: nor is a released slot blamed for its new owner, nor its new owner for it
+  pub holders : (t q : ℕ) → Blames s calls t q
 
 -- "After any sequence of calls from a fresh device", of settings that are refused too
 abbrev pub Demand3 : Type 0

@@ -6,4 +6,5 @@ pub mod Answers
 pub mod Later
 pub mod ReleasedSlot
 pub mod Moving
+pub mod Blame
 pub mod Demands

@@ -1,0 +1,5 @@
+pub mod Places
+pub mod Holding
+pub mod Signs
+pub mod Best
+pub mod Names

@@ -1,0 +1,4 @@
+pub mod Later
+pub mod Seek
+pub mod Filled
+pub mod ByRow
