@@ -1,15 +1,18 @@
 -- Bytes moved to the front of a buffer, and what a fill keeps there. Assumes nothing.
-use Prim.Native.Nat.{ℕ, suc, _+_, _-_, _<_, _≤_}
+use Prim.Native.Nat.{ℕ, zero, suc, _+_, _-_, _<_, _≤_}
 use mathlib.Core.Path.{_≡_, refl, sym, ap, _∙_}
 use mathlib.Core.Bool.{false, and-false}
 use mathlib.Core.List.{List, [], _∷_, _++_}
 use native.Mathlib.Numerals.{add-one}
 use native.Mathlib.Omega.{arith}
 use lib.Dec.{ltb}
-use lib.ListN.{length, getD, take, drop, set, length-append, length-drop}
-use lib.Seq.{paste, paste-zero, paste-suc, length-paste, length-take-le, getD-append-add, getD-drop, take-at, take-take}
+use lib.ListN.{length, getD, take, drop, set, length-drop, take-append-drop}
+use lib.Seq.{paste, paste-zero, paste-suc, length-paste, length-take-le, getD-append-add, getD-drop, take-at, take-take, take-nil}
 use Rattle.bench_records.specs.Kinds.{longest}
-use Rattle.bench_stream.specs.Buffer.{bytesIn, shifted, isShort}
+use Rattle.bench_stream.specs.declared.input.Input.{Input}
+use Rattle.bench_stream.specs.Buffer.{bytesIn, shifted, isShort, Filled}
+use Rattle.bench_stream.specs.Laws.{Fetched, Fetches, Unrun}
+use Rattle.bench_stream.proofs.Stops.{not-short}
 
 module _ (buf : List ℕ) (from to : ℕ) (order : from ≤ to) (within : to ≤ length buf) where
   -- i bytes stand at the front, the buffer behind them as it was
@@ -55,3 +58,32 @@ front-stays a b n m h e = sym (take-take n m a h) ∙ ap (take n) e ∙ take-tak
 pub not-more : (to : ℕ) → isShort to 0 ≡ false
 unfolding isShort
 not-more to = and-false (ltb to longest)
+
+-- WHAT A FILL MAKES
+front-bytes : (buf : List ℕ) (n : ℕ) → bytesIn buf 0 n ≡ take n buf
+unfolding bytesIn
+front-bytes buf n = let e : n - 0 ≡ n = omega arith in rw e
+
+pub fetches : Fetches
+fetches buf x buf′ y l f =
+    let n = x .to - x .from in
+    let p : bytesIn buf′ (y .from) (y .to) ≡ take (y .to) buf′ = ap (λ (k : ℕ). bytesIn buf′ k (y .to)) (f .first) ∙ front-bytes buf′ (y .to) in
+    let k : take n (take (y .to) buf′) ≡ bytesIn buf (x .from) (x .to) = take-take n (y .to) buf′ (f .more) ∙ f .kept in
+    let m = length-take-le (y .to) buf′ (omega (arith, f .within)) in
+    rw p (record {
+      bytes = drop n (take (y .to) buf′);
+      is = sym (take-append-drop n (take (y .to) buf′)) ∙ ap (λ (h : List ℕ). h ++ drop n (take (y .to) buf′)) k;
+      enough = λ b. omega (arith, not-short (y .to) (y .left) (f .enough) b, m);
+    })
+
+take-behind : (buf : List ℕ) (from to : ℕ) → from ≤ to → take (to - from) (drop from buf) ≡ drop from (take to buf)
+take-behind buf zero to h = let e : to - 0 ≡ to = omega arith in rw e
+take-behind [] (suc from) to h = take-nil (to - suc from) ∙ sym (ap (drop (suc from)) (take-nil to))
+take-behind (b ∷ buf) (suc from) zero h = absurd (omega arith)
+take-behind (b ∷ buf) (suc from) (suc to) h =
+    let e : suc to - suc from ≡ to - from = omega arith in
+    ap (λ (n : ℕ). take n (drop from buf)) e ∙ take-behind buf from to (omega arith)
+
+pub unrun : Unrun
+unfolding bytesIn
+unrun buf from to h = take-behind buf from to h ∙ ap (drop from) (sym (front-bytes buf to))

@@ -12,8 +12,9 @@ use Rattle.bench_records.specs.Records.{recordAt}
 use Rattle.bench_records.specs.declared.fields.Record.{Record}
 use Rattle.bench_records.specs.declared.fields.Scan.{Scan}
 use Rattle.bench_script.specs.Bench.{script, stopped, answerRoom}
+use Rattle.bench_stream.specs.declared.input.Input.{Input}
 use Rattle.bench_stream.specs.declared.pieces.Place.{Place}
-use Rattle.bench_stream.specs.Buffer.{isShort}
+use Rattle.bench_stream.specs.Buffer.{bytesIn, isShort, Filled}
 use Rattle.bench_stream.specs.Ready.{isReady, PieceRun, goesOn}
 
 -- a whole record of a piece is run where its answer has room, whether or not more comes
@@ -32,6 +33,22 @@ abbrev pub GetsOn : Type 0
 GetsOn =
     (ws s : List ℕ) (left : ℕ) (page : List ℕ) (p : Place) (ws′ page′ : List ℕ) → isShort (length s) left ≡ false → answerRoom ≤ length page
     → PieceRun ws s (eqb left 0) page p ws′ page′ → p .from ≡ 0 → (length s ≡ 0) × (left ≡ 0)
+
+-- what a fill makes is a piece of the script: what was not yet run, then what was read; where more may be read, as long as the
+-- longest record
+pub record Fetched (kept piece : List ℕ) (left : ℕ) : Type 0 where
+  pub bytes : List ℕ
+  pub is : piece ≡ kept ++ bytes
+  pub enough : eqb left 0 ≡ false → longest ≤ length piece
+
+abbrev pub Fetches : Type 0
+Fetches =
+    (buf : List ℕ) (x : Input) (buf′ : List ℕ) (y : Input) → length buf′ ≡ length buf → Filled buf x buf′ y
+    → Fetched (bytesIn buf (x .from) (x .to)) (bytesIn buf′ (y .from) (y .to)) (y .left)
+
+-- and what is not yet run of it are its bytes from there on
+abbrev pub Unrun : Type 0
+Unrun = (buf : List ℕ) (from to : ℕ) → from ≤ to → bytesIn buf from to ≡ drop from (bytesIn buf 0 to)
 
 -- THE DRIVER, with what it reads and what it writes as lists. A turn: the piece is what was read and not yet run, `kept`, and the
 -- next bytes of what comes, `unread`: in the last piece all of them, in another one enough of them. It runs the piece and writes

@@ -80,17 +80,3 @@ pub(crate) fn fill(buf: &mut [u8], x: Input) -> Input
         left: left,
     }
 }
-
-// Reads `left` bytes and passes them over.
-pub fn skip(left: u64) {
-    let mut room = io::large_buffer();
-    let buf: &mut [u8] = &mut room;
-    let mut rest = left;
-    while 0 < rest {
-        let n = read_more(buf, 0, rest);
-        if n == 0 {
-            return;
-        }
-        rest -= n as u64;
-    }
-}
