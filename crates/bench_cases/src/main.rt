@@ -1,4 +1,6 @@
 // Runs bench scripts one after the other, each behind four bytes of length: a line `script N`, then what bench prints.
+#![tactic(auto)]
+
 ghost use Rattle.std.specs.Prelude.{◌≤◌};
 
 // How much of `rest` a buffer of `len` bytes takes.

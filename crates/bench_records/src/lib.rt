@@ -1,5 +1,7 @@
 // Records of a bench script: the mark, kind, zone, time, body length, body; numbers most significant byte first. One
 // record is read here and nothing is run: that is the room above.
+#![tactic(auto)]
+
 mod fields; // fields.rt: the mark, and the fields in front of a body
 mod kinds; // kinds.rt: the kinds, and how long a body of each may be
 

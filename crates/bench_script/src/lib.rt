@@ -1,4 +1,6 @@
 // Bench scripts: a record is read, run on a device, and its answer printed.
+#![tactic(auto)]
+
 mod answers; // a number and a plan's rows as text
 mod bench_device; // the device that bench scripts run on
 mod calls; // the call that a record makes, and its run

@@ -4,6 +4,8 @@
 // The number in the exports' names is that of the interface: it goes up where one of them takes, leaves or means something else,
 // so that a header and a library of two interfaces do not link.
 // Nothing is decided here. Each export states what the call beneath it states.
+#![tactic(auto)]
+
 mod calls; // calls.rt: the device's calls, the plan, the report
 mod counter; // counter.rt: a tick counter's readings
 mod frame; // frame.rt: a frame applied

@@ -1,5 +1,7 @@
 // The parts of C's flat requests and responses, each by itself: a field, what a clear names, a setpoint's duration, a value of a
 // response, a yes or a no.
+#![tactic(auto)]
+
 mod amounts; // amounts.rt: a value of a response, -1 absent
 mod fields; // fields.rt: the parts of a request
 mod marks; // marks.rt: a yes or a no as a word

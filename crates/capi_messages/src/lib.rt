@@ -1,4 +1,6 @@
 // Requests and responses as C has them: flat structs of numbers, and as words.
+#![tactic(auto)]
+
 mod flat_requests; // flat_requests.rt: requests
 mod flat_responses; // flat_responses.rt: responses
 

@@ -1,4 +1,6 @@
 // What a command does: what it leaves held by its zone, and the result that its response has.
+#![tactic(auto)]
+
 mod actions; // what a command does to one quantity: keep, remove or put
 mod obey; // the zone's record once it has obeyed
 mod outcomes; // the result in the response

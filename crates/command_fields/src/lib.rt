@@ -1,4 +1,6 @@
 // One field of a command: what it says, its bounds, the reason of a refusal, and how long a value holds.
+#![tactic(auto)]
+
 mod durations; // how long a value holds
 mod fields; // what a field says
 mod numbers; // the reason of a refusal, and a value as a response has it

@@ -1,4 +1,6 @@
 // The kernel by hand: reads lines from standard input, and answers each with a line.
+#![tactic(auto)]
+
 ghost use Rattle.std.specs.Prelude.{◌≤◌};
 
 use console_lines::{ANSWER, LONGEST, ROOM};

@@ -1,4 +1,6 @@
 // Console lines about the kernel: one module for each kind of line.
+#![tactic(auto)]
+
 mod calls; // `frame`, `request`, `response`: lines whose last word is bytes
 mod prints; // `rows RECORDS`: the plain planner's rows at the device's own second
 mod reports; // `conf`: the conformance report

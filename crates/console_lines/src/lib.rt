@@ -13,6 +13,8 @@
 //
 // Words are parted by one space, numbers are decimal, bytes are lowercase hex, `-` is none. Any other line is answered
 // `bad line` and changes nothing; an empty line has no answer.
+#![tactic(auto)]
+
 mod answers; // answers.rt: the commands whose answer is more than a number
 
 pub use answers::{answer, before_start};

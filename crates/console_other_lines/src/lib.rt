@@ -1,4 +1,6 @@
 // Console lines beside the kernel: one module for each kind of line.
+#![tactic(auto)]
+
 mod prints; // `tick new TICK`, `tick same TICK`: a tick counter
 mod readings; // `meas BYTES`: a payload of Measurement read, written again, and its flows
 mod rescues; // `rescue BYTES`: a damaged bench script

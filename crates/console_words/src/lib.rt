@@ -1,4 +1,6 @@
 // The words of a line of text: where they are, the numbers, the bytes in hex and the lists that they say, and those of an answer.
+#![tactic(auto)]
+
 mod hex; // hex.rt: bytes in hex
 mod lists; // lists.rt: attributes parted by commas
 mod numbers; // numbers.rt: a decimal number

@@ -1,1 +1,2 @@
 // No code: the history and the three demands are statements in specs/, proved in proofs/.
+#![tactic(auto)]

@@ -1,4 +1,6 @@
 // The calls and commands that move a device: each decides first and then applies one whole change; a refusal stores nothing.
+#![tactic(auto)]
+
 pub mod calls;
 pub mod commands;
 

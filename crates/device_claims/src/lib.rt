@@ -1,4 +1,6 @@
 // What the zones claim at a second: the passes over them, one for the smallest values and one for the first precedences.
+#![tactic(auto)]
+
 mod passes; // passes.rt: the passes
 
 pub use passes::{

@@ -1,4 +1,6 @@
 // Who holds each value at a second: the best-placed zone whose own value it is, the failsafe, or nobody.
+#![tactic(auto)]
+
 ghost use Rattle.std.specs.Prelude.{◌≡◌, ◌+◌, ◌<◌, ltb, get_or};
 ghost use Rattle.device_store.specs.Sizes.{helds, slots, most};
 ghost use Rattle.device_store.specs.Zones.{up_to, free_zone, is_joined};

@@ -1,4 +1,6 @@
 // What holds at a second: the table of links over what the zones claim, and the next second at which it can change.
+#![tactic(auto)]
+
 mod compare; // whether two rows have the same values
 mod links; // which links are up, and since when none is
 mod values; // the table

@@ -1,4 +1,6 @@
 // What a call's second, a start, a join and an override may say: one function for each rule of a refusal, over plain numbers.
+#![tactic(auto)]
+
 ghost use Rattle.std.specs.Prelude.{◌≡◌};
 ghost use Rattle.device_rules.specs.Rules.{late, bad_join, go_together};
 ghost use Rattle.device_rules.specs.Rules.{bad_maximum, outside, bad_settings};

@@ -1,4 +1,6 @@
 // The device as words that the driver lends: settings, zones and what they hold, behind lenses. No other room knows the layout.
+#![tactic(auto)]
+
 mod lenses;
 mod puts;
 mod quantities; // quantities.rt: the quantities that a zone can set, by index

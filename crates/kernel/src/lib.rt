@@ -21,6 +21,8 @@
 // read_request, write_request           1, 2, 3, 4; 3, 4, 15; for the other side of the wire
 // read_response, write_response         4, 1, 2, 3; 4, 3, 15; likewise
 // report(inputs, attributes, pairs)     16, 17, 15; the conformance report, from the front of `pairs`
+#![tactic(auto)]
+
 mod frame_call; // frame_call.rt: bytes in, the device, bytes out
 
 pub use device_calls::calls::{

@@ -1,4 +1,6 @@
 // The Measurement feature (document 002): payloads read and written, and the direction of flow.
+#![tactic(auto)]
+
 mod flow; // flow.rt: the direction of flow
 
 pub use flow::{Flow, dc_flow, flow_number, phase_flow, power_flow};

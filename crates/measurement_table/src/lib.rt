@@ -1,4 +1,6 @@
 // The Measurement feature (document 002): its table of attributes, and the words that hold what is measured.
+#![tactic(auto)]
+
 mod attributes; // the attributes by number, places and kind, and the range of each kind
 mod words; // cells as words
 

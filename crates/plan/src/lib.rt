@@ -1,4 +1,6 @@
 // The plan: each second after now at which what holds will change, and what holds from then on.
+#![tactic(auto)]
+
 mod counts;
 mod rows;
 

@@ -1,4 +1,6 @@
 // The next row of the plan after a second: for a driver that sleeps until the next change, or walks a plan without a buffer.
+#![tactic(auto)]
+
 ghost use Rattle.std.specs.Prelude.{◌≡◌, ◌∷◌, ◌<◌, pos};
 ghost use Rattle.std.proofs.Math.Option.{none};
 ghost use Rattle.device_store.specs.Sizes.{end};

@@ -1,5 +1,7 @@
 // The plan made the slow way, for the bench: its rows as records. It shares nothing with the first planner but what holds at a
 // second, and the device is lent unchangeable.
+#![tactic(auto)]
+
 mod records;
 mod rows;
 mod candidates; // candidates.rt: the seconds at which what holds may change

@@ -7,6 +7,8 @@
 // receive(r, room, scrap)                15 for a room under 2,052 bytes; 1 for a bad length, and ever after
 // receive_words(words, room, scrap, ..)  the same over three lent words, for drivers in C
 // step(r, room, scrap)                   the same with the record by value
+#![tactic(auto)]
+
 mod calls; // calls.rt: a scrap taken
 mod ends; // ends.rt: where the frame in hand ends
 mod record; // record.rt: the counts, and what they become

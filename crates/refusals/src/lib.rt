@@ -1,5 +1,6 @@
 // Document 01's numbers by name, for every room: why a call is refused, the control states, and the reject reasons of SetLimit.
 // 0 is a call that is accepted. The C header's CEKARUM_* are the same numbers.
+#![tactic(auto)]
 
 // REFUSALS
 // prefix or payload length wrong

@@ -1,4 +1,6 @@
 // The conformance report: which of document 01's six groups of rules a device breaks, and for which bit or attribute.
+#![tactic(auto)]
+
 mod attributes;
 mod bit_rules;
 mod breaches;

@@ -1,5 +1,7 @@
 // Document 003's constant tables: the bits of a feature map, those that an endpoint type requires and forbids, and the
 // EnergyControl attributes by number and condition.
+#![tactic(auto)]
+
 mod attributes;
 mod endpoints;
 mod features;

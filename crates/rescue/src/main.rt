@@ -1,5 +1,7 @@
 // Reads a damaged bench script from standard input, writes its whole, sound records to standard output, and says on the error
 // output, one line each, which bytes it passed over.
+#![tactic(auto)]
+
 ghost use Rattle.std.specs.Prelude.{◌≡◌, ◌≤◌, length, take};
 ghost use Rattle.rescue_walk.specs.Rescue.{longest_script};
 ghost use Rattle.rescue_walk.specs.Program.{kept_text, said_text, report_room, text_room};

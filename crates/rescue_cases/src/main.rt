@@ -1,5 +1,7 @@
 // Rescues damaged scripts one after the other, each behind four bytes of length: a line `script N`, then what `rescue` says on
 // the error output, then what the bench prints for what came out.
+#![tactic(auto)]
+
 use kernel::{PLAN, RESPONSE, State, WORDS};
 use libc::{STDIN_FILENO, STDOUT_FILENO};
 use rescue_walk::{REPORT, SCRIPT};

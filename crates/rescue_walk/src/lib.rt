@@ -1,4 +1,6 @@
 // A damaged bench script: its whole, sound records, and the runs of bytes between them.
+#![tactic(auto)]
+
 mod report_lines; // the report as text, for the error output
 mod scripts; // a whole script
 mod steps; // from piece to piece

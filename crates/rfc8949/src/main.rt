@@ -1,6 +1,8 @@
 // Runs vectors through the checker and the readers. A line of the input is a name and bytes in hex; a line of the output is the name and
 // `refused`, or `accepted` and the item's heads in order: integers, strings as h'..' and t'..', false, true, null, and an array or a map with
 // its count before its elements. Behind a map stand the keys 0 to 31 that are found in it, each with its value's position.
+#![tactic(auto)]
+
 use libc::{STDIN_FILENO, STDOUT_FILENO};
 use wire_cbor::{KeyHead, Stop};
 use wire_heads::Head;

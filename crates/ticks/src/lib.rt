@@ -5,6 +5,8 @@
 // read_words(words, tick)              the same over four lent words, for drivers in C; a new front is all zero
 //
 // A front is kept between readings and belongs to one counter. A refused reading changes nothing.
+#![tactic(auto)]
+
 mod front; // front.rt: the front, and a reading
 mod words; // words.rt: the front as words
 

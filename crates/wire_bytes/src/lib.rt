@@ -1,5 +1,7 @@
 // Lent slices of bytes: whether bytes fit, bytes put where all of them fit, unsigned numbers of a width.
 // Numbers stand most significant byte first.
+#![tactic(auto)]
+
 mod numbers; // numbers.rt: numbers read
 mod puts; // puts.rt: bytes and numbers written
 mod room; // room.rt: whether bytes fit

@@ -1,4 +1,6 @@
 // A field of a checked map, read by what is seen of it and written behind what is written.
+#![tactic(auto)]
+
 mod phases; // phases.rt: maps of phases, read and written
 mod puts; // puts.rt: fields, written
 mod ranges; // ranges.rt: numbers of a range

@@ -1,4 +1,6 @@
 // Heads of RFC 8949's strict subset: a major type and an argument in its shortest form, read and written, and the keys of a map.
+#![tactic(auto)]
+
 mod keys; // keys.rt: the keys of a map
 mod reading; // reading.rt: heads, read
 mod sizes; // sizes.rt: how long a head is

@@ -1,5 +1,7 @@
 // Requests and responses as values: no bytes, no state.
 // Numbers are wider here than on the wire, so that what is out of range can be handed to a writer and refused by it.
+#![tactic(auto)]
+
 mod set_parameters; // the parameters of a Set command as one shape: SetLimit and SetSetpoint are read into it and written from it
 mod statuses; // which numbers a response may carry, and where its result stands
 

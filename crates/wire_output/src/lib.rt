@@ -1,4 +1,6 @@
 // What a writer of bytes answers, and a payload put at the front of a lent buffer, alone or behind its length.
+#![tactic(auto)]
+
 ghost use Rattle.std.specs.Prelude.{◌≡◌, length};
 ghost use Rattle.wire_prefix.specs.Prefix.{frame_of};
 ghost use Rattle.wire_output.specs.Writing.{refused_with, written_of, left_by};

@@ -1,4 +1,6 @@
 // A frame's prefix: four bytes of length, most significant first, and what lengths there are.
+#![tactic(auto)]
+
 ghost use Rattle.std.specs.Prelude.{◌≡◌};
 ghost use Rattle.wire_prefix.specs.Prefix.{framed, bad_end};
 
