@@ -8,7 +8,7 @@ use crate::kinds::is_right_body;
 use wire_bytes::{byte_at, get_u16, get_u32, has_room};
 
 // A record's fields; its body stands at `body` in the script.
-#[derive(Drop)]
+#[derive(Clone, Copy)]
 pub struct Record {
     pub kind: u64,
     pub zone: u64,
@@ -18,7 +18,7 @@ pub struct Record {
 }
 
 // The record that stands at a place, if it is whole and well-formed.
-#[derive(Drop)]
+#[derive(Clone, Copy)]
 pub enum Scan {
     Is(Record),
     Bad,

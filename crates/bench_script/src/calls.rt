@@ -7,7 +7,7 @@ use kernel::State;
 use wire_bytes::byte_at;
 
 // The frame's bytes stand beside the call.
-#[derive(Drop)]
+#[derive(Clone, Copy)]
 pub enum Call {
     Join(u64, u64),
     Leave(u64),
@@ -22,14 +22,14 @@ pub enum Call {
 }
 
 // A call's number, and how many rows it wrote.
-#[derive(Drop)]
+#[derive(Clone, Copy)]
 pub struct Ran {
     pub number: u64,
     pub count: u64,
 }
 
 // The answer to a record; `next` is where the next one starts.
-#[derive(Drop)]
+#[derive(Clone, Copy)]
 pub struct Stepped {
     pub good: bool,
     pub number: u64,

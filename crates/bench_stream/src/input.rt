@@ -3,7 +3,7 @@ ghost use Rattle.std.specs.Prelude.{◌≡◌, ◌+◌, ◌≤◌, length, take}
 ghost use Rattle.bench_stream.specs.Buffer.{shifted, is_short, Filled};
 
 // The bytes of the buffer from `from` to `to`; `left` more may be read.
-#[derive(Drop)]
+#[derive(Clone, Copy)]
 pub(crate) struct Input {
     pub(crate) from: usize,
     pub(crate) to: usize,

@@ -14,7 +14,7 @@ const CELL: usize = text::DIGITS + 1;
 const ANSWER: usize = (1 + PLAN) * CELL;
 
 // Records are run up to `from` and answers printed up to `at`; `good` is false behind a bad record.
-#[derive(Drop)]
+#[derive(Clone, Copy)]
 pub(crate) struct Place {
     pub(crate) from: usize,
     pub(crate) at: usize,

@@ -8,7 +8,7 @@ use crate::pieces::{Place, run};
 use kernel::{PLAN, RESPONSE, State, WORDS};
 
 // How a script ended: at a bad record, or at the end of what may be read; and how many bytes of that were not read.
-#[derive(Drop)]
+#[derive(Clone, Copy)]
 pub struct Ended {
     pub left: u64,
     pub good: bool,

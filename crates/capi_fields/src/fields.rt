@@ -6,7 +6,7 @@ ghost use Rattle.capi_fields.specs.Fields.{no_field, flat_field, flat_target, ha
 use wire_messages::{Aim, Amount, Field, Target};
 
 // A field of a Set command: kind 0 is absent, 1 null, 2 the number `value`.
-#[derive(Drop)]
+#[derive(Clone, Copy)]
 pub struct FlatField {
     pub kind: u64,
     pub value: i64,

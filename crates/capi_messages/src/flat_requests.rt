@@ -19,7 +19,7 @@ pub const FIELDS: usize = 5;
 
 // SetLimit and SetSetpoint use consumption and production, SetCurrentLimits a, b, c and the direction, all three duration and
 // cause; clears what is directed. A SetSetpoint's duration may be omitted; it is then 0 here.
-#[derive(Drop)]
+#[derive(Clone, Copy)]
 pub struct FlatRequest {
     pub id: u64,
     pub endpoint: u64,

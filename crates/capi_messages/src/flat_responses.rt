@@ -13,7 +13,7 @@ pub const RESPONSE: usize = 5;
 pub const AMOUNTS: usize = 6;
 
 // Absent is -1. The result stands at status 0, and for SetLimit also at 11 to 14.
-#[derive(Drop)]
+#[derive(Clone, Copy)]
 pub struct FlatResponse {
     pub id: u64,
     pub status: u64,

@@ -8,7 +8,7 @@ use device_store::{CURRENTS, LIMITS, direction_of, is_current, is_limit, phase_o
 use wire_messages::{Aim, Command, CurrentLimits, Field, Setpoints};
 
 // What a command is about. Each kind is accepted or not by a setting of its own.
-#[derive(Drop)]
+#[derive(Clone, Copy)]
 pub enum Kind {
     Limits,
     Setpoints,

@@ -1,7 +1,7 @@
 // What a command leaves held by its zone.
 
 // What a command does to one quantity of its zone.
-#[derive(Drop)]
+#[derive(Clone, Copy)]
 pub enum Action {
     Keep,
     Remove,

@@ -10,7 +10,7 @@ use device_store::{CURRENTS, LIMITS, Settings, direction_of, is_current, phase_o
 use wire_messages::{Command, CurrentLimits, Field, Phases};
 
 // Named at all, below 0, of a direction that is not supported, of a phase from the count up, above the most that it may be.
-#[derive(Drop)]
+#[derive(Clone, Copy)]
 pub enum FieldTest {
     Named,
     Negative,

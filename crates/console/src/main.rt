@@ -10,7 +10,7 @@ use receiver::RECORD;
 use ticks::FRONT;
 
 // How much of a line is kept from earlier pieces of the input, and where the next answer goes.
-#[derive(Drop)]
+#[derive(Clone, Copy)]
 pub struct Place {
     pub kept: usize,
     pub at: usize,

@@ -6,7 +6,7 @@ ghost use Rattle.console_line.specs.Commands.{unknown, table, lines_of, found, l
 use crate::fields::read;
 use console_words::{place, span};
 
-#[derive(Drop)]
+#[derive(Clone, Copy)]
 pub enum Command {
     Unknown,
     Start,
@@ -28,7 +28,7 @@ pub enum Command {
 }
 
 // What a line's name says: its command, and how many words the line has.
-#[derive(Drop)]
+#[derive(Clone, Copy)]
 pub struct Line(pub Command, pub usize);
 
 // How many names there are.

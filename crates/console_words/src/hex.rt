@@ -4,7 +4,7 @@ ghost use Rattle.wire_bytes.specs.Bytes.{put};
 ghost use Rattle.console_words.specs.Hex.{is_hex, all_hex, nibble, hex_bytes, is_none, is_pairs, hex_read, hex_after};
 
 // Whether a word could be read, and how many elements were stored.
-#[derive(Drop)]
+#[derive(Clone, Copy)]
 pub struct Read {
     pub good: bool,
     pub count: usize,

@@ -7,7 +7,7 @@ const MOST: u64 = 18446744073709551615;
 
 // Whether the word is a number, whether that is below zero, and its value: the largest word for one that 64 bits do not
 // hold, which is out of every range.
-#[derive(Drop)]
+#[derive(Clone, Copy)]
 pub struct Number {
     pub good: bool,
     pub negative: bool,

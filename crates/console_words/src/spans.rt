@@ -3,7 +3,7 @@ ghost use Rattle.std.specs.Prelude.{◌≡◌, ◌≤◌, length, get_or, drop};
 ghost use Rattle.console_words.specs.Spans.{next_of, words_in, ends_after, start_of, span_of, same_bytes, is_word, words_of, place_from};
 
 // The start and the end of a word.
-#[derive(Drop)]
+#[derive(Clone, Copy)]
 pub struct Bounds {
     pub from: usize,
     pub to: usize,

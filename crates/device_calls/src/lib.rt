@@ -9,7 +9,7 @@ pub use device_store::{
 };
 
 // A command's number, and the record that its zone would then have.
-#[derive(Drop)]
+#[derive(Clone, Copy)]
 pub struct Decision {
     pub number: u64,
     pub slot: usize,
@@ -17,7 +17,7 @@ pub struct Decision {
 }
 
 // A command's number, and the result that its response has.
-#[derive(Drop)]
+#[derive(Clone, Copy)]
 pub struct Answer {
     pub number: u64,
     pub outcome: wire_messages::Outcome,

@@ -17,14 +17,14 @@ use device_store::{
 };
 
 // The smallest value of each quantity that goes by it, met so far. MOST is none.
-#[derive(Drop)]
+#[derive(Clone, Copy)]
 pub struct LowestValues {
     pub low: [u64; LOWEST_VALUES],
     pub next: u64,
 }
 
 // The first precedence of each setpoint, met so far, and its value. MOST is none.
-#[derive(Drop)]
+#[derive(Clone, Copy)]
 pub struct LeadingSetpoints {
     pub precedence: [u64; LEADING_SETPOINTS],
     pub lead: [u64; LEADING_SETPOINTS],

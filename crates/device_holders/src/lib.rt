@@ -18,7 +18,7 @@ use refusals::BAD_TIME;
 
 // Who holds a value: NOBODY, a zone's id, or BY_FAILSAFE; and the second from which it holds no longer on its own.
 #[repr(C)]
-#[derive(Drop)]
+#[derive(Clone, Copy)]
 pub struct Holder {
     pub who: u64,
     pub until: u64,
@@ -26,7 +26,7 @@ pub struct Holder {
 
 // The answer: its number, and the holder of each quantity.
 #[repr(C)]
-#[derive(Drop)]
+#[derive(Clone, Copy)]
 pub struct Answer {
     pub number: u64,
     pub holders: [Holder; HELDS],

@@ -12,7 +12,7 @@ pub use links::since_without;
 pub use values::{values_at, values_with, view_at};
 
 // What holds at a second, and the next second at which it can change.
-#[derive(Drop)]
+#[derive(Clone, Copy)]
 pub struct View {
     pub values: [i64; VALUES],
     pub next: u64,

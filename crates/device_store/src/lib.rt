@@ -46,14 +46,14 @@ pub const END: u64 = 1099511627776;
 pub const VALUE_END: u64 = 9223372036854775808;
 
 // What a zone set for one quantity; it holds at t while t < until.
-#[derive(Drop)]
+#[derive(Clone, Copy)]
 pub struct Held {
     pub value: u64,
     pub until: u64,
 }
 
 // A slot's whole record. The precedence is rank * IDS + id, so that setpoints are told apart by one number; id 0 is a free slot.
-#[derive(Drop)]
+#[derive(Clone, Copy)]
 pub struct Zone {
     pub precedence: u64,
     pub up: bool,
@@ -63,7 +63,7 @@ pub struct Zone {
 // What a device starts with. Maxima and failsafe limits go by direction; MOST is no maximum. `currents`: current limits are
 // accepted, for so many phases.
 #[repr(C)]
-#[derive(Drop)]
+#[derive(Clone, Copy)]
 pub struct Settings {
     pub directions: u64,
     pub limits: bool,
@@ -78,7 +78,7 @@ pub struct Settings {
 }
 
 // One whole change of the device: a slot's new record (none where slot is SLOTS), since when no link is up, override, clock.
-#[derive(Drop)]
+#[derive(Clone, Copy)]
 pub struct Change {
     pub time: u64,
     pub slot: usize,

@@ -23,7 +23,7 @@ use wire_responses::{reply_to, unserved_reply};
 
 // The answer to a frame: its number, and the length of the response frame that was written.
 #[repr(C)]
-#[derive(Drop)]
+#[derive(Clone, Copy)]
 pub struct Framed {
     pub number: u64,
     pub length: usize,

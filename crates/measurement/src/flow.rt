@@ -7,7 +7,7 @@ ghost use Rattle.measurement.specs.Flow.{flow_of, flow_number, cell_for, ac_acti
 use measurement_table::{Words, place_at};
 
 // Into the component or out of it, in neither direction, or nothing is there to flow.
-#[derive(Drop)]
+#[derive(Clone, Copy)]
 pub enum Flow {
     Absent,
     Neither,

@@ -5,7 +5,7 @@ ghost use Rattle.measurement_table.specs.Rows.{no_row, rows, range_of};
 use wire_fields::Range;
 
 // An attribute: its number, how many places it has (one number, or one for each phase), and its kind. Bytes, since a constant is laid out at each use.
-#[derive(Drop)]
+#[derive(Clone, Copy)]
 pub struct Row(pub u8, pub u8, pub u8);
 
 pub const ROWS: usize = 24;

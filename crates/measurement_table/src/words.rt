@@ -11,7 +11,7 @@ pub const WORDS: usize = 72;
 pub type Words = [u64; WORDS];
 
 // The mark 0: nothing; 1: the number `size`; 2: the number -1 - `size`.
-#[derive(Drop)]
+#[derive(Clone, Copy)]
 pub struct Place {
     pub mark: u64,
     pub size: u64,

@@ -14,7 +14,7 @@ pub use rows::{PLAN, ROW};
 
 // The answer to a plan: its number, and the count of rows written.
 #[repr(C)]
-#[derive(Drop)]
+#[derive(Clone, Copy)]
 pub struct Planned {
     pub number: u64,
     pub count: u64,

@@ -16,7 +16,7 @@ use refusals::BAD_TIME;
 
 // The answer: its number, how many rows it has, none or one, and that row's numbers, -1 each where there is none.
 #[repr(C)]
-#[derive(Drop)]
+#[derive(Clone, Copy)]
 pub struct Answer {
     pub number: u64,
     pub count: u64,

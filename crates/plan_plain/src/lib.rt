@@ -14,7 +14,7 @@ pub use records::{first_record, next_record, planned as plain_answer};
 
 // A row of the plan: the second, the control state from then on, and each quantity, -1 where it is absent.
 #[repr(C)]
-#[derive(Drop)]
+#[derive(Clone, Copy)]
 pub struct Row {
     pub second: u64,
     pub state: i64,
@@ -32,7 +32,7 @@ pub struct Row {
 
 // The answer: its number, and the count of rows written.
 #[repr(C)]
-#[derive(Drop)]
+#[derive(Clone, Copy)]
 pub struct Planned {
     pub number: u64,
     pub count: usize,

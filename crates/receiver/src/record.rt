@@ -6,7 +6,7 @@ use wire_prefix::{FRAME, PREFIX};
 
 // `have` bytes stand in the room; once the prefix is whole the frame has `need`, and 0 before. `closed` is 0 or 1.
 #[repr(C)]
-#[derive(Drop)]
+#[derive(Clone, Copy)]
 pub struct Record {
     pub have: usize,
     pub need: usize,
@@ -15,7 +15,7 @@ pub struct Record {
 
 // The refusal number or 0, how many bytes of the scrap were taken, and the length of the frame given out or 0.
 #[repr(C)]
-#[derive(Drop)]
+#[derive(Clone, Copy)]
 pub struct Answer {
     pub number: u64,
     pub taken: usize,
@@ -23,7 +23,7 @@ pub struct Answer {
 }
 
 // What a call answers, and the record afterwards.
-#[derive(Drop)]
+#[derive(Clone, Copy)]
 pub struct Decision {
     pub answer: Answer,
     pub after: Record,

@@ -15,7 +15,7 @@ use crate::bit_rules::broken_bit;
 use crate::sizes::{ATTRIBUTE_GROUP, BIT_GROUPS};
 use report_tables::{BITS, ROWS, row_at};
 
-#[derive(Drop)]
+#[derive(Clone, Copy)]
 pub struct Pair {
     pub group: u64,
     pub number: u64,

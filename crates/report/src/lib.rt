@@ -19,7 +19,7 @@ use sizes::{DIRECTIONS, NUMBERS, PHASES};
 
 // What a device says of itself. Numbers are wider than their ranges, so that one out of range can be told and refused.
 #[repr(C)]
-#[derive(Drop)]
+#[derive(Clone, Copy)]
 pub struct Inputs {
     pub endpoint: u64,
     pub features: u64,
@@ -33,7 +33,7 @@ pub struct Inputs {
 
 // The refusal number or 0, and how many pairs were written.
 #[repr(C)]
-#[derive(Drop)]
+#[derive(Clone, Copy)]
 pub struct Answer {
     pub number: u64,
     pub count: u64,

@@ -6,7 +6,7 @@ ghost use Rattle.report_tables.specs.Attributes.{no_row, rows};
 pub const ROWS: usize = 33;
 
 // A row of the table: the attribute's number, and the code of its condition. Bytes, since a constant is laid out at each use.
-#[derive(Drop)]
+#[derive(Clone, Copy)]
 pub struct Row(pub u8, pub u8);
 
 const OPTIONAL: u8 = 0;

@@ -10,7 +10,7 @@ use libc::{STDERR_FILENO, STDIN_FILENO, STDOUT_FILENO};
 use rescue_walk::{REPORT, SCRIPT, TEXT};
 
 // How many bytes come out, and how many are said.
-#[derive(Drop)]
+#[derive(Clone, Copy)]
 struct Done {
     kept: usize,
     said: usize,

@@ -19,7 +19,7 @@ pub const REPORT: usize = 2 * RUNS;
 pub const TEXT: usize = 12 * RUNS;
 
 // The refusal number or 0, the bytes written and the runs.
-#[derive(Drop)]
+#[derive(Clone, Copy)]
 pub struct Rescued {
     pub number: u64,
     pub length: usize,

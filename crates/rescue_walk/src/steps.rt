@@ -6,7 +6,7 @@ ghost use Rattle.rescue_walk.specs.Steps.{Reached, next_of, counted};
 use bench_records::{Scan, read_record};
 
 // Where the walk stands; the bytes kept and the runs before it.
-#[derive(Drop)]
+#[derive(Clone, Copy)]
 pub(crate) struct Cursor {
     pub(crate) at: usize,
     pub(crate) kept: usize,

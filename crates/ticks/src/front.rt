@@ -11,7 +11,7 @@ const END: u64 = 1099511627775;
 const BACK: u32 = 2147483648;
 
 // Whether a reading was accepted yet; the last one that was, the seconds it gave and the milliseconds left over.
-#[derive(Drop)]
+#[derive(Clone, Copy)]
 pub struct Front {
     pub begun: bool,
     pub last: u32,
@@ -20,7 +20,7 @@ pub struct Front {
 }
 
 // 0 or the refusal number; the seconds, -1 beside a refusal; the front afterwards.
-#[derive(Drop)]
+#[derive(Clone, Copy)]
 pub struct Reading {
     pub number: u64,
     pub seconds: i64,

@@ -6,7 +6,7 @@ ghost use Rattle.ticks.specs.Words.{front_in, front_words, kept, answer, reading
 use crate::front::{Front, Reading, read_tick};
 
 // What a reading answers: 0 or the refusal number; the seconds, -1 beside a refusal.
-#[derive(Drop)]
+#[derive(Clone, Copy)]
 pub struct Answer {
     pub number: u64,
     pub seconds: i64,

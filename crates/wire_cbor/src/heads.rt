@@ -27,7 +27,7 @@ pub const WORDS: usize = 2 * KEY_HEADS;
 pub const STEP: u64 = 16;
 
 // What is seen under a key: the head of its value; major 8 where nothing is there.
-#[derive(Drop)]
+#[derive(Clone, Copy)]
 pub struct KeyHead {
     pub major: u64,
     pub arg: u64,

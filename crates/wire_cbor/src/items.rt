@@ -11,7 +11,7 @@ use wire_heads::{Head, Key, read_head, read_key};
 pub const DEPTH: u64 = 8;
 
 // Where an item ends.
-#[derive(Drop)]
+#[derive(Clone, Copy)]
 pub enum End {
     At(usize),
     Bad,

@@ -6,7 +6,7 @@ use crate::items::{End, check_item};
 use wire_heads::{Key, read_key};
 
 // Where a walk over pairs stopped. There: at the value, `left` pairs behind it. Not there: at the first pair not passed, `left` counting it.
-#[derive(Drop)]
+#[derive(Clone, Copy)]
 pub struct Stop {
     pub there: bool,
     pub at: usize,
@@ -14,7 +14,7 @@ pub struct Stop {
 }
 
 // A look at one pair: its value where the key is the one sought, the position past it where its key is smaller, or a halt.
-#[derive(Drop)]
+#[derive(Clone, Copy)]
 pub enum Step {
     There(usize),
     Past(usize),

@@ -11,14 +11,14 @@ use wire_cbor::KeyHead;
 use wire_messages::{CurrentResult, Phases};
 
 // A field for each phase; not `ok` is refusal 3.
-#[derive(Drop)]
+#[derive(Clone, Copy)]
 pub struct Fields {
     pub ok: bool,
     pub phases: Phases,
 }
 
 // An amount for each phase; not `ok` is refusal 3.
-#[derive(Drop)]
+#[derive(Clone, Copy)]
 pub struct Amounts {
     pub ok: bool,
     pub result: CurrentResult,

@@ -8,7 +8,7 @@ use crate::truths::{all3, both, either};
 use wire_cbor::KeyHead;
 
 // Whole numbers: n is one of them where it is at most `high`, -1 - n where n is below `below`.
-#[derive(Drop)]
+#[derive(Clone, Copy)]
 pub struct Range {
     pub below: u64,
     pub high: u64,

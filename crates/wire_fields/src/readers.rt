@@ -11,7 +11,7 @@ use wire_cbor::KeyHead;
 use wire_messages::Field;
 
 // A signed number, null or nothing; not `ok` is refusal 3.
-#[derive(Drop)]
+#[derive(Clone, Copy)]
 pub struct Value {
     pub ok: bool,
     pub field: Field,

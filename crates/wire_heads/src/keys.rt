@@ -6,7 +6,7 @@ ghost use Rattle.wire_heads.specs.Key.{key_from, key_of, key_at, least};
 use crate::reading::{Argument, argument_of};
 
 // A key and the position past it.
-#[derive(Drop)]
+#[derive(Clone, Copy)]
 pub enum Key {
     Is(u64, usize),
     Bad,

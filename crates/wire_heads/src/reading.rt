@@ -5,14 +5,14 @@ ghost use Rattle.wire_heads.specs.Head.{arg_at, with_major, head_at};
 ghost use Rattle.wire_heads.specs.Forms.{Width, form_of, held_at};
 
 // A head: its major type, its argument and the position past it.
-#[derive(Drop)]
+#[derive(Clone, Copy)]
 pub enum Head {
     Is(u64, u64, usize),
     Bad,
 }
 
 // An argument and the position past it.
-#[derive(Drop)]
+#[derive(Clone, Copy)]
 pub enum Argument {
     Is(u64, usize),
     Bad,
@@ -20,7 +20,7 @@ pub enum Argument {
 
 // Where an argument is said: in the additional information itself; in so many bytes behind it, from the least number on that
 // needs them all; or nowhere.
-#[derive(Drop)]
+#[derive(Clone, Copy)]
 pub enum Form {
     Itself,
     Behind(usize, u64),

@@ -50,7 +50,7 @@ pub fn is_served(endpoint: u64, feature: u64) -> bool
 }
 
 // A limit field: absent leaves that direction, null removes this zone's limit, a value sets it.
-#[derive(Drop)]
+#[derive(Clone, Copy)]
 pub enum Field {
     Absent,
     Null,
@@ -58,14 +58,14 @@ pub enum Field {
 }
 
 // A setpoint field: the same, without null.
-#[derive(Drop)]
+#[derive(Clone, Copy)]
 pub enum Target {
     Absent,
     Value(i64),
 }
 
 // The parameters of SetLimit. An omitted duration is 0.
-#[derive(Drop)]
+#[derive(Clone, Copy)]
 pub struct Limits {
     pub consumption: Field,
     pub production: Field,
@@ -74,7 +74,7 @@ pub struct Limits {
 }
 
 // The parameters of SetSetpoint. Its duration is as it stands on the wire: an omitted one is not 0.
-#[derive(Drop)]
+#[derive(Clone, Copy)]
 pub struct Setpoints {
     pub consumption: Target,
     pub production: Target,
@@ -83,7 +83,7 @@ pub struct Setpoints {
 }
 
 // A field for each phase.
-#[derive(Drop)]
+#[derive(Clone, Copy)]
 pub struct Phases {
     pub a: Field,
     pub b: Field,
@@ -91,7 +91,7 @@ pub struct Phases {
 }
 
 // The parameters of SetCurrentLimits, all in one direction. An omitted duration is 0.
-#[derive(Drop)]
+#[derive(Clone, Copy)]
 pub struct CurrentLimits {
     pub phases: Phases,
     pub direction: u64,
@@ -100,14 +100,14 @@ pub struct CurrentLimits {
 }
 
 // What a clear names: one direction, or none and so both.
-#[derive(Drop)]
+#[derive(Clone, Copy)]
 pub enum Aim {
     Both,
     One(u64),
 }
 
 // A command with its parameters, or the number of one that is not served.
-#[derive(Drop)]
+#[derive(Clone, Copy)]
 pub enum Command {
     SetLimit(Limits),
     ClearLimit(Aim),
@@ -118,7 +118,7 @@ pub enum Command {
     Unserved(u64),
 }
 
-#[derive(Drop)]
+#[derive(Clone, Copy)]
 pub struct Request {
     pub id: u64,
     pub endpoint: u64,
@@ -127,14 +127,14 @@ pub struct Request {
 }
 
 // A value of a response, left out when absent.
-#[derive(Drop)]
+#[derive(Clone, Copy)]
 pub enum Amount {
     Absent,
     Is(u64),
 }
 
 // The result of SetLimit: the effective limits, and why it was refused or capped.
-#[derive(Drop)]
+#[derive(Clone, Copy)]
 pub struct LimitResult {
     pub applied: bool,
     pub state: u64,
@@ -144,14 +144,14 @@ pub struct LimitResult {
 }
 
 // The result of SetSetpoint: the effective setpoints.
-#[derive(Drop)]
+#[derive(Clone, Copy)]
 pub struct SetpointResult {
     pub consumption: Amount,
     pub production: Amount,
 }
 
 // The result of SetCurrentLimits: the effective currents of its direction, for each phase.
-#[derive(Drop)]
+#[derive(Clone, Copy)]
 pub struct CurrentResult {
     pub a: Amount,
     pub b: Amount,
@@ -159,7 +159,7 @@ pub struct CurrentResult {
 }
 
 // The result that stands in a response, if one does.
-#[derive(Drop)]
+#[derive(Clone, Copy)]
 pub enum Outcome {
     Nothing,
     Limit(LimitResult),
@@ -168,7 +168,7 @@ pub enum Outcome {
     Success,
 }
 
-#[derive(Drop)]
+#[derive(Clone, Copy)]
 pub struct Response {
     pub id: u64,
     pub status: u64,

@@ -6,7 +6,7 @@ ghost use Rattle.wire_messages.specs.Shapes.{duration_amount, target_field, sett
 use crate::{Amount, Field, Limits, Setpoints, Target};
 
 // The values, and apart from them the duration as it stands on the wire: what an omitted one means is the command's to say.
-#[derive(Drop)]
+#[derive(Clone, Copy)]
 pub struct Setting {
     pub consumption: Field,
     pub production: Field,

@@ -11,7 +11,7 @@ use wire_prefix::PREFIX;
 
 // What a writer answers: the refusal number or 0, and the length of what was written.
 #[repr(C)]
-#[derive(Drop)]
+#[derive(Clone, Copy)]
 pub struct Written {
     pub number: u64,
     pub length: usize,

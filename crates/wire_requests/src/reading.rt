@@ -16,7 +16,7 @@ use wire_messages::{
 use wire_prefix::{PREFIX, is_framed};
 
 // A request; the message id of one that is not served; a refusal number.
-#[derive(Drop)]
+#[derive(Clone, Copy)]
 pub enum Reading {
     Is(Request),
     Unserved(u64),
@@ -24,21 +24,21 @@ pub enum Reading {
 }
 
 // The parameters of a Set command; not `ok` is refusal 3.
-#[derive(Drop)]
+#[derive(Clone, Copy)]
 pub struct Set {
     pub ok: bool,
     pub setting: Setting,
 }
 
 // The parameters of SetCurrentLimits; not `ok` is refusal 3.
-#[derive(Drop)]
+#[derive(Clone, Copy)]
 pub struct CurrentSet {
     pub ok: bool,
     pub limits: CurrentLimits,
 }
 
 // A command's parameters, or refusal 3.
-#[derive(Drop)]
+#[derive(Clone, Copy)]
 pub enum Parameters {
     Are(Command),
     Wrong,

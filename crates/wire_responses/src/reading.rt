@@ -17,28 +17,28 @@ use wire_messages::{
 use wire_prefix::{PREFIX, is_framed};
 
 // A response, or a refusal number.
-#[derive(Drop)]
+#[derive(Clone, Copy)]
 pub enum Answer {
     Is(Response),
     Refused(u64),
 }
 
 // The result of SetLimit; not `ok` is refusal 3.
-#[derive(Drop)]
+#[derive(Clone, Copy)]
 pub struct Effect {
     pub ok: bool,
     pub result: LimitResult,
 }
 
 // The result of SetSetpoint; not `ok` is refusal 3.
-#[derive(Drop)]
+#[derive(Clone, Copy)]
 pub struct Targets {
     pub ok: bool,
     pub result: SetpointResult,
 }
 
 // What stands or does not stand under key 3, or refusal 3.
-#[derive(Drop)]
+#[derive(Clone, Copy)]
 pub enum Result {
     Is(Outcome),
     Wrong,
