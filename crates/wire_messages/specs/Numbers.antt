@@ -1,5 +1,5 @@
 -- Document 01's numbers for the cases of the messages' types.
-use Rattle.std.specs.Prelude.{ℕ, Bool, true, false, ◌&&◌, leb, eqb}
+use Rattle.std.specs.Prelude.{ℕ, Bool, ◌&&◌, leb, eqb}
 use Rattle.wire_messages.specs.declared.Command.{Command}
 use Rattle.wire_messages.specs.declared.Command.TheVariants.{SetLimit, ClearLimit, SetSetpoint, ClearSetpoint, SetCurrentLimits, ClearCurrentLimits, Unserved}
 
