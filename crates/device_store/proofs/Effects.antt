@@ -9,7 +9,6 @@ use lib.Seq.{get_or-set_same, get_or-set_other, ext_get_or}
 use Rattle.device_store.specs.Sizes.{helds, slots, head_size, words}
 use Rattle.device_store.specs.Zones.{up_to, free_zone}
 use Rattle.device_store.specs.Words.{clock_of, since_of, override_of, settings_of, held_in, zone_at, zones_of, put_zone, applied, setting_words, fresh}
-use Rattle.device_store.specs.declared.Zone.{Zone}
 use Rattle.device_store.specs.declared.Settings.{Settings}
 use Rattle.device_store.specs.declared.Change.{Change}
 use Rattle.device_store.proofs.HeldWords.{bit-back}

@@ -1,6 +1,6 @@
 -- The smaller of two numbers is that in either order. Assumes nothing.
-use Prim.Native.Nat.{ℕ, ◌<◌, ◌≤◌, min}
-use mathlib.Core.Path.{◌≡◌, sym}
+use Prim.Native.Nat.{ℕ, ◌≤◌, min}
+use mathlib.Core.Path.{◌≡◌}
 use native.Mathlib.Decide.{dec_lt}
 use native.Mathlib.Omega.{arith}
 use native.Mathlib.Nat.{min-eq_left, min-eq_right}
