@@ -1,5 +1,5 @@
 -- A signed number of C's as a value of a response: -1 is absent, a smaller one is out of range.
-use Prim.Native.Nat.{ℕ, zero, suc}
+use Prim.Native.Nat.{zero, suc}
 use mathlib.Core.Bool.{true, false}
 use mathlib.Core.Path.{◌≡◌, refl, sym, ap, ◌∙◌}
 use lib.Dec.{T, leb-suc-zero}
