@@ -1,0 +1,16 @@
+-- The tests are those of the definition.
+use borrow.Author.Tests.{lt-ltb, le-ltb, lt-leb, le-leb}
+use Rattle.wire_heads.specs.Forms.{held_at}
+use Rattle.wire_heads.proofs.reading.held.Goals as goal
+
+pub returns-then-s-at : goal.returns-then-s-at
+unfolding held_at
+returns-then-s-at c = rw (lt-leb _ _ c.if-s-at.true)
+
+pub returns-then-v-least : goal.returns-then-v-least
+unfolding held_at
+returns-then-v-least c = rw (le-leb _ _ c.if-s-at.false, ← c.number-v.ensures, lt-ltb _ _ c.if-v-least.true)
+
+pub returns : goal.returns
+unfolding held_at
+returns c = rw (le-leb _ _ c.if-s-at.false, ← c.number-v.ensures, le-ltb _ _ c.if-v-least.false)
