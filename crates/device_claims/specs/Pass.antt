@@ -1,5 +1,5 @@
 -- What the numbers of a pass over the zones stand for.
-use Rattle.std.specs.Prelude.{ℕ, zero, suc, ◌<◌, ◌≤◌, Bool, cond, ◌&&◌, ◌≡◌, List, ltb, leb, length, get_or, set}
+use Rattle.std.specs.Prelude.{ℕ, zero, suc, ◌<◌, ◌≤◌, Bool, cond, ◌&&◌, ◌≡◌, ltb, leb, length, get_or, set}
 use Rattle.device_store.specs.Quantities.{lowest_values, leading_setpoints, low_at, lead_at}
 use Rattle.device_store.specs.Sizes.{ids, most}
 use Rattle.device_store.specs.Zones.{precedence_of, held_of}
