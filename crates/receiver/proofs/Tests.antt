@@ -1,14 +1,14 @@
 -- The call's answer by its tests. Assumes nothing.
 use Prim.Native.Nat.{ℕ, ◌+◌, ◌-◌, ◌≤◌, ◌<◌, min}
 use mathlib.Core.Path.{◌≡◌, refl, sym, ap, ◌∙◌}
-use mathlib.Core.Bool.{Bool, true, false, cond}
-use mathlib.Core.List.{List, [], ◌∷◌, ◌++◌}
+use mathlib.Core.Bool.{Bool, true, false}
+use mathlib.Core.List.{List, []}
 use native.Mathlib.Nat.{min-eq_left}
 use native.Mathlib.Numerals.{add-one}
 use native.Mathlib.Omega.{arith}
 use lib.ListN.{length, take, set, get_or, length-set}
 use lib.Seq.{paste, paste-zero, paste-suc}
-use lib.Dec.{leb, ltb, eqb}
+use lib.Dec.{leb, ltb}
 use borrow.Author.Tests.{ltb-true, ltb-false, lt-ltb, le-ltb}
 use Rattle.wire_bytes.specs.Bytes.{put_whole, put}
 use Rattle.wire_bytes.proofs.PutLaws.{put_whole_lem, copied, taken_length}
@@ -18,7 +18,7 @@ use Rattle.receiver.specs.declared.record.Record.{Record}
 use Rattle.receiver.specs.declared.record.Answer.{Answer}
 use Rattle.receiver.specs.declared.record.Decision.{Decision}
 use Rattle.receiver.specs.Receive.{shut, is_open, end_for, record_at, refusal, taking, refused, accepted, received, Done, Does}
-use Rattle.receiver.proofs.Counts.{Counts, prefix, payload, counts, fits, end_known}
+use Rattle.receiver.proofs.Counts.{Counts, prefix, payload, counts, end_known}
 
 pub via : {A : Type 0} {x y z : A} → x ≡ y → x ≡ z → y ≡ z
 via p q = sym p ∙ q

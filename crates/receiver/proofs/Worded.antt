@@ -1,7 +1,7 @@
 -- A call over words is the call over the record that they say. Assumes nothing.
 use Prim.Native.Nat.{ℕ}
-use mathlib.Core.Path.{◌≡◌, refl, sym, ap, ◌∙◌}
-use mathlib.Core.List.{List, [], ◌∷◌}
+use mathlib.Core.Path.{◌≡◌, refl, ap, ◌∙◌}
+use mathlib.Core.List.{List}
 use lib.ListN.{set}
 use lib.Seq.{sets}
 use Rattle.receiver.specs.declared.record.Record.{Record}
