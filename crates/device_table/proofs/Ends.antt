@@ -7,7 +7,6 @@ use native.Mathlib.Omega.{arith}
 use borrow.Author.Tests.{lt-ltb, le-ltb}
 use lib.Dec.{ltb}
 use Rattle.device_store.specs.Smaller.{nearer}
-use Rattle.device_store.specs.Smaller.{lesser}
 
 -- two tests agree where each follows from the other
 pub same_test : (a b c d : ℕ) → (a < b → c < d) → (c < d → a < b) → ltb a b ≡ ltb c d

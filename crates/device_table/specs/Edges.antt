@@ -1,5 +1,5 @@
 -- What is shown of a value.
-use Rattle.std.specs.Prelude.{ℕ, cond, ltb, ℤ, pos, negsuc}
+use Rattle.std.specs.Prelude.{cond, ltb, ℤ, pos, negsuc}
 use Rattle.wire_messages.specs.declared.Amount.{Amount}
 use Rattle.wire_messages.specs.declared.Amount.TheVariants.{Absent, Is}
 use Rattle.device_store.specs.Sizes.{value_end}
