@@ -1,5 +1,5 @@
 -- A reading by its tests, and over words. Assumes nothing.
-use Rattle.std.proofs.Common.{◌≡◌, ℕ, ◌+◌, ◌-◌, ◌/◌, ◌%◌, ◌^◌, ◌<◌, ◌≤◌, true, false, List, pos, sym, refl, ap, ◌∙◌, arith, w64, to_z, le-ltb, lt-ltb, eq-eqb, ne_eqb}
+use Rattle.std.proofs.Common.{◌≡◌, ℕ, ◌+◌, ◌/◌, ◌%◌, ◌^◌, ◌<◌, ◌≤◌, true, false, List, pos, refl, ap, ◌∙◌, arith, w64, to_z, le-ltb, lt-ltb, eq-eqb, ne_eqb}
 use lib.Seq.{sets}
 use Rattle.ticks.specs.declared.front.Front.{Front}
 use Rattle.ticks.specs.declared.front.Reading.{Reading}
