@@ -1,5 +1,5 @@
 -- What a driver has is what the uncut stream leads to, for every cutting. Assumes nothing.
-use Prim.Native.Nat.{ℕ, zero, suc, ◌+◌, ◌≤◌, ◌<◌}
+use Prim.Native.Nat.{ℕ, zero, suc, ◌≤◌, ◌<◌}
 use mathlib.Core.Path.{◌≡◌, refl, sym, ap, ◌∙◌}
 use mathlib.Core.Bool.{Bool, true, false, cond}
 use mathlib.Core.List.{List, [], ◌∷◌, ◌++◌, append-nil, append_assoc}
@@ -13,7 +13,7 @@ use Rattle.wire_prefix.proofs.Ends.{good-end, end_stays, bad_four}
 use Rattle.receiver.specs.declared.record.Record.{Record}
 use Rattle.receiver_laws.specs.Stream.{Cut, stop, halt, give, cut_in, cut}
 use Rattle.receiver.specs.Receive.{fresh, shut, refused, received, Done}
-use Rattle.receiver_laws.specs.Driver.{Effect, Effects, applied, Driven, still, behind, given, goes_on, feed_in, feed, drive, joined, collect, seen, record_of}
+use Rattle.receiver_laws.specs.Driver.{Effect, applied, Driven, still, behind, given, goes_on, feed_in, feed, drive, joined, collect, record_of}
 use Rattle.receiver_laws.specs.Laws.{LedTo, EveryCutting, FramesOfStream}
 use Rattle.receiver.proofs.Counts.{is_closed, record_open}
 use Rattle.receiver.proofs.Tests.{at_small_room, at_not_open}
@@ -36,7 +36,7 @@ cuts_in {s} (stops b m) (suc n) l = rw (b, lt-ltb (length s) (end_of s) m)
 cuts_in {s} (gives b m k) (suc n) l =
     let g = good-end (end_of s) b in
     let d = length-drop (end_of s) s in
-    rw (b, le-ltb (length s) (end_of s) m) (ap (give (take (end_of s) s)) (cuts_in k n (omega (arith, g.0))))
+    rw (b, le-ltb (length s) (end_of s) m) (ap (give (take (end_of s) s)) (cuts_in {s = drop (end_of s) s} k n (omega (arith, g.0))))
 
 pub cuts_cut : {s : List ℕ} {c : Cut} → Cuts s c → c ≡ cut s
 unfolding cut
@@ -72,9 +72,9 @@ module _ {S O : Type 0} (apply : S → List ℕ → Effect S O) where
   made_behind s fs gs s' os d es eo m =
       let x = applied-append s fs gs in
       record {
-        state_is = m.state-is ∙ ap (λ (z : S). (applied apply z gs).state) es ∙ sym x.0;
+        state_is = m.state_is ∙ ap (λ (z : S). (applied apply z gs).state) es ∙ sym x.0;
         outputs_are =
-            ap (λ (z : List O). z ++ d.outputs) eo ∙ ap (λ (z : List O). (applied apply s fs).outputs ++ z) m.outputs-are
+            ap (λ (z : List O). z ++ d.outputs) eo ∙ ap (λ (z : List O). (applied apply s fs).outputs ++ z) m.outputs_are
             ∙ ap (λ (z : S). (applied apply s fs).outputs ++ (applied apply z gs).outputs) es ∙ sym x.1;
       }
 
@@ -211,9 +211,9 @@ module _ {S O : Type 0} (apply : S → List ℕ → Effect S O) where
       → LedTo apply s (fronts fs c) (behind d.outputs e)
   unfolding record_of
   led_behind s fs c d e m k =
-      let n = made_behind apply s fs c.frames d.state d.outputs e m.state-is m.outputs-are
-      (record { state_is = k.state-is; outputs_are = k.outputs-are }) in
-      record { state_is = n.state-is; outputs_are = n.outputs-are; after_is = k.after_is; left_is = k.left_is }
+      let n = made_behind apply s fs c.frames d.state d.outputs e m.state_is m.outputs_are
+      (record { state_is = k.state_is; outputs_are = k.outputs_are }) in
+      record { state_is = n.state_is; outputs_are = n.outputs_are; after_is = k.after_is; left_is = k.left_is }
 
   -- one scrap more in front
   module _ (s : S) (x : List ℕ) (d : Driven S O) (ss : List (List ℕ)) where
@@ -230,7 +230,7 @@ module _ {S O : Type 0} (apply : S → List ℕ → Effect S O) where
     after-scrap p (off fs m e f) more =
         let k = shut-drive d.state d.after d.room ss e in
         let led : LedTo apply d.state halt rest =
-        record { state_is = k.0.state-is; outputs_are = k.0.outputs-are; after_is = k.1; left_is = ap (λ (r : Record). take r.have rest.room) k.1 } in
+        record { state_is = k.0.state_is; outputs_are = k.0.outputs_are; after_is = k.1; left_is = ap (λ (r : Record). take r.have rest.room) k.1 } in
         (fronts fs halt, rw (append_assoc p x (joined ss)) at (f (joined ss)), led_behind s fs halt d rest m led)
 
   driven : (ss : List (List ℕ)) (s : S) (r : Record) (room p : List ℕ) → Holds r room p
@@ -275,4 +275,4 @@ pub frames_of_stream : FramesOfStream
 frames_of_stream room ss l =
     let k = every_cutting (Unit {0}) (List ℕ) collect tt room ss l in
     let c : Cut = cut (joined ss) in
-    cut-is c _ _ _ (k.outputs-are ∙ collected tt c.frames) (ap (λ (r : Record). eqb r.closed 1) k.after_is ∙ closed_tells c) k.left_is
+    cut-is c _ _ _ (k.outputs_are ∙ collected tt c.frames) (ap (λ (r : Record). eqb r.closed 1) k.after_is ∙ closed_tells c) k.left_is

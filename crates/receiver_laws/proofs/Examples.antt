@@ -1,8 +1,7 @@
 -- Streams and scraps, worked out. Assumes nothing.
-use Prim.Native.Nat.{ℕ}
 use mathlib.Core.Path.{◌≡◌, refl}
 use mathlib.Core.Bool.{true, false}
-use mathlib.Core.List.{List, [], ◌∷◌}
+use mathlib.Core.List.{[], ◌∷◌}
 use Rattle.wire_bytes.specs.Bytes.{number_at}
 use Rattle.wire_prefix.specs.Prefix.{end_of, bad_end}
 use Rattle.receiver_laws.specs.Stream.{cut_in, cut}

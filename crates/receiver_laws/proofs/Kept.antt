@@ -1,13 +1,13 @@
 -- What one call makes of an unfinished frame and a scrap. Assumes nothing.
 use Prim.Native.Nat.{ℕ, ◌+◌, ◌-◌, ◌≤◌, ◌<◌, min}
 use mathlib.Core.Path.{◌≡◌, refl, sym, ap, ◌∙◌}
-use mathlib.Core.Bool.{Bool, true, false, cond}
-use mathlib.Core.List.{List, [], ◌∷◌, ◌++◌, append-nil}
+use mathlib.Core.Bool.{Bool, true, false}
+use mathlib.Core.List.{List, [], ◌++◌}
 use native.Mathlib.Nat.{min-eq_left, min-eq_right}
 use native.Mathlib.Omega.{arith}
-use lib.ListN.{length, take, drop, length-append}
-use lib.Seq.{length-take-le, take-length, take-append-add, paste, take-paste, length-paste}
-use lib.Dec.{leb, ltb}
+use lib.ListN.{length, take, length-append}
+use lib.Seq.{length-take-le, take-length, take-append-add, take-paste, length-paste}
+use lib.Dec.{ltb}
 use borrow.Author.Tests.{ltb-true, ltb-false, le-leb}
 use Rattle.wire_bytes.specs.Bytes.{put_whole}
 use Rattle.wire_prefix.specs.Prefix.{end_of, bad_end}

@@ -1,17 +1,16 @@
 -- The counts that calls leave, and a closed receiver. Assumes nothing.
 use Prim.Native.Nat.{ℕ, zero, suc, ◌+◌, ◌-◌, ◌/◌, ◌%◌, ◌≤◌, ◌<◌, min}
-use mathlib.Core.Path.{◌≡◌, refl, sym, ap, ◌∙◌}
+use mathlib.Core.Path.{◌≡◌, refl, sym, ◌∙◌}
 use mathlib.Core.Bool.{Bool, true, false}
-use mathlib.Core.List.{List, [], ◌∷◌, ◌++◌}
+use mathlib.Core.List.{List, ◌∷◌}
 use native.Mathlib.Nat.{min-eq_left}
 use native.Mathlib.Omega.{arith}
-use lib.ListN.{length, get_or, take, replicate, length-replicate}
-use lib.Dec.{leb, ltb, eqb}
+use lib.ListN.{length, get_or, replicate, length-replicate}
+use lib.Dec.{ltb, eqb}
 use borrow.Author.Tests.{ltb-true, ltb-false, eqb-true, eqb-false, le-leb}
 use Rattle.wire_bytes.specs.Bytes.{Bytes}
 use Rattle.wire_prefix.specs.Prefix.{end_of, bad_end}
 use Rattle.wire_prefix.proofs.Ends.{good-end, end-good, end_short, end_read, four}
-use Rattle.receiver.specs.declared.record.Record.{Record}
 use Rattle.receiver.specs.Receive.{fresh, shut, is_open, end_for, record_at, refused, accepted, received}
 use Rattle.receiver_laws.specs.Laws.{CallsLeave, CallsReach, ClosedForGood}
 use Rattle.receiver.proofs.Counts.{Counts, prefix, payload, counts, is_closed, in_prefix, in_payload, end-new, at_end, at_prefix, at_payload, record_is}

@@ -1,17 +1,17 @@
 -- A stream is cut into the frames that it is made of. Assumes nothing.
-use Prim.Native.Nat.{ℕ, zero, suc, ◌+◌, ◌-◌, ◌≤◌, ◌<◌}
+use Prim.Native.Nat.{ℕ, zero, suc, ◌+◌, ◌-◌, ◌≤◌}
 use mathlib.Core.Path.{◌≡◌, refl, sym, ap, ◌∙◌}
-use mathlib.Core.Bool.{Bool, true, false, ◌&&◌}
+use mathlib.Core.Bool.{Bool, true, false}
 use mathlib.Core.List.{List, [], ◌∷◌, ◌++◌, append-nil, append_assoc}
 use native.Mathlib.Omega.{arith}
 use lib.ListN.{length, take, drop, length-append, take-append-drop}
 use lib.Seq.{take_at, drop_at, length-take-le}
-use lib.Dec.{leb, ltb, eqb}
-use borrow.Author.Tests.{ltb-true, ltb-false, le-leb, lt-ltb, eq-eqb}
+use lib.Dec.{ltb}
+use borrow.Author.Tests.{ltb-false, le-leb, lt-ltb, eq-eqb}
 use Rattle.wire_bytes.specs.Bytes.{number_at}
 use Rattle.wire_prefix.specs.Prefix.{framed, end_of, bad_end}
-use Rattle.wire_prefix.proofs.Ends.{no_both, good-end, end-good, end_short, end_read, end_stays, framed-ends, both}
-use Rattle.receiver_laws.specs.Stream.{Cut, stop, halt, give, cut_in, cut, all_framed}
+use Rattle.wire_prefix.proofs.Ends.{good-end, end-good, end_short, end_read, end_stays, framed-ends, both}
+use Rattle.receiver_laws.specs.Stream.{Cut, give, cut_in, cut, all_framed}
 use Rattle.receiver_laws.specs.Driver.{joined}
 use Rattle.receiver_laws.specs.Laws.{CutsFrames, CutsBad, CutFramed, FramesArrive}
 use Rattle.receiver_laws.proofs.Cuttings.{Cuts, halts, stops, gives, cuts_cut, frames_of_stream}

@@ -1,12 +1,12 @@
 -- What is proved of the receiver. The proof of EveryCutting is every_cutting, in proofs/, and so for the others.
 -- Assumes nothing: these are statements.
-use Rattle.std.specs.Prelude.{ℕ, ◌<◌, ◌≤◌, ◌≡◌, true, false, List, [], ◌++◌, length, take, eqb}
+use Rattle.std.specs.Prelude.{ℕ, ◌<◌, ◌≤◌, ◌≡◌, true, false, List, [], ◌++◌, length, take}
 use Rattle.wire_bytes.specs.Bytes.{Bytes}
 use Rattle.wire_prefix.specs.Prefix.{most_frame, end_of, bad_end}
 use Rattle.receiver.specs.declared.record.Record.{Record}
 use Rattle.receiver_laws.specs.Stream.{Cut, all_framed, cut}
-use Rattle.receiver.specs.Receive.{fresh, shut, is_open, Done, refused, received}
-use Rattle.receiver_laws.specs.Driver.{Effect, Effects, applied, Driven, drive, joined, collect, seen, record_of}
+use Rattle.receiver.specs.Receive.{fresh, shut, is_open, refused, received}
+use Rattle.receiver_laws.specs.Driver.{Effect, applied, Driven, drive, joined, collect, seen, record_of}
 
 -- what a driver has is what a stream leads to: the state and the outputs of its frames applied one by one, the record,
 -- and in the room the bytes of an unfinished frame
