@@ -6,7 +6,7 @@ use native.Mathlib.Omega.{arith}
 use lib.ListN.{length, drop, length-append}
 use lib.Seq.{take-append_seam}
 use borrow.Author.Tests.{le-leb}
-use Rattle.wire_heads.specs.Head.{head_bytes, head_len, head_at, Within}
+use Rattle.wire_heads.specs.Head.{head_bytes, head_at, Within}
 use Rattle.wire_cbor.specs.Item.{Item, Items, Pairs, Got, got, bad, items_at, pairs_at, from_head, item_at, encode, encode_items, encode_pairs, count, count_pairs, Ok, OkItems, OkPairs}
 use Rattle.wire_heads.specs.Key.{key_at}
 use Rattle.wire_cbor.specs.Encodings.{ItemReadsBack}

@@ -1,8 +1,7 @@
 -- Pairs with ascending keys are known by what they hold under each key. Assumes nothing.
-use Prim.Native.Nat.{ℕ, ◌+◌, ◌<◌, ◌≤◌}
+use Prim.Native.Nat.{ℕ, ◌+◌, ◌≤◌}
 use mathlib.Core.Path.{◌≡◌, refl, sym, ◌∙◌}
 use mathlib.Core.Logic.{⊎_elim}
-use mathlib.Core.Option.{none}
 use native.Mathlib.Omega.{arith}
 use Rattle.wire_cbor.specs.Item.{Item, Pairs, Ok, OkPairs}
 use Rattle.wire_cbor.specs.Find.{value_of}

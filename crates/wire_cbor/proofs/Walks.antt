@@ -3,11 +3,9 @@ use Prim.Native.Nat.{ℕ, zero, suc, ◌+◌, ◌≤◌, ◌<◌}
 use mathlib.Core.Path.{◌≡◌, refl, sym, ap, ◌∙◌}
 use mathlib.Core.Logic.{⊎_elim}
 use mathlib.Core.List.{List}
-use mathlib.Core.Option.{Option, some, none}
+use mathlib.Core.Option.{some, none}
 use native.Mathlib.Omega.{arith}
-use lib.ListN.{drop}
 use borrow.Author.Tests.{le-leb, lt-ltb, le-ltb, eq-eqb, ne_eqb}
-use Rattle.wire_bytes.specs.Bytes.{Bytes}
 use Rattle.wire_heads.specs.Head.{head_at, head_len}
 use Rattle.wire_cbor.specs.Item.{Item, Pairs, Got, got, pairs_at, from_head, item_at, count_pairs}
 use Rattle.wire_heads.specs.Key.{key_at}
@@ -15,7 +13,6 @@ use Rattle.wire_cbor.specs.Find.{value_of, step_at, seek_at}
 use Rattle.wire_cbor.specs.Encodings.{Sought, WalkStarts, SeekExact}
 use Rattle.wire_heads.specs.declared.reading.Head.{Head}
 use Rattle.wire_heads.specs.declared.keys.Key.{Key}
-use Rattle.wire_cbor.specs.declared.pairs.Stop.{Stop}
 use Rattle.wire_bytes.proofs.Order.{below}
 use Rattle.wire_cbor.proofs.Sound.{then_inv}
 use Rattle.wire_cbor.proofs.Seen.{read_head_of, value_here, value_there, pairs-step}

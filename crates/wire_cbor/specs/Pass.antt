@@ -1,5 +1,5 @@
 -- How one pass notes the heads under the small keys, pair by pair. Assumes nothing: these are definitions.
-use Rattle.std.specs.Prelude.{ℕ, zero, suc, ◌+◌, ◌-◌, ◌*◌, ◌/◌, ◌%◌, ◌≡◌, cond, List, [], ◌∷◌, set, replicate, ltb, eqb}
+use Rattle.std.specs.Prelude.{ℕ, zero, suc, ◌+◌, ◌-◌, ◌*◌, ◌/◌, ◌%◌, ◌≡◌, cond, List, set, replicate, ltb, eqb}
 use Rattle.std.proofs.Math.Option.{some}
 use Rattle.wire_cbor.specs.Item.{Item, Pairs, Got, got, bad}
 use Rattle.wire_cbor.specs.Scan.{KEYS, LEVELS, KEY_HEADS, WORDS, STEP, key_head_of, pairs_in}
