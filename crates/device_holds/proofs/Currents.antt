@@ -1,12 +1,12 @@
 -- Currents never move the control state: it goes by links, the override and the power limits.
-use Prim.Native.Nat.{ℕ, zero, suc, ◌<◌}
-use mathlib.Core.Bool.{Bool, true, ◌||◌}
+use Prim.Native.Nat.{ℕ, suc}
+use mathlib.Core.Bool.{Bool, true}
 use mathlib.Core.Path.{◌≡◌, refl}
 use mathlib.Core.List.{List, [], ◌∷◌, foldl}
 use native.Mathlib.Omega.{arith}
 use lib.ListN.{length, get_or}
 use Rattle.device_store.specs.Quantities.{is_limit}
-use Rattle.device_store.specs.Zones.{id_of, rank_of, free_zone, any, is_joined, is_up, any_joined, any_up, held_of}
+use Rattle.device_store.specs.Zones.{id_of, rank_of, free_zone, any, is_joined, is_up, any_joined, any_up}
 use Rattle.device_holds.specs.Holds.{Claim, no_claim, claim_of, better, winner, Situation, in_failsafe, failsafe_value, value_at, state_at}
 use Rattle.device_holds.specs.Table.{ButForCurrents, StateAlone}
 use Rattle.device_store.specs.declared.Zone.{Zone}

@@ -2,7 +2,7 @@
 use Prim.Native.Nat.{ℕ, zero, suc, ◌<◌, ◌≤◌}
 use mathlib.Core.Bool.{Bool, true, false, ◌||◌}
 use mathlib.Core.Logic.{◌⊎◌, inl, inr, ⊎_elim}
-use mathlib.Core.Path.{◌≡◌, refl, sym, ◌∙◌}
+use mathlib.Core.Path.{◌≡◌, refl}
 use mathlib.Core.List.{List, [], ◌∷◌}
 use native.Mathlib.Nat.{le_of_suc-le-suc, not-suc-le-zero}
 use native.Mathlib.Omega.{arith}
@@ -12,8 +12,8 @@ use Rattle.wire_messages.specs.declared.Amount.TheVariants.{Absent, Is}
 use Rattle.device_store.specs.Zones.{free_zone, any, id_of, is_joined, any_joined, held_of}
 use Rattle.device_store.specs.Quantities.{is_limit, is_setpoint, is_current, direction_of, supports}
 use Rattle.wire_messages.specs.declared.Amount.{Amount}
-use Rattle.device_holds.specs.Holds.{Situation, value_at}
-use Rattle.device_holds.specs.Table.{Unexpired, Some, SmallestSource, Failsafe, ButForLinks, LosingLinks}
+use Rattle.device_holds.specs.Holds.{value_at}
+use Rattle.device_holds.specs.Table.{Unexpired, Some, SmallestSource, Failsafe, LosingLinks}
 use Rattle.device_store.specs.declared.Zone.{Zone}
 use Rattle.device_holds.proofs.Rows.{value_there, smallest_limit, none-up}
 

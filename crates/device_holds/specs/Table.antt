@@ -1,13 +1,12 @@
 -- What the table of links promises, in the tender's words: one statement for all quantities and directions.
-use Rattle.std.specs.Prelude.{ℕ, ◌+◌, ◌<◌, ◌≤◌, true, false, cond, not, ◌||◌, ◌⊎◌, ◌↔◌, ◌≡◌, List, [], ◌∷◌, ltb, eqb, length, get_or}
+use Rattle.std.specs.Prelude.{ℕ, ◌+◌, ◌<◌, ◌≤◌, true, false, not, ◌||◌, ◌⊎◌, ◌↔◌, ◌≡◌, List, [], ◌∷◌, eqb, length, get_or}
 use Rattle.refusals.specs.States.{CONTROLLED, LIMITED, FAILSAFE, OVERRIDE}
 use Rattle.wire_messages.specs.declared.Amount.TheVariants.{Absent, Is}
 use Rattle.device_store.specs.Quantities.{is_limit, is_setpoint, is_current, direction_of, supports}
 use Rattle.device_store.specs.Zones.{id_of, rank_of, free_zone, is_joined, any_joined, any_up, held_of}
-use Rattle.device_holds.specs.Holds.{no_claim, claim_of, goes_before, winner, Situation, in_failsafe, value_at, present, state_at}
+use Rattle.device_holds.specs.Holds.{claim_of, goes_before, winner, Situation, in_failsafe, value_at, present, state_at}
 use Rattle.refusals.specs.Refusals.{first_of}
 use Rattle.device_store.specs.declared.Zone.{Zone}
-use Rattle.device_store.specs.declared.Settings.{Settings}
 
 -- a zone that is joined and whose value of quantity q has not expired at t
 abbrev pub Unexpired : ℕ → ℕ → Zone → Type 0

@@ -1,0 +1,15 @@
+-- The first zone that is up decides; a joined one is kept in mind.
+use Prim.Native.Nat.{◌-◌, ◌≤◌}
+use mathlib.Core.Path.{◌≡◌}
+use lib.ListN.{drop}
+use Rattle.device_store.specs.Sizes.{slots}
+use Rattle.device_holds.specs.Links.{link_row}
+use Rattle.device_store.specs.Words.{zones_of}
+use Rattle.device_holds.proofs.LinkRow.{row_from}
+use Rattle.device_holds.proofs.links.link_row.Given as goal
+
+abbrev pub invariant-loop-i : goal.invariant-loop-i
+invariant-loop-i l = (l.i ≤ slots) × (row_from l.r (drop l.i (zones_of l.d)) ≡ link_row (zones_of l.d))
+
+abbrev pub decreases-loop-i : goal.decreases-loop-i
+decreases-loop-i l = slots - l.i
