@@ -1,6 +1,6 @@
 -- Hex digits in pairs, read from the front. Assumes nothing.
 use Prim.Native.Nat.{ℕ, suc, ◌+◌, ◌*◌, ◌/◌, ◌%◌, ◌≤◌, ◌<◌}
-use mathlib.Core.Path.{◌≡◌, refl, sym, ap, ◌∙◌}
+use mathlib.Core.Path.{◌≡◌, refl, sym, ◌∙◌}
 use mathlib.Core.Bool.{Bool, true, false, ◌&&◌}
 use mathlib.Core.List.{List, [], ◌∷◌}
 use native.Mathlib.Numerals.{add-one}
@@ -11,7 +11,6 @@ use lib.Seq.{drop-cons}
 use borrow.Author.Tests.{lt-ltb, le-ltb, le-leb, lt-leb, leb-true, eq-eqb, ne_eqb, eqb-true}
 use Rattle.wire_bytes.specs.Bytes.{put}
 use Rattle.console_words.specs.Hex.{is_hex, all_hex, nibble, hex_bytes, is_none, is_pairs, hex_read, hex_after}
-use Rattle.console_words.specs.declared.hex.Read.{Read}
 
 module _ (s : List ℕ) (i : ℕ) (q : Bool) (inv : all_hex (drop i s) ≡ q) where
   pub hex-broken : i < length s → is_hex (get_or s i 0) ≡ false → false ≡ q

@@ -1,6 +1,6 @@
 -- The pieces of an answer, one after the other. Assumes nothing.
-use Prim.Native.Nat.{ℕ, zero, suc, ◌+◌, ◌-◌, ◌*◌, ◌/◌, ◌≤◌, ◌<◌}
-use mathlib.Core.Path.{◌≡◌, refl, sym, ap, ◌∙◌}
+use Prim.Native.Nat.{ℕ, zero, suc, ◌+◌, ◌-◌, ◌*◌, ◌≤◌, ◌<◌}
+use mathlib.Core.Path.{◌≡◌, refl}
 use mathlib.Core.Bool.{Bool, true, false, cond}
 use mathlib.Core.List.{List, [], ◌∷◌, ◌++◌}
 use native.Mathlib.Numerals.{add-one}
@@ -11,7 +11,6 @@ use lib.ListN.{length, get_or, drop, take, length-drop}
 use lib.Seq.{drop-cons, drop-length}
 use borrow.Author.Tests.{le-leb, lt-leb, eq-eqb, ne_eqb}
 use Rattle.wire_bytes.specs.Bytes.{put, put_whole, past_whole}
-use Rattle.wire_bytes.proofs.PutLaws.{put_whole_lem, put-none}
 use Rattle.text.specs.Text.{signed, hex}
 use Rattle.text.proofs.Pieces.{ToDo, all_to_do}
 use Rattle.console_words.specs.Answers.{hex_or_none, list_pieces, pair_pieces, pairs_in, report_pieces}

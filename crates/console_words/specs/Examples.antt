@@ -1,6 +1,5 @@
 -- Words and what they say. Assumes nothing.
 use Rattle.std.specs.Prelude.{◌≡◌, refl, true, false, [], ◌∷◌}
-use Rattle.console_words.specs.declared.numbers.Number.{Number}
 use Rattle.console_words.specs.Numbers.{is_digit, at_most_largest, no_number, digits_from, digits_of, negated, number_of}
 use Rattle.console_words.specs.Hex.{nibble, hex_bytes}
 

@@ -1,0 +1,18 @@
+-- What was stored and what is left from each pair on make the whole.
+use Prim.Native.Nat.{◌+◌, ◌*◌}
+use Rattle.console_words.proofs.Pairs.{store-turn, store-end}
+use borrow.Author.Rules.{rules}
+use native.Mathlib.Omega.{arith}
+use Rattle.console_words.proofs.hex.store.Goals as goal
+
+pub loop-n-preserved : goal.loop-n-preserved
+loop-n-preserved c = (
+  omega arith,
+  search rules,
+  store-turn c.args.word.now c.loop-n.out c.loop-n.n (2 * c.loop-n.n) _ c.loop-n.invariant.2
+      (2 * (c.loop-n.n + 1)) _ (omega arith) (omega arith) c.pair.ensures,
+)
+
+pub returns : goal.returns
+returns c =
+    store-end c.args.word.now c.loop-n.out c.loop-n.n (2 * c.loop-n.n) _ c.loop-n.invariant.2 (omega arith)

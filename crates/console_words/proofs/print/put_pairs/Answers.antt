@@ -1,0 +1,34 @@
+-- What was put and what is left from each pair on make the whole.
+use mathlib.Core.Path.{refl}
+use mathlib.Core.List.{[], ◌∷◌}
+use Prim.Native.Nat.{◌+◌, ◌*◌}
+use native.Mathlib.Omega.{arith}
+use Rattle.text.proofs.Pieces.{all_to_do, one_done, run-done, all_done}
+use Rattle.console_words.proofs.Written.{report_none, report_some, pair_next, pair_full, pair_over}
+use Rattle.console_words.proofs.print.put_pairs.Goals as goal
+
+pub returns-then-n-eq0 : goal.returns-then-n-eq0
+returns-then-n-eq0 c =
+    let w = one_done _ _ _ _ _ _ _ _ _ (all_to_do c.args.out.now c.args.at ((32 ∷ 45 ∷ []) ∷ [])) (c.put_bytes.ensures.value, c.put_bytes.ensures.out_after) in
+    let both =
+    (all_done _ _ _ _ _ _ w refl) in
+    rw (← report_none c.args.pairs.now c.args.n c.if-n-eq0.true) (record { value = both.0; out_after = both.1 })
+
+pub returns-then-n-i : goal.returns-then-n-i
+returns-then-n-i c =
+    let both =
+    (all_done _ _ _ _ _ _ c.loop-i.invariant.0 (pair_full c.args.pairs.now c.args.n c.loop-i.i (2 * c.loop-i.i) c.if-n-i.true)) in
+    rw (← report_some c.args.pairs.now c.args.n c.if-n-eq0.false) (record { value = both.0; out_after = both.1 })
+
+pub loop-i-preserved : goal.loop-i-preserved
+loop-i-preserved c =
+    let next = pair_next c.args.pairs.now c.args.n c.loop-i.i (2 * c.loop-i.i) (2 * (c.loop-i.i + 1)) refl (omega arith) (omega arith) (omega arith) in (
+      run-done _ _ _ _ _ _ _ _ _ (rw next at c.loop-i.invariant.0) (rw (c.word.ensures, c.word-in-loop-i.ensures) at c.put_pair-p.ensures.value, rw (c.word.ensures, c.word-in-loop-i.ensures) at c.put_pair-p.ensures.out_after),
+      omega arith,
+    )
+
+pub returns : goal.returns
+returns c =
+    let both =
+    (all_done _ _ _ _ _ _ c.loop-i.invariant.0 (pair_over c.args.pairs.now c.args.n c.loop-i.i (2 * c.loop-i.i) (omega arith))) in
+    rw (← report_some c.args.pairs.now c.args.n c.if-n-eq0.false) (record { value = both.0; out_after = both.1 })
