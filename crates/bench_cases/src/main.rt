@@ -3,6 +3,9 @@
 
 ghost use Rattle.std.specs.Prelude.{◌≤◌};
 
+use std::io;
+use std::io::{Read, Write};
+
 // How much of `rest` a buffer of `len` bytes takes.
 fn part(rest: u64, len: usize) -> usize
     ensures { (result ≤ len) × (result ≤ rest) }
@@ -14,41 +17,43 @@ fn part(rest: u64, len: usize) -> usize
 }
 
 // Reads `left` bytes and passes them over.
-fn skip(left: u64) {
-    let mut room = io::large_buffer();
+fn skip<R: Read>(input: &mut R, left: u64) -> io::Result<()> {
+    let mut room = program_io::large_buffer();
     let buf: &mut [u8] = &mut room;
     let mut rest = left;
     while 0 < rest {
         let end = part(rest, buf.len());
-        let n = io::read_full(0, &mut buf[..end]);
+        let n = program_io::read_full(input, &mut buf[..end])?;
         if n == 0 {
-            return;
+            return Ok(());
         }
         rest -= n as u64;
     }
+    Ok(())
 }
 
 // Runs the next script; says false where there is none.
-fn case(n: u64) -> bool {
+fn case<R: Read, W: Write>(input: &mut R, output: &mut W, n: u64) -> io::Result<bool> {
     let mut prefix = [0u8; 4];
-    if io::read_full(0, &mut prefix) < 4 {
-        return false;
+    if program_io::read_full(input, &mut prefix)? < 4 {
+        return Ok(false);
     }
-    io::write_all(1, b"script ");
-    io::print_decimal(1, n);
-    io::write_all(1, b"\n");
-    let x = bench_stream::play(wire_bytes::get_u32(&prefix, 0));
-    skip(x.left);
-    true
+    writeln!(output, "script {n}")?;
+    let x = bench_stream::play(input, output, wire_bytes::get_u32(&prefix, 0))?;
+    skip(input, x.left)?;
+    Ok(true)
 }
 
-fn main() {
+fn main(rt: HostRuntime) -> io::Result<()> {
+    let mut input = rt.stdin();
+    let mut output = rt.stdout();
     let mut n: u64 = 0;
     while n < u64::MAX {
-        if case(n) {
+        if case(&mut input, &mut output, n)? {
             n += 1;
         } else {
-            return;
+            return Ok(());
         }
     }
+    Ok(())
 }

@@ -1,6 +1,9 @@
 // What of a script is read and not yet run.
-ghost use Rattle.std.specs.Prelude.{◌≡◌, ◌+◌, ◌≤◌, length, take};
-ghost use Rattle.bench_stream.specs.Buffer.{shifted, is_short, Filled};
+ghost use Rattle.std.specs.Prelude.{◌≡◌, ◌+◌, ◌-◌, ◌≤◌, length, take, IfOk, OnErr};
+ghost use Rattle.bench_stream.specs.Buffer.{bytes_in, shifted, is_short, Filled};
+
+use std::io;
+use std::io::Read;
 
 // The bytes of the buffer from `from` to `to`; `left` more may be read.
 #[derive(Clone, Copy)]
@@ -34,15 +37,14 @@ fn read_end(len: usize, to: usize, left: u64) -> usize
     len
 }
 
-// One read behind `to`: how many bytes it brought, 0 at the end of the input. What stands before stays.
-fn read_more(buf: &mut [u8], to: usize, left: u64) -> usize
+// One read behind `to`: how many bytes it brought, 0 at the end of the input. What stands before stays, also where it fails.
+fn read_more<R: Read>(input: &mut R, buf: &mut [u8], to: usize, left: u64) -> io::Result<usize>
     requires { to ≤ length buf.old }
-    ensures result_in_bounds { (to + result ≤ length buf.old) × (result ≤ left) }
+    ensures result_in_bounds { IfOk result (λ n. (to + n ≤ length buf.old) × (n ≤ left)) }
     ensures buf_unchanged { take to buf.new ≡ take to buf.old }
 {
     let end = read_end(buf.len(), to, left);
-    let got = libc::read(0, &mut buf[to..end]);
-    io::count(got, &buf[to..end])
+    input.read(&mut buf[to..end])
 }
 
 fn is_short(to: usize, left: u64) -> bool
@@ -51,10 +53,12 @@ fn is_short(to: usize, left: u64) -> bool
     to < bench_records::LONGEST && 0 < left
 }
 
-// Brings what is left to the front, and reads until a whole record must be there or the input ends.
-pub(crate) fn fill(buf: &mut [u8], x: Input) -> Input
+// Brings what is left to the front, and reads until a whole record must be there or the input ends. Where a read fails, what was
+// left stands at the front.
+pub(crate) fn fill<R: Read>(input: &mut R, buf: &mut [u8], x: Input) -> io::Result<Input>
     requires { (x.from ≤ x.to) × (x.to ≤ length buf.old) }
-    ensures { Filled buf.old x buf.new result }
+    ensures filled { IfOk result (λ y. Filled buf.old x buf.new y) }
+    ensures kept_on_error { OnErr result (take (x.to - x.from) buf.new ≡ bytes_in buf.old x.from x.to) }
 {
     let from = x.from;
     let end = x.to;
@@ -62,20 +66,20 @@ pub(crate) fn fill(buf: &mut [u8], x: Input) -> Input
     let mut to = end - from;
     let mut left = x.left;
     while is_short(to, left) {
-        let n = read_more(buf, to, left);
+        let n = read_more(input, buf, to, left)?;
         if n == 0 {
-            return Input {
+            return Ok(Input {
                 from: 0,
                 to: to,
                 left: 0,
-            };
+            });
         }
         to += n;
         left -= n as u64;
     }
-    Input {
+    Ok(Input {
         from: 0,
         to: to,
         left: left,
-    }
+    })
 }

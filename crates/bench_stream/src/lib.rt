@@ -1,4 +1,4 @@
-// Bench scripts from standard input to standard output, in large pieces and constant memory.
+// Bench scripts from a stream that is read to one that is written, in large pieces and constant memory.
 #![tactic(auto)]
 
 mod input; // input.rt: what is read and not yet run

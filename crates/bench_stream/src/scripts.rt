@@ -1,11 +1,13 @@
 // A script from its first record to its last.
-ghost use Rattle.std.specs.Prelude.{◌≡◌, true, ◌≤◌, length};
+ghost use Rattle.std.specs.Prelude.{◌≡◌, true, ◌≤◌, length, IfOk};
 ghost use Rattle.bench_script.specs.Bench.{frame_room, rows_room, answer_room};
 ghost use Rattle.bench_stream.specs.Ready.{goes_on};
 
 use crate::input::{Input, fill};
 use crate::pieces::{Place, run};
 use kernel::{PLAN, RESPONSE, State, WORDS};
+use std::io;
+use std::io::{Read, Write};
 
 // How a script ended: at a bad record, or at the end of what may be read; and how many bytes of that were not read.
 #[derive(Clone, Copy)]
@@ -15,15 +17,15 @@ pub struct Ended {
 }
 
 // Writes the answers on a page, and the last line where a record was bad.
-fn show(page: &[u8], p: Place) {
+fn show<W: Write>(output: &mut W, page: &[u8], p: Place) -> io::Result<()> {
     let at = p.at;
     if at <= page.len() {
-        io::write_all(1, &page[..at]);
+        output.write_all(&page[..at])?;
     }
     if p.good {
-        return;
+        return Ok(());
     }
-    io::write_all(1, b"bad record\n");
+    output.write_all(b"bad record\n")
 }
 
 // A piece in which nothing was run is the last.
@@ -34,16 +36,18 @@ fn goes_on(p: Place) -> bool
 }
 
 // Plays up to `limit` bytes of the input, piece by piece: up to a bad record, or all of them.
-fn play_with(
+fn play_with<R: Read, W: Write>(
+    input: &mut R,
+    output: &mut W,
     d: &mut State,
     limit: u64,
     buf: &mut [u8],
     page: &mut [u8],
     out: &mut [u8],
     rows: &mut [i64],
-) -> Ended
+) -> io::Result<Ended>
     requires { (frame_room ≤ length out.old) × (length rows.old ≡ rows_room) × (answer_room ≤ length page.old) }
-    ensures { (result.left ≤ limit) × (result.good ≡ true → result.left ≡ 0) }
+    ensures { IfOk result (λ e. (e.left ≤ limit) × (e.good ≡ true → e.left ≡ 0)) }
 {
     let mut x = Input {
         from: 0,
@@ -51,11 +55,11 @@ fn play_with(
         left: limit,
     };
     loop {
-        x = fill(buf, x);
+        x = fill(input, buf, x)?;
         let to = x.to;
         let left = x.left;
         let p = run(d, &buf[..to], left == 0, page, out, rows);
-        show(page, p);
+        show(output, page, p)?;
         if goes_on(p) {
             x = Input {
                 from: p.from,
@@ -63,23 +67,26 @@ fn play_with(
                 left: left,
             };
         } else {
-            return Ended {
+            return Ok(Ended {
                 left: left,
                 good: p.good,
-            };
+            });
         }
     }
 }
 
-// Plays a script of at most `limit` bytes on a fresh device. A script without a bad record is read to its end.
-pub fn play(limit: u64) -> Ended
-    ensures { (result.left ≤ limit) × (result.good ≡ true → result.left ≡ 0) }
+// Plays a script of at most `limit` bytes on a fresh device. A script without a bad record is read to its end. Where a read or a
+// write fails, some of the script is read and not run, or run and its answers not written whole.
+pub fn play<R: Read, W: Write>(input: &mut R, output: &mut W, limit: u64) -> io::Result<Ended>
+    ensures { IfOk result (λ e. (e.left ≤ limit) × (e.good ≡ true → e.left ≡ 0)) }
 {
     let mut d = [0u64; WORDS];
     kernel::start(&mut d, bench_script::bench_settings());
-    let mut buf = io::large_buffer();
-    let mut page = io::large_buffer();
+    let mut buf = program_io::large_buffer();
+    let mut page = program_io::large_buffer();
     let mut out = [0u8; RESPONSE];
     let mut rows = [0i64; PLAN];
-    play_with(&mut d, limit, &mut buf, &mut page, &mut out, &mut rows)
+    play_with(
+        input, output, &mut d, limit, &mut buf, &mut page, &mut out, &mut rows,
+    )
 }

@@ -5,8 +5,9 @@ ghost use Rattle.std.specs.Prelude.{◌≤◌};
 
 use console_lines::{ANSWER, LONGEST, ROOM};
 use kernel::{State, WORDS};
-use libc::{STDIN_FILENO, STDOUT_FILENO};
 use receiver::RECORD;
+use std::io;
+use std::io::{Read, Write};
 use ticks::FRONT;
 
 // How much of a line is kept from earlier pieces of the input, and where the next answer goes.
@@ -46,26 +47,28 @@ fn keep(kept: &mut [u8], have: usize, s: &[u8]) -> usize {
     n
 }
 
-fn flush(out: &[u8], at: usize) {
+fn flush<W: Write>(output: &mut W, out: &[u8], at: usize) -> io::Result<()> {
     if at <= out.len() {
-        io::write_all(STDOUT_FILENO, &out[..at]);
+        output.write_all(&out[..at])?;
     }
+    Ok(())
 }
 
 // Where the next answer goes: at the front, once the answers were written that leave no room for another.
-fn settle(out: &[u8], at: usize) -> usize {
+fn settle<W: Write>(output: &mut W, out: &[u8], at: usize) -> io::Result<usize> {
     if out.len() < ANSWER {
-        return at;
+        return Ok(at);
     }
     if at < out.len() - ANSWER {
-        return at;
+        return Ok(at);
     }
-    flush(out, at);
-    0
+    flush(output, out, at)?;
+    Ok(0)
 }
 
 // Answers the line that is kept.
-fn answer_kept(
+fn answer_kept<W: Write>(
+    output: &mut W,
     d: &mut State,
     words: &mut [u64; RECORD],
     room: &mut [u8],
@@ -75,16 +78,18 @@ fn answer_kept(
     bytes: &mut [u8],
     out: &mut [u8],
     at: usize,
-) -> usize {
+) -> io::Result<usize> {
     if n <= kept.len() {
-        let p = settle(out, at);
-        return console_lines::answer(d, words, room, front, &kept[..n], bytes, out, p);
+        let p = settle(output, out, at)?;
+        let end = console_lines::answer(d, words, room, front, &kept[..n], bytes, out, p);
+        return Ok(end);
     }
-    at
+    Ok(at)
 }
 
 // Answers a line, whose beginning may be kept.
-fn line(
+fn line<W: Write>(
+    output: &mut W,
     d: &mut State,
     words: &mut [u64; RECORD],
     room: &mut [u8],
@@ -94,18 +99,20 @@ fn line(
     bytes: &mut [u8],
     out: &mut [u8],
     place: Place,
-) -> usize {
+) -> io::Result<usize> {
     let have = place.kept;
     if have == 0 {
-        let p = settle(out, place.at);
-        return console_lines::answer(d, words, room, front, s, bytes, out, p);
+        let p = settle(output, out, place.at)?;
+        let end = console_lines::answer(d, words, room, front, s, bytes, out, p);
+        return Ok(end);
     }
     let n = keep(kept, have, s);
-    answer_kept(d, words, room, front, kept, n, bytes, out, place.at)
+    answer_kept(output, d, words, room, front, kept, n, bytes, out, place.at)
 }
 
 // Answers the line from `from` to `to`.
-fn part(
+fn part<W: Write>(
+    output: &mut W,
     d: &mut State,
     words: &mut [u64; RECORD],
     room: &mut [u8],
@@ -117,13 +124,24 @@ fn part(
     bytes: &mut [u8],
     out: &mut [u8],
     place: Place,
-) -> usize {
+) -> io::Result<usize> {
     if to <= s.len() {
         if from <= to {
-            return line(d, words, room, front, &s[from..to], kept, bytes, out, place);
+            return line(
+                output,
+                d,
+                words,
+                room,
+                front,
+                &s[from..to],
+                kept,
+                bytes,
+                out,
+                place,
+            );
         }
     }
-    place.at
+    Ok(place.at)
 }
 
 // Keeps the beginning of a line.
@@ -135,7 +153,8 @@ fn keep_rest(s: &[u8], from: usize, kept: &mut [u8], have: usize) -> usize {
 }
 
 // Answers the lines of a piece of the input, and keeps what is left.
-fn piece(
+fn piece<W: Write>(
+    output: &mut W,
     d: &mut State,
     words: &mut [u64; RECORD],
     room: &mut [u8],
@@ -145,7 +164,7 @@ fn piece(
     bytes: &mut [u8],
     out: &mut [u8],
     start: Place,
-) -> Place {
+) -> io::Result<Place> {
     let mut have = start.kept;
     let mut at = start.at;
     let mut from = 0;
@@ -153,9 +172,10 @@ fn piece(
         let end = line_end(s, from);
         if s.len() <= end {
             let n = keep_rest(s, from, kept, have);
-            return Place { kept: n, at };
+            return Ok(Place { kept: n, at });
         }
         at = part(
+            output,
             d,
             words,
             room,
@@ -167,15 +187,17 @@ fn piece(
             bytes,
             out,
             Place { kept: have, at },
-        );
+        )?;
         have = 0;
         from = end + 1;
     }
-    Place { kept: have, at }
+    Ok(Place { kept: have, at })
 }
 
 // Reads a piece, answers its lines, and writes the answers, so that one who types sees them.
-fn turn(
+fn turn<R: Read, W: Write>(
+    input: &mut R,
+    output: &mut W,
     d: &mut State,
     words: &mut [u64; RECORD],
     room: &mut [u8],
@@ -185,31 +207,32 @@ fn turn(
     out: &mut [u8],
     have: usize,
     more: &mut bool,
-) -> usize {
-    let mut input = io::large_buffer();
-    let got = libc::read(STDIN_FILENO, &mut input);
-    if got <= 0 {
+) -> io::Result<usize> {
+    let mut scrap = program_io::large_buffer();
+    let n = input.read(&mut scrap)?;
+    if n == 0 {
         *more = false;
-        return have;
+        return Ok(have);
     }
-    let n = io::count(got, &input);
     let place = piece(
+        output,
         d,
         words,
         room,
         front,
-        &input[..n],
+        &scrap[..n],
         kept,
         bytes,
         out,
         Place { kept: have, at: 0 },
-    );
-    flush(out, place.at);
-    place.kept
+    )?;
+    flush(output, out, place.at)?;
+    Ok(place.kept)
 }
 
 // A last line without its newline counts.
-fn finish(
+fn finish<W: Write>(
+    output: &mut W,
     d: &mut State,
     words: &mut [u64; RECORD],
     room: &mut [u8],
@@ -218,12 +241,14 @@ fn finish(
     n: usize,
     bytes: &mut [u8],
     out: &mut [u8],
-) {
-    let at = answer_kept(d, words, room, front, kept, n, bytes, out, 0);
-    flush(out, at);
+) -> io::Result<()> {
+    let at = answer_kept(output, d, words, room, front, kept, n, bytes, out, 0)?;
+    flush(output, out, at)
 }
 
-fn run(
+fn run<R: Read, W: Write>(
+    input: &mut R,
+    output: &mut W,
     d: &mut State,
     words: &mut [u64; RECORD],
     room: &mut [u8],
@@ -231,27 +256,37 @@ fn run(
     kept: &mut [u8],
     bytes: &mut [u8],
     out: &mut [u8],
-) {
+) -> io::Result<()> {
     let mut more = true;
     let mut have = 0;
     let mut turns = u64::MAX;
     while turns > 0 && more {
-        have = turn(d, words, room, front, kept, bytes, out, have, &mut more);
+        have = turn(
+            input, output, d, words, room, front, kept, bytes, out, have, &mut more,
+        )?;
         turns -= 1;
     }
-    finish(d, words, room, front, kept, have, bytes, out);
+    finish(output, d, words, room, front, kept, have, bytes, out)
 }
 
-fn main() {
+fn main(rt: HostRuntime) -> io::Result<()> {
     let mut d = [0u64; WORDS];
     let mut words = [0u64; RECORD];
     let mut room = [0u8; ROOM];
     let mut front = [0u64; FRONT];
     let mut kept = [0u8; LONGEST + 1];
     let mut bytes = [0u8; LONGEST / 2];
-    let mut out = io::large_buffer();
+    let mut out = program_io::large_buffer();
     console_lines::before_start(&mut d);
     run(
-        &mut d, &mut words, &mut room, &mut front, &mut kept, &mut bytes, &mut out,
-    );
+        &mut rt.stdin(),
+        &mut rt.stdout(),
+        &mut d,
+        &mut words,
+        &mut room,
+        &mut front,
+        &mut kept,
+        &mut bytes,
+        &mut out,
+    )
 }

@@ -6,8 +6,9 @@ ghost use Rattle.std.specs.Prelude.{◌≡◌, ◌≤◌, length, take};
 ghost use Rattle.rescue_walk.specs.Rescue.{longest_script};
 ghost use Rattle.rescue_walk.specs.Program.{kept_text, said_text, report_room, text_room};
 
-use libc::{STDERR_FILENO, STDIN_FILENO, STDOUT_FILENO};
 use rescue_walk::{REPORT, SCRIPT, TEXT};
+use std::io;
+use std::io::Write;
 
 // How many bytes come out, and how many are said.
 #[derive(Clone, Copy)]
@@ -16,10 +17,11 @@ struct Done {
     said: usize,
 }
 
-fn show(to: i32, bytes: &[u8], n: usize) {
+fn show<W: Write>(output: &mut W, bytes: &[u8], n: usize) -> io::Result<()> {
     if n <= bytes.len() {
-        io::write_all(to, &bytes[..n]);
+        output.write_all(&bytes[..n])?;
     }
+    Ok(())
 }
 
 // Rescues a script: what comes out stands at the front of `out`, all that is said of it at the front of `page`.
@@ -35,13 +37,13 @@ fn run(input: &[u8], out: &mut [u8], report: &mut [u64], page: &mut [u8]) -> Don
     }
 }
 
-fn main() {
+fn main(rt: HostRuntime) -> io::Result<()> {
     let mut input = [0u8; SCRIPT + 1];
     let mut out = [0u8; SCRIPT];
     let mut report = [0u64; REPORT];
     let mut page = [0u8; TEXT];
-    let n = io::read_full(STDIN_FILENO, &mut input);
+    let n = program_io::read_full(&mut rt.stdin(), &mut input)?;
     let x = run(&input[..n], &mut out, &mut report, &mut page);
-    show(STDOUT_FILENO, &out, x.kept);
-    show(STDERR_FILENO, &page, x.said);
+    show(&mut rt.stdout(), &out, x.kept)?;
+    show(&mut rt.stderr(), &page, x.said)
 }

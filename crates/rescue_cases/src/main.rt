@@ -3,103 +3,128 @@
 #![tactic(auto)]
 
 use kernel::{PLAN, RESPONSE, State, WORDS};
-use libc::{STDIN_FILENO, STDOUT_FILENO};
 use rescue_walk::{REPORT, SCRIPT};
+use std::io;
+use std::io::{Read, Write};
 
-fn show(bytes: &[u8], n: usize) {
+fn show<W: Write>(output: &mut W, bytes: &[u8], n: usize) -> io::Result<()> {
     if n <= bytes.len() {
-        io::write_all(STDOUT_FILENO, &bytes[..n]);
+        output.write_all(&bytes[..n])?;
     }
+    Ok(())
 }
 
 // Runs the record at `at` and prints its answer; says where the next one starts, the end behind a bad one.
-fn step(
+fn step<W: Write>(
+    output: &mut W,
     d: &mut State,
     s: &[u8],
     at: usize,
     page: &mut [u8],
     out: &mut [u8],
     rows: &mut [i64],
-) -> usize {
+) -> io::Result<usize> {
     let x = bench_script::step(d, s, at, out, rows);
     if x.good {
         let p = bench_script::print_answer(page, 0, x.number, rows, x.count);
-        show(page, p);
-        return x.next;
+        show(output, page, p)?;
+        return Ok(x.next);
     }
-    io::write_all(STDOUT_FILENO, b"bad record\n");
-    s.len()
+    output.write_all(b"bad record\n")?;
+    Ok(s.len())
 }
 
 // A script has no more records than bytes.
-fn play_with(d: &mut State, s: &[u8], page: &mut [u8], out: &mut [u8], rows: &mut [i64]) {
+fn play_with<W: Write>(
+    output: &mut W,
+    d: &mut State,
+    s: &[u8],
+    page: &mut [u8],
+    out: &mut [u8],
+    rows: &mut [i64],
+) -> io::Result<()> {
     let mut at = 0;
     let mut left = s.len();
     while 0 < left {
         if s.len() <= at {
-            return;
+            return Ok(());
         }
-        at = step(d, s, at, page, out, rows);
+        at = step(output, d, s, at, page, out, rows)?;
         left -= 1;
     }
+    Ok(())
 }
 
 // Plays a script on a fresh device.
-fn play(s: &[u8], page: &mut [u8]) {
+fn play<W: Write>(output: &mut W, s: &[u8], page: &mut [u8]) -> io::Result<()> {
     let mut d = [0u64; WORDS];
     kernel::start(&mut d, bench_script::bench_settings());
     let mut out = [0u8; RESPONSE];
     let mut rows = [0i64; PLAN];
-    play_with(&mut d, s, page, &mut out, &mut rows);
+    play_with(output, &mut d, s, page, &mut out, &mut rows)
 }
 
-fn run(input: &[u8], kept: &mut [u8], report: &mut [u64], page: &mut [u8]) {
+fn run<W: Write>(
+    output: &mut W,
+    input: &[u8],
+    kept: &mut [u8],
+    report: &mut [u64],
+    page: &mut [u8],
+) -> io::Result<()> {
     let x = rescue_walk::rescue(input, kept, report);
     let n = rescue_walk::put_text(page, 0, x.number, x.runs, report);
-    show(page, n);
+    show(output, page, n)?;
     let end = x.length;
     if end <= kept.len() {
-        play(&kept[..end], page);
+        play(output, &kept[..end], page)?;
     }
+    Ok(())
 }
 
-fn rescue(input: &[u8]) {
+fn rescue<W: Write>(output: &mut W, input: &[u8]) -> io::Result<()> {
     let mut kept = [0u8; SCRIPT];
     let mut report = [0u64; REPORT];
-    let mut page = io::large_buffer();
-    run(input, &mut kept, &mut report, &mut page);
+    let mut page = program_io::large_buffer();
+    run(output, input, &mut kept, &mut report, &mut page)
 }
 
 // Reads and rescues a script of so many bytes; says false where it is cut, or longer than one byte above the size.
-fn take(input: &mut [u8], size: usize) -> bool {
-    if size <= input.len() {
-        let got = io::read_full(STDIN_FILENO, &mut input[..size]);
-        rescue(&input[..size]);
-        return got == size;
+fn take<R: Read, W: Write>(
+    input: &mut R,
+    output: &mut W,
+    script: &mut [u8],
+    size: usize,
+) -> io::Result<bool> {
+    if size <= script.len() {
+        let got = program_io::read_full(input, &mut script[..size])?;
+        rescue(output, &script[..size])?;
+        return Ok(got == size);
     }
-    false
+    Ok(false)
 }
 
 // The next script; says false where there is none.
-fn case(n: u64) -> bool {
+fn case<R: Read, W: Write>(input: &mut R, output: &mut W, n: u64) -> io::Result<bool> {
     let mut prefix = [0u8; 4];
-    if io::read_full(STDIN_FILENO, &mut prefix) < 4 {
-        return false;
+    if program_io::read_full(input, &mut prefix)? < 4 {
+        return Ok(false);
     }
-    io::write_all(STDOUT_FILENO, b"script ");
-    io::print_decimal(STDOUT_FILENO, n);
-    io::write_all(STDOUT_FILENO, b"\n");
-    let mut input = [0u8; SCRIPT + 1];
-    take(&mut input, wire_bytes::get_u32(&prefix, 0) as usize)
+    writeln!(output, "script {n}")?;
+    let mut script = [0u8; SCRIPT + 1];
+    let size = wire_bytes::get_u32(&prefix, 0) as usize;
+    take(input, output, &mut script, size)
 }
 
-fn main() {
+fn main(rt: HostRuntime) -> io::Result<()> {
+    let mut input = rt.stdin();
+    let mut output = rt.stdout();
     let mut n: u64 = 0;
     while n < u64::MAX {
-        if case(n) {
+        if case(&mut input, &mut output, n)? {
             n += 1;
         } else {
-            return;
+            return Ok(());
         }
     }
+    Ok(())
 }

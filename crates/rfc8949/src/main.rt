@@ -3,21 +3,23 @@
 // its count before its elements. Behind a map stand the keys 0 to 31 that are found in it, each with its value's position.
 #![tactic(auto)]
 
-use libc::{STDIN_FILENO, STDOUT_FILENO};
+use std::io;
+use std::io::Write;
 use wire_cbor::{KeyHead, Stop};
 use wire_heads::Head;
 use wire_messages::Field;
 
-fn text(s: &[u8]) {
-    io::write_all(STDOUT_FILENO, s);
+fn text<W: Write>(output: &mut W, s: &[u8]) -> io::Result<()> {
+    output.write_all(s)
 }
 
-fn part(s: &[u8], from: usize, to: usize) {
+fn part<W: Write>(output: &mut W, s: &[u8], from: usize, to: usize) -> io::Result<()> {
     if to <= s.len() {
         if from <= to {
-            text(&s[from..to]);
+            text(output, &s[from..to])?;
         }
     }
+    Ok(())
 }
 
 // A byte of the input; a line end past its end.
@@ -92,35 +94,32 @@ fn below_zero(v: i64) -> u64 {
 }
 
 // Shows a number that is not negative, or -1 - n.
-fn show_number(v: i64) {
+fn show_number<W: Write>(output: &mut W, v: i64) -> io::Result<()> {
     if v < 0 {
-        text(b" -");
-        io::print_decimal(STDOUT_FILENO, above(below_zero(v)));
+        let n = above(below_zero(v));
+        write!(output, " -{n}")
     } else {
-        text(b" ");
-        io::print_decimal(STDOUT_FILENO, natural(v));
+        let n = natural(v);
+        write!(output, " {n}")
     }
 }
 
-fn show_field(field: Field) {
+fn show_field<W: Write>(output: &mut W, field: Field) -> io::Result<()> {
     match field {
-        Field::Absent => {}
-        Field::Null => {}
-        Field::Value(v) => {
-            show_number(v);
-        }
+        Field::Absent => Ok(()),
+        Field::Null => Ok(()),
+        Field::Value(v) => show_number(output, v),
     }
 }
 
 // Shows an integer by its head.
-fn show_int(major: u64, arg: u64) {
+fn show_int<W: Write>(output: &mut W, major: u64, arg: u64) -> io::Result<()> {
     let value = wire_fields::read_value(KeyHead { major, arg }, false);
     let field = value.field;
     if value.ok {
-        show_field(field);
-        return;
+        return show_field(output, field);
     }
-    text(b" out of range");
+    text(output, b" out of range")
 }
 
 // n + 1, where there is one.
@@ -138,13 +137,14 @@ fn above(n: u64) -> u64 {
     n + 1
 }
 
-fn show_hex(s: &[u8], from: usize, to: usize) {
+fn show_hex<W: Write>(output: &mut W, s: &[u8], from: usize, to: usize) -> io::Result<()> {
     let mut i = from;
     while i < to {
-        io::print_hex(STDOUT_FILENO, byte(s, i) as u64, 2);
+        let b = byte(s, i);
+        write!(output, "{b:02x}")?;
         i += 1;
     }
-    text(b"'");
+    text(output, b"'")
 }
 
 // The position n places on, or the end.
@@ -158,137 +158,156 @@ fn onward(s: &[u8], at: usize, n: u64) -> usize {
     s.len()
 }
 
-fn show_count(name: &[u8], n: u64) {
-    text(name);
-    io::print_decimal(STDOUT_FILENO, n);
+fn show_count<W: Write>(output: &mut W, name: &[u8], n: u64) -> io::Result<()> {
+    text(output, name)?;
+    write!(output, "{n}")
 }
 
-fn show_simple(v: u64) {
+fn show_simple<W: Write>(output: &mut W, v: u64) -> io::Result<()> {
     if v == 20 {
-        text(b" false");
+        return text(output, b" false");
     }
     if v == 21 {
-        text(b" true");
+        return text(output, b" true");
     }
     if v == 22 {
-        text(b" null");
+        return text(output, b" null");
     }
+    Ok(())
 }
 
 // Shows what the head at `at` says, and gives the position of the next head.
-fn show_head(s: &[u8], at: usize) -> usize {
+fn show_head<W: Write>(output: &mut W, s: &[u8], at: usize) -> io::Result<usize> {
     match wire_heads::read_head(s, at) {
-        Head::Bad => s.len(),
+        Head::Bad => Ok(s.len()),
         Head::Is(major, v, next) => {
             if major < 2 {
-                show_int(major, v);
-                return next;
+                show_int(output, major, v)?;
+                return Ok(next);
             }
             if major < 4 {
                 if major == 2 {
-                    text(b" h'");
+                    text(output, b" h'")?;
                 } else {
-                    text(b" t'");
+                    text(output, b" t'")?;
                 }
                 let end = onward(s, next, v);
-                show_hex(s, next, end);
-                return end;
+                show_hex(output, s, next, end)?;
+                return Ok(end);
             }
             if major == 4 {
-                show_count(b" array ", v);
+                show_count(output, b" array ", v)?;
             }
             if major == 5 {
-                show_count(b" map ", v);
+                show_count(output, b" map ", v)?;
             }
             if major == 7 {
-                show_simple(v);
+                show_simple(output, v)?;
             }
-            next
+            Ok(next)
         }
     }
 }
 
-fn show_heads(s: &[u8]) {
+fn show_heads<W: Write>(output: &mut W, s: &[u8]) -> io::Result<()> {
     let mut at: usize = 0;
     let mut turns = s.len();
     while turns > 0 {
         if s.len() <= at {
-            return;
+            return Ok(());
         }
-        at = show_head(s, at);
+        at = show_head(output, s, at)?;
         turns -= 1;
     }
+    Ok(())
 }
 
-fn show_key(s: &[u8], key: u64) {
+fn show_key<W: Write>(output: &mut W, s: &[u8], key: u64) -> io::Result<()> {
     match wire_heads::read_head(s, 0) {
-        Head::Bad => {}
+        Head::Bad => Ok(()),
         Head::Is(major, n, next) => {
             if major == 5 {
-                show_found(wire_cbor::seek(s, next, n, key, wire_cbor::DEPTH - 1), key);
+                let stop = wire_cbor::seek(s, next, n, key, wire_cbor::DEPTH - 1);
+                show_found(output, stop, key)?;
             }
+            Ok(())
         }
     }
 }
 
-fn show_found(stop: Stop, key: u64) {
+fn show_found<W: Write>(output: &mut W, stop: Stop, key: u64) -> io::Result<()> {
     if stop.there {
-        show_count(b" ", key);
-        show_count(b"@", stop.at as u64);
+        show_count(output, b" ", key)?;
+        show_count(output, b"@", stop.at as u64)?;
     }
+    Ok(())
 }
 
-fn show_keys(s: &[u8]) {
+fn show_keys<W: Write>(output: &mut W, s: &[u8]) -> io::Result<()> {
     let mut key: u64 = 0;
     while key < 32 {
-        show_key(s, key);
+        show_key(output, s, key)?;
         key += 1;
     }
+    Ok(())
 }
 
-fn show(s: &[u8]) {
+fn show<W: Write>(output: &mut W, s: &[u8]) -> io::Result<()> {
     if wire_cbor::is_item(s) {
-        text(b" accepted");
-        show_heads(s);
-        show_keys(s);
-        return;
+        text(output, b" accepted")?;
+        show_heads(output, s)?;
+        return show_keys(output, s);
     }
-    text(b" refused");
+    text(output, b" refused")
 }
 
 // Shows what the hex digits from `from` to `to` say, by way of `out`.
-fn show_bytes(s: &[u8], from: usize, to: usize, out: &mut [u8]) {
+fn show_bytes<W: Write>(
+    output: &mut W,
+    s: &[u8],
+    from: usize,
+    to: usize,
+    out: &mut [u8],
+) -> io::Result<()> {
     let n = decode(s, from, to, out);
     if n <= out.len() {
-        show(&out[..n]);
+        show(output, &out[..n])?;
     }
+    Ok(())
 }
 
 // One line: the name up to the space, the bytes behind it.
-fn line(s: &[u8], from: usize, to: usize, out: &mut [u8]) {
+fn line<W: Write>(
+    output: &mut W,
+    s: &[u8],
+    from: usize,
+    to: usize,
+    out: &mut [u8],
+) -> io::Result<()> {
     let space = position(s, from, to, b' ');
-    part(s, from, space);
-    show_bytes(s, next(space), to, out);
-    text(b"\n");
+    part(output, s, from, space)?;
+    show_bytes(output, s, next(space), to, out)?;
+    text(output, b"\n")
 }
 
-fn lines(s: &[u8], out: &mut [u8]) {
+fn lines<W: Write>(output: &mut W, s: &[u8], out: &mut [u8]) -> io::Result<()> {
     let mut at: usize = 0;
     let mut turns = s.len();
     while turns > 0 {
         if s.len() <= at {
-            return;
+            return Ok(());
         }
         let end = position(s, at, s.len(), b'\n');
-        line(s, at, end, out);
+        line(output, s, at, end, out)?;
         at = next(end);
         turns -= 1;
     }
+    Ok(())
 }
 
-fn main() {
-    let mut room = io::large_buffer();
-    let mut item = io::buffer();
-    let n = io::read_full(STDIN_FILENO, &mut room);
-    lines(&room[..n], &mut item);
+fn main(rt: HostRuntime) -> io::Result<()> {
+    let mut room = program_io::large_buffer();
+    let mut item = program_io::buffer();
+    let n = program_io::read_full(&mut rt.stdin(), &mut room)?;
+    lines(&mut rt.stdout(), &room[..n], &mut item)
 }

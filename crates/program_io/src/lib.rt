@@ -1,0 +1,40 @@
+// What the programs share of their streams: buffers by value, and a read that goes on until its buffer is full. A stream is
+// lent, so that a program hands its own and a test what it likes. A read that fails is handed on as its error, also one that a
+// signal interrupts before it moves a byte.
+#![tactic(auto)]
+
+ghost use Rattle.std.specs.Prelude.{◌≡◌, length};
+ghost use Rattle.std.specs.Io.{ReadsAtMost};
+
+use std::io;
+use std::io::Read;
+
+// 4,096 zeros.
+pub fn buffer() -> [u8; 4096]
+    ensures { 4096 ≡ length result }
+{
+    [0; 4096]
+}
+
+// 65,536 zeros, for a loop that moves much data and would spend its time on calls of 4,096 bytes.
+pub fn large_buffer() -> [u8; 65536]
+    ensures { 65536 ≡ length result }
+{
+    [0; 65536]
+}
+
+// Reads until `buf` is full or the input ends, and says how many bytes it put at the start of `buf`. Where `buf` is empty it
+// makes no call. Where a read fails, what the reads before it brought stands at the start of `buf`, and no one says how much.
+pub fn read_full<R: Read>(input: &mut R, buf: &mut [u8]) -> io::Result<usize>
+    ensures { ReadsAtMost result buf.new }
+{
+    let mut done = 0;
+    while done < buf.len() {
+        let n = input.read(&mut buf[done..])?;
+        if n == 0 {
+            break;
+        }
+        done += n;
+    }
+    Ok(done)
+}
