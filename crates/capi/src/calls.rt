@@ -8,53 +8,42 @@ ghost use Rattle.capi.specs.Words.{settings_of, inputs_of};
 use crate::words::{INPUTS, SETTINGS, inputs_of, settings_of};
 use kernel::{Row, State, VALUES};
 
-#[unsafe(no_mangle)]
-pub extern "C" fn cekarum_interface_2_start(device: &mut State, settings: &[u64; SETTINGS]) -> u64
+pub fn cekarum_interface_2_start(device: &mut State, settings: &[u64; SETTINGS]) -> u64
     ensures value { result ≡ start_number (settings_of settings.now) }
     ensures device_after { device.new ≡ start_after (settings_of settings.now) }
 {
     kernel::start(device, settings_of(*settings))
 }
 
-#[unsafe(no_mangle)]
-pub extern "C" fn cekarum_interface_2_join(
-    device: &mut State,
-    zone: u64,
-    rank: u64,
-    time: u64,
-) -> u64
+pub fn cekarum_interface_2_join(device: &mut State, zone: u64, rank: u64, time: u64) -> u64
     ensures value { result ≡ join_number device.old zone rank time }
     ensures device_after { device.new ≡ join_after device.old zone rank time }
 {
     kernel::join(device, zone, rank, time)
 }
 
-#[unsafe(no_mangle)]
-pub extern "C" fn cekarum_interface_2_leave(device: &mut State, zone: u64, time: u64) -> u64
+pub fn cekarum_interface_2_leave(device: &mut State, zone: u64, time: u64) -> u64
     ensures value { result ≡ leave_number device.old zone time }
     ensures device_after { device.new ≡ leave_after device.old zone time }
 {
     kernel::leave(device, zone, time)
 }
 
-#[unsafe(no_mangle)]
-pub extern "C" fn cekarum_interface_2_lost(device: &mut State, zone: u64, time: u64) -> u64
+pub fn cekarum_interface_2_lost(device: &mut State, zone: u64, time: u64) -> u64
     ensures value { result ≡ link_number device.old zone false time }
     ensures device_after { device.new ≡ link_after device.old zone false time }
 {
     kernel::lost(device, zone, time)
 }
 
-#[unsafe(no_mangle)]
-pub extern "C" fn cekarum_interface_2_back(device: &mut State, zone: u64, time: u64) -> u64
+pub fn cekarum_interface_2_back(device: &mut State, zone: u64, time: u64) -> u64
     ensures value { result ≡ link_number device.old zone true time }
     ensures device_after { device.new ≡ link_after device.old zone true time }
 {
     kernel::back(device, zone, time)
 }
 
-#[unsafe(no_mangle)]
-pub extern "C" fn cekarum_interface_2_override(
+pub fn cekarum_interface_2_override(
     device: &mut State,
     reason: u64,
     direction: u64,
@@ -66,16 +55,14 @@ pub extern "C" fn cekarum_interface_2_override(
     kernel::set_override(device, reason, direction, time)
 }
 
-#[unsafe(no_mangle)]
-pub extern "C" fn cekarum_interface_2_clear(device: &mut State, time: u64) -> u64
+pub fn cekarum_interface_2_clear(device: &mut State, time: u64) -> u64
     ensures value { result ≡ clear_number device.old time }
     ensures device_after { device.new ≡ clear_after device.old time }
 {
     kernel::clear_override(device, time)
 }
 
-#[unsafe(no_mangle)]
-pub extern "C" fn cekarum_interface_2_move(device: &mut State, time: u64) -> u64
+pub fn cekarum_interface_2_move(device: &mut State, time: u64) -> u64
     ensures value { result ≡ move_number device.old time }
     ensures device_after { device.new ≡ move_after device.old time }
 {
@@ -83,15 +70,13 @@ pub extern "C" fn cekarum_interface_2_move(device: &mut State, time: u64) -> u64
 }
 
 // An ask and the two plans are lent the device unchangeable: they take no time, and nothing moves.
-#[unsafe(no_mangle)]
-pub extern "C" fn cekarum_interface_2_ask(device: &State, values: &mut [i64; VALUES])
+pub fn cekarum_interface_2_ask(device: &State, values: &mut [i64; VALUES])
     ensures { values.new ≡ ask_answer device.now }
 {
     *values = kernel::ask(device);
 }
 
-#[unsafe(no_mangle)]
-pub extern "C" fn cekarum_interface_2_plan(device: &State, rows: &mut [i64], count: &mut u64) -> u64
+pub fn cekarum_interface_2_plan(device: &State, rows: &mut [i64], count: &mut u64) -> u64
     ensures value { result ≡ (plan_answer device.now (length rows.old)).number }
     ensures rows_after { rows.new ≡ plan_slice device.now rows.old }
     ensures count_after { count.new ≡ (plan_answer device.now (length rows.old)).count }
@@ -101,12 +86,7 @@ pub extern "C" fn cekarum_interface_2_plan(device: &State, rows: &mut [i64], cou
     planned.number
 }
 
-#[unsafe(no_mangle)]
-pub extern "C" fn cekarum_interface_2_plain_plan(
-    device: &State,
-    rows: &mut [Row],
-    count: &mut u64,
-) -> u64
+pub fn cekarum_interface_2_plain_plan(device: &State, rows: &mut [Row], count: &mut u64) -> u64
     ensures value { result ≡ (plain_answer device.now (length rows.old)).number }
     ensures rows_after { rows.new ≡ plain_slice device.now rows.old }
     ensures count_after { count.new ≡ (plain_answer device.now (length rows.old)).count }
@@ -116,8 +96,7 @@ pub extern "C" fn cekarum_interface_2_plain_plan(
     planned.number
 }
 
-#[unsafe(no_mangle)]
-pub extern "C" fn cekarum_interface_2_report(
+pub fn cekarum_interface_2_report(
     inputs: &[u64; INPUTS],
     attributes: &[u16],
     pairs: &mut [u64],

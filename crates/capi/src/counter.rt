@@ -5,12 +5,7 @@ ghost use Rattle.ticks.specs.Words.{reading_in, words_left};
 use ticks::FRONT;
 
 // Of the tick the low 32 bits count.
-#[unsafe(no_mangle)]
-pub extern "C" fn cekarum_interface_2_tick(
-    front: &mut [u64; FRONT],
-    tick: u64,
-    seconds: &mut i64,
-) -> u64
+pub fn cekarum_interface_2_tick(front: &mut [u64; FRONT], tick: u64, seconds: &mut i64) -> u64
     ensures value { result ≡ (reading_in front.old tick).number }
     ensures front_after { front.new ≡ words_left front.old tick }
     ensures seconds_after { seconds.new ≡ (reading_in front.old tick).seconds }

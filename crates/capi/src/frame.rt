@@ -4,8 +4,7 @@ ghost use Rattle.kernel.specs.Frame.{frame_answer, frame_after, frame_out};
 
 use kernel::State;
 
-#[unsafe(no_mangle)]
-pub extern "C" fn cekarum_interface_2_frame(
+pub fn cekarum_interface_2_frame(
     device: &mut State,
     zone: u64,
     time: u64,

@@ -6,16 +6,14 @@ ghost use Rattle.capi.specs.Meter.{measurement_written, measurement_left, flow_i
 
 use measurement::{Words, flow_number};
 
-#[unsafe(no_mangle)]
-pub extern "C" fn cekarum_interface_2_read_measurement(payload: &[u8], words: &mut Words) -> u64
+pub fn cekarum_interface_2_read_measurement(payload: &[u8], words: &mut Words) -> u64
     ensures value { result ≡ read_number payload.now }
     ensures words_after { words.new ≡ read_after payload.now words.old }
 {
     measurement::read_measurement(payload, words)
 }
 
-#[unsafe(no_mangle)]
-pub extern "C" fn cekarum_interface_2_write_measurement(
+pub fn cekarum_interface_2_write_measurement(
     words: &Words,
     out: &mut [u8],
     written: &mut u64,
@@ -29,22 +27,19 @@ pub extern "C" fn cekarum_interface_2_write_measurement(
     w.number
 }
 
-#[unsafe(no_mangle)]
-pub extern "C" fn cekarum_interface_2_power_flow(words: &Words) -> u64
+pub fn cekarum_interface_2_power_flow(words: &Words) -> u64
     ensures { result ≡ flow_in words.now ac_active_power 0 }
 {
     flow_number(measurement::power_flow(words))
 }
 
-#[unsafe(no_mangle)]
-pub extern "C" fn cekarum_interface_2_dc_flow(words: &Words) -> u64
+pub fn cekarum_interface_2_dc_flow(words: &Words) -> u64
     ensures { result ≡ flow_in words.now dc_power 0 }
 {
     flow_number(measurement::dc_flow(words))
 }
 
-#[unsafe(no_mangle)]
-pub extern "C" fn cekarum_interface_2_phase_flow(words: &Words, phase: u64) -> u64
+pub fn cekarum_interface_2_phase_flow(words: &Words, phase: u64) -> u64
     ensures { result ≡ flow_in words.now ac_active_power_per_phase phase }
 {
     flow_number(measurement::phase_flow(words, phase as usize))

@@ -10,8 +10,7 @@ use capi_messages::{
 use kernel::Reading;
 
 // At a refusal the words and values stay as they were.
-#[unsafe(no_mangle)]
-pub extern "C" fn cekarum_interface_2_read_request(
+pub fn cekarum_interface_2_read_request(
     frame: &[u8],
     words: &mut [u64; REQUEST],
     values: &mut [i64; FIELDS],
@@ -33,8 +32,7 @@ pub extern "C" fn cekarum_interface_2_read_request(
     }
 }
 
-#[unsafe(no_mangle)]
-pub extern "C" fn cekarum_interface_2_write_request(
+pub fn cekarum_interface_2_write_request(
     words: &[u64; REQUEST],
     values: &[i64; FIELDS],
     out: &mut [u8],

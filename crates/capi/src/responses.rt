@@ -10,8 +10,7 @@ use capi_messages::{
 use kernel::Answer;
 
 // At a refusal the words and values stay as they were.
-#[unsafe(no_mangle)]
-pub extern "C" fn cekarum_interface_2_read_response(
+pub fn cekarum_interface_2_read_response(
     command: u64,
     frame: &[u8],
     words: &mut [u64; RESPONSE],
@@ -33,8 +32,7 @@ pub extern "C" fn cekarum_interface_2_read_response(
     }
 }
 
-#[unsafe(no_mangle)]
-pub extern "C" fn cekarum_interface_2_write_response(
+pub fn cekarum_interface_2_write_response(
     command: u64,
     words: &[u64; RESPONSE],
     values: &[i64; AMOUNTS],

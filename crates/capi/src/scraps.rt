@@ -5,8 +5,7 @@ ghost use Rattle.receiver.specs.Words.{record_in, words_left, counts_left};
 
 use receiver::{COUNTS, RECORD};
 
-#[unsafe(no_mangle)]
-pub extern "C" fn cekarum_interface_2_receive(
+pub fn cekarum_interface_2_receive(
     words: &mut [u64; RECORD],
     room: &mut [u8],
     scrap: &[u8],

@@ -1,0 +1,37 @@
+// Responses for C: words and values, read and written as the kernel reads and writes.
+ghost use Rattle.std.specs.Prelude.{◌≡◌, length};
+ghost use Rattle.kernel.specs.Door.{read_response};
+ghost use Rattle.wire_responses.specs.Responses.{answer_number};
+ghost use Rattle.capi.specs.Responses.{response_words_after, response_values_after, response_written, response_left};
+
+use capi_messages::{AMOUNTS, RESPONSE};
+
+// At a refusal the words and values stay as they were.
+#[unsafe(no_mangle)]
+pub extern "C" fn cekarum_interface_2_read_response(
+    command: u64,
+    frame: &[u8],
+    words: &mut [u64; RESPONSE],
+    values: &mut [i64; AMOUNTS],
+) -> u64
+    ensures value { result ≡ answer_number (read_response command frame.now) }
+    ensures words_after { words.new ≡ response_words_after (read_response command frame.now) words.old }
+    ensures values_after { values.new ≡ response_values_after (read_response command frame.now) values.old }
+{
+    capi::cekarum_interface_2_read_response(command, frame, words, values)
+}
+
+#[unsafe(no_mangle)]
+pub extern "C" fn cekarum_interface_2_write_response(
+    command: u64,
+    words: &[u64; RESPONSE],
+    values: &[i64; AMOUNTS],
+    out: &mut [u8],
+    written: &mut u64,
+) -> u64
+    ensures value { result ≡ (response_written command words.now values.now (length out.old)).number }
+    ensures out_after { out.new ≡ response_left command words.now values.now out.old }
+    ensures written_after { written.new ≡ (response_written command words.now values.now (length out.old)).length }
+{
+    capi::cekarum_interface_2_write_response(command, words, values, out, written)
+}
