@@ -132,10 +132,13 @@ def declared_in(path):
     """The names that a file declares, and those that it passes on."""
     if path.endswith('.rt'):
         text = re.sub(r'//.*', '', read(path))
+        uses = r'^[ ]*(pub )?(?:ghost )?use ([^;]*);'
+        passed = [names for pub, names in re.findall(uses, text, re.M) if pub]
+        text = re.sub(uses, '', text, flags=re.M)
         own = set(re.findall(r'\b(?:fn|const|struct|enum|type|mod)\s+(\w+)', text))
         own |= set(re.findall(r'^    (?:pub )?(\w+)(?:\(.*\))?[:,]', text, re.M))      # fields and cases
-        passed = re.findall(r'^pub use [\w:]*?(\w+)(?: as (\w+))?;', text, re.M)
-        return own, {alias or name for name, alias in passed}
+        leaves = [leaf for names in passed for leaf in re.findall(r'(\w+)(?:\s+as\s+(\w+))?\s*(?=[,}]|$)', names)]
+        return own, {alias or name for name, alias in leaves}
     text = re.sub(r'--.*', '', read(path))
     own = set(re.findall(r'^ {0,2}(?:(?:pub|abbrev|unfoldable|data|record) )*([^\s:(){}]+)(?: \([^)]*\)| \{[^}]*\})* :(?= |$)',
                          text, re.M))
