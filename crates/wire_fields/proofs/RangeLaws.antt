@@ -16,7 +16,7 @@ use Rattle.wire_messages.specs.declared.Field.{Field}
 use Rattle.wire_messages.specs.declared.Amount.{Amount}
 use Rattle.wire_fields.specs.Fields.{number_up_to, in_range, signed, optional, value_in, amount_in}
 use Rattle.wire_fields.specs.Ranges.{within, when_within, signed_bits, number_in, is_null, numeric}
-use Rattle.wire_fields.specs.KeyHeads.{found, Reads, Tells, number_seen, field_of, amount_of}
+use Rattle.wire_fields.specs.KeyHeads.{found, Reads, Tells, field_of, amount_of}
 use Rattle.wire_fields.specs.Seen.{numeric_seen}
 use Rattle.wire_fields.specs.Laws.{UpToByRange, SignedByRange, ValuesByRange, AmountsByRange}
 use Rattle.wire_fields.specs.declared.ranges.Range.{Range}

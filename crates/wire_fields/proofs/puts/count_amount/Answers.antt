@@ -1,0 +1,11 @@
+-- By the case.
+use Rattle.wire_fields.specs.Fields.{amount_item}
+use Rattle.wire_fields.proofs.puts.count_amount.Goals as goal
+
+pub returns-in-Absent : goal.returns-in-Absent
+unfolding amount_item
+returns-in-Absent c = rw c.in-Absent.is
+
+pub returns-in-Is : goal.returns-in-Is
+unfolding amount_item
+returns-in-Is c = rw c.in-Is.is
