@@ -53,9 +53,16 @@ module _ (p : ℕ → Bool) where
   unfolding some_of
   setpoints-decide h = rw (h 0 refl, h 1 refl, h 4 refl, h 5 refl, h 6 refl, h 7 refl, h 8 refl, h 9 refl) (two-behind (p 2) (p 3))
 
+absent_of : (k : FieldTest) (s : Settings) (q : ℕ) → is_so k s Field.Absent q ≡ false
+absent_of FieldTest.Named s q = refl
+absent_of FieldTest.Negative s q = refl
+absent_of FieldTest.UnsupportedDirection s q = refl
+absent_of FieldTest.MissingPhase s q = refl
+absent_of FieldTest.AboveMaximum s q = refl
+
 module _ (k : FieldTest) (s : Settings) where
   absent : (q : ℕ) → is_so k s Field.Absent q ≡ false
-  absent q = elim k [ FieldTest.Named ↦ refl | FieldTest.Negative ↦ refl | FieldTest.UnsupportedDirection ↦ refl | FieldTest.MissingPhase ↦ refl | FieldTest.AboveMaximum ↦ refl ]
+  absent = absent_of k s
 
   pub of-limits : (m : Limits) → (is_so k s (limit_field m 0) 0 || is_so k s (limit_field m 1) 1) ≡ some_field_is k s (Command.SetLimit m)
   unfolding says
