@@ -3,11 +3,11 @@ use Prim.Native.Nat.{ℕ, suc, ◌+◌, ◌-◌, ◌*◌, ◌≤◌, ◌<◌}
 use mathlib.Core.Path.{◌≡◌, refl, sym, ap, ◌∙◌}
 use mathlib.Core.List.{List, [], ◌∷◌, ◌++◌}
 use native.Mathlib.Omega.{arith}
-use lib.ListN.{length, take, drop, length-append, length-drop, drop_of_length-le}
+use lib.ListN.{length, drop, length-append, length-drop, drop_of_length-le}
 use lib.Seq.{length-take-le, sets-eq}
 use Rattle.wire_bytes.specs.Bytes.{put}
 use Rattle.rescue_walk.specs.declared.steps.Cursor.{Cursor}
-use Rattle.rescue_walk.specs.Walk.{record_len, record_end, Piece, copied, passed, walk, kept, runs_from, run_count, rescued, run_len}
+use Rattle.rescue_walk.specs.Walk.{record_end, Piece, copied, passed, walk, kept, runs_from, run_count, rescued, run_len}
 use Rattle.rescue_walk.specs.Steps.{next_of, Reached, counted, front}
 use Rattle.rescue_walk.proofs.Begins.{found}
 use Rattle.rescue_walk.proofs.Walks.{walk_none}
@@ -97,7 +97,7 @@ counting_step s c n k (a_run z p l w e) =
     let b = rw (w, y) at k.runs-left in
     let st = k.reached in
     rw e
-    (record { reached = record { within = l; few_kept = omega (arith, st.few-kept); few_runs = omega (arith, st.few-runs) }; kept-left = a; runs-left = omega (arith, b) }, omega arith, l)
+    (record { reached = record { within = l; few_kept = omega (arith, st.few_kept); few_runs = omega (arith, st.few_runs) }; kept-left = a; runs-left = omega (arith, b) }, omega arith, l)
 counting_step s c n k (a_record p l w e) =
     let x = kept_cons (record_bytes s c) (walk (behind_record s c)) in
     let y = count-skip (record_bytes s c) (walk (behind_record s c)) in
@@ -105,7 +105,7 @@ counting_step s c n k (a_record p l w e) =
     let b = rw (w, y) at k.runs-left in
     let st = k.reached in
     rw e
-    (record { reached = record { within = l; few_kept = omega (arith, st.few-kept); few_runs = omega (arith, st.few-runs) }; kept-left = omega (arith, a); runs-left = b }, omega arith, l)
+    (record { reached = record { within = l; few_kept = omega (arith, st.few_kept); few_runs = omega (arith, st.few_runs) }; kept-left = omega (arith, a); runs-left = b }, omega arith, l)
 
 pub counting_next : (s : List ℕ) (c n : Cursor) → Counting s c → c.at < length s → n ≡ next_of s c → Counting s n × (c.at < n.at) × (n.at ≤ length s)
 counting_next s c n k l e = rw e (counting_step s c (next_of s c) k (nexts s c l))

@@ -1,13 +1,12 @@
 -- What the program's two calls leave in rooms that are always enough. Assumes nothing.
-use Prim.Native.Nat.{ℕ, ◌+◌, ◌*◌, ◌≤◌, ◌<◌}
+use Prim.Native.Nat.{ℕ, ◌*◌, ◌≤◌, ◌<◌}
 use mathlib.Core.Logic.{⊎_elim}
-use mathlib.Core.Path.{◌≡◌, refl, sym, ap, ◌∙◌}
-use mathlib.Core.List.{List, [], ◌++◌}
+use mathlib.Core.Path.{◌≡◌, refl, ◌∙◌}
+use mathlib.Core.List.{List}
 use native.Mathlib.Omega.{arith}
 use lib.ListN.{length, take, drop}
 use lib.Seq.{take_at}
 use borrow.Author.Tests.{lt-ltb, le-ltb}
-use Rattle.wire_bytes.specs.Bytes.{put}
 use Rattle.wire_bytes.proofs.Order.{below}
 use Rattle.wire_bytes.proofs.PutLaws.{put_whole_lem}
 use Rattle.text.specs.Pieces.{put_all, past_all, joined}
@@ -16,7 +15,7 @@ use Rattle.rescue_walk.specs.declared.scripts.Rescued.{Rescued}
 use Rattle.rescue_walk.specs.Walk.{walk, run_count, rescued, runs}
 use Rattle.rescue_walk.specs.Steps.{front}
 use Rattle.rescue_walk.specs.Rescue.{longest_script, number, written, answer}
-use Rattle.rescue_walk.specs.Lines.{lines_in, refusal_pieces, text_pieces}
+use Rattle.rescue_walk.specs.Lines.{text_pieces}
 use Rattle.rescue_walk.specs.Program.{kept_text, said_pieces, said_text, report_room, text_room}
 use Rattle.rescue_walk.proofs.Loops.{runs-two, put_front}
 use Rattle.rescue_walk.proofs.Rooms.{enough}

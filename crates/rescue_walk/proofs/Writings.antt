@@ -11,7 +11,7 @@ use Rattle.wire_bytes.specs.Bytes.{put, put_whole}
 use Rattle.wire_bytes.proofs.PutLaws.{put-put, put_whole_lem}
 use Rattle.rescue_walk.specs.declared.steps.Cursor.{Cursor}
 use Rattle.rescue_walk.specs.declared.scripts.Rescued.{Rescued}
-use Rattle.rescue_walk.specs.Walk.{record_len, Piece, copied, passed, walk, kept, runs_from, run_count, rescued, runs, run_len}
+use Rattle.rescue_walk.specs.Walk.{Piece, copied, passed, walk, kept, runs_from, run_count, rescued, runs}
 use Rattle.rescue_walk.specs.Steps.{next_of, out_next, report_next, Room, counted, front}
 use Rattle.rescue_walk.specs.Rescue.{longest_script, number, written, answer}
 use Rattle.rescue_walk.proofs.Walks.{walk_none}
@@ -84,7 +84,7 @@ module _ (s out rep : List ℕ) (c n : Cursor) (room : Room s out rep c) (e : n 
       go (a_record p l w q) =
           let k = ap (λ (x : Cursor). x.at) q in
           let x = kept_cons (record_bytes s c) (walk (behind_record s c)) in
-          let a = rw (w, x, record-bytes s c p) at room.out-room in
+          let a = rw (w, x, record-bytes s c p) at room.out_room in
           record { is = p; ends = k; within = omega arith; fits = omega (arith, a) }
 
   put-run : (n.runs ≡ c.runs → ⊥) → A-pass s rep c n
@@ -174,8 +174,8 @@ module _ (s out₀ rep₀ : List ℕ) where
         record {
           reached = k.counting.reached;
           more = l;
-          out_room = omega (arith, k.counting.kept-left, k.out-len, pre.0);
-          report-room = omega (arith, k.counting.runs-left, k.rep-len, pre.1);
+          out_room = omega (arith, k.counting.kept-left, k.out_len, pre.0);
+          report-room = omega (arith, k.counting.runs-left, k.rep_len, pre.1);
         }
 
     pub writing_next : c.at < length s → (n : Cursor) (out' rep' : List ℕ) → length out' ≡ length out → length rep' ≡ length rep
@@ -184,8 +184,8 @@ module _ (s out₀ rep₀ : List ℕ) where
         let t : Next s c n = rw e (nexts s c l) in
         record {
           counting = (counting_next s c n k.counting l e).0;
-          out_len = lo ∙ k.out-len;
-          rep_len = lr ∙ k.rep-len;
+          out_len = lo ∙ k.out_len;
+          rep_len = lr ∙ k.rep_len;
           outs = rw x (sym (outs_step s out c n t) ∙ k.outs);
           reps = rw y (sym (reps_step s rep c n (omega arith) t) ∙ k.reps);
         }

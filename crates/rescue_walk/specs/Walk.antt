@@ -2,7 +2,6 @@
 use Rattle.std.specs.Prelude.{ℕ, zero, suc, ◌+◌, cond, List, [], ◌∷◌, ◌++◌, eqb, length, take, drop}
 use Rattle.bench_records.specs.Kinds.{head}
 use Rattle.bench_records.specs.Records.{record_at}
-use Rattle.bench_records.specs.declared.fields.Record.{Record}
 use Rattle.bench_records.specs.declared.fields.Scan.{Scan}
 
 -- the bytes of a record that was read, 0 for none
