@@ -2,7 +2,7 @@
 use Prim.Native.Nat.{ℕ, ◌+◌, ◌≤◌, ◌<◌}
 use mathlib.Core.Path.{◌≡◌, refl, sym, ap, subst, ◌∙◌}
 use mathlib.Core.Bool.{Bool, true, false}
-use mathlib.Core.List.{List, ◌++◌}
+use mathlib.Core.List.{List}
 use native.Mathlib.Omega.{arith}
 use lib.Dec.{leb}
 use lib.ListN.{length, take, length-append}
@@ -12,7 +12,7 @@ use Rattle.wire_bytes.specs.Bytes.{bytes_of, put, put_whole}
 use Rattle.wire_bytes.proofs.NumberLaws.{bytes-length}
 use Rattle.wire_bytes.proofs.PutLaws.{put_whole_lem, put-put, length-put}
 use Rattle.wire_cbor.specs.Item.{Item, encode}
-use Rattle.wire_fields.specs.Puts.{Adds, Puts}
+use Rattle.wire_fields.specs.Puts.{Puts}
 use Rattle.wire_fields.proofs.Added.{puts_fit}
 use Rattle.refusals.specs.Refusals.{first_of}
 use Rattle.wire_prefix.specs.Prefix.{frame_of}
