@@ -1,5 +1,5 @@
 -- The calls without a frame: each is its number, by a list of tests in document 01's order, and its change.
-use Rattle.std.specs.Prelude.{ℕ, ◌+◌, ◌*◌, Bool, cond, not, ◌&&◌, ◌||◌, List, [], ◌∷◌, ltb, leb, eqb, set, ℤ}
+use Rattle.std.specs.Prelude.{ℕ, ◌+◌, ◌*◌, Bool, cond, not, List, [], ◌∷◌, leb, eqb, set, ℤ}
 use Rattle.device_store.specs.Sizes.{slots}
 use Rattle.device_store.specs.Zones.{free_zone, new_zone, linked, slot_of, joined, zone_of}
 use Rattle.device_store.specs.Words.{clock_of, since_of, override_of, settings_of, zones_of, head_change, after}

@@ -1,8 +1,7 @@
 -- Refusals: a call's tests stand in document 01's order, and the first that holds gives the number.
-use Rattle.std.specs.Prelude.{ℕ, ◌<◌, Bool, true, false, ◌||◌, ◌≡◌, List, ltb, leb, eqb, get_or}
+use Rattle.std.specs.Prelude.{ℕ, ◌<◌, Bool, true, false, ◌≡◌, List, eqb, get_or}
 unfoldable pub use Rattle.refusals.specs.Refusals.{first_of}
 unfoldable pub use Rattle.device_rules.specs.Rules.{late}
-use Rattle.device_store.specs.Sizes.{end}
 use Rattle.device_store.specs.Zones.{any}
 
 -- the test in place `at` is the first to hold, and n is its number

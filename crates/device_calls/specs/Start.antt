@@ -1,6 +1,6 @@
 -- Starting a device: settings that then stay.
-use Rattle.std.specs.Prelude.{ℕ, Bool, false, cond, not, ◌&&◌, ◌||◌, List, [], ◌∷◌, ltb, leb, eqb, get_or}
-use Rattle.device_store.specs.Sizes.{most, value_end}
+use Rattle.std.specs.Prelude.{ℕ, false, cond, List, [], ◌∷◌}
+use Rattle.device_store.specs.Sizes.{most}
 use Rattle.device_store.specs.Words.{fresh}
 use Rattle.device_rules.specs.Rules.{bad_settings}
 use Rattle.device_calls.specs.Refusals.{first_of}
