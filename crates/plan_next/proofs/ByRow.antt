@@ -1,7 +1,7 @@
 -- Asked for the next row again and again, an ascending list is walked from its front to its end.
 use Prim.Native.Nat.{ℕ, zero, suc, ◌≤◌, ◌<◌}
 use mathlib.Core.Bool.{Bool, true, false, cond}
-use mathlib.Core.Path.{◌≡◌, refl, sym, ap, ◌∙◌}
+use mathlib.Core.Path.{◌≡◌, refl, ap, ◌∙◌}
 use mathlib.Core.List.{List, [], ◌∷◌}
 use mathlib.Core.Option.{Option, none, some}
 use native.Mathlib.Nat.{le_of_suc-le-suc}
@@ -15,9 +15,9 @@ use Rattle.device_holds.specs.Holds.{situation_of}
 use Rattle.plan.specs.Rows.{Ascending}
 use Rattle.plan.specs.Plan.{plan_of, rows_from}
 use Rattle.plan.proofs.IsPlan.{plan_of-is}
-use Rattle.plan_next.specs.Next.{next_of, first_row}
+use Rattle.plan_next.specs.Next.{next_of}
 use Rattle.plan_next.specs.Walked.{onward, row_by_row, WalkedIsPlan}
-use Rattle.plan_next.proofs.Later.{next-own, next-over}
+use Rattle.plan_next.proofs.Later.{next-over}
 
 abbrev Row : Type 0
 Row = ℕ × List ℤ

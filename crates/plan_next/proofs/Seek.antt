@@ -5,7 +5,6 @@ use mathlib.Core.Path.{◌≡◌, sym, ap, ◌∙◌}
 use mathlib.Core.List.{List, [], ◌∷◌}
 use mathlib.Core.Option.{none, some}
 use borrow.Author.Tests.{lt-ltb, le-ltb}
-use lib.IntN.{ℤ}
 use Rattle.device_store.specs.Sizes.{end}
 use Rattle.device_holds.specs.Holds.{Situation, situation_of, values_at}
 use Rattle.device_holds.specs.Alike.{alike}
