@@ -15,7 +15,7 @@ use Rattle.device_store.specs.Sizes.{ids, most}
 use Rattle.device_store.specs.Zones.{id_of, rank_of, free_zone, is_joined, any_joined, any_up, held_of}
 use Rattle.device_store.specs.declared.Zone.{Zone}
 use Rattle.device_store.specs.Smaller.{lesser}
-use Rattle.device_holds.specs.Holds.{Situation, value_at, shown}
+use Rattle.device_holds.specs.Holds.{Situation, value_at}
 use Rattle.device_holds.specs.Table.{Some, Each, NoBetter, Failsafe}
 use Rattle.device_holds.proofs.Rows.{table}
 use Rattle.device_holders.specs.Holders.{NOBODY, BY_FAILSAFE, holds_value, best_placed, named, holder_of, holder_at}

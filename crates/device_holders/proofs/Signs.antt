@@ -44,7 +44,7 @@ module _ (s : Situation) (t q : ℕ) where
   pub holder_turn : (vs : List ℤ) (m : ℕ) → vs ≡ values_at s t → q < helds → m ≡ q + 1 → mag (get_or vs m (pos 0)) < 2 ^ 63 → (r : Holder)
       → r ≡ holder_of s t q (to_z w64 (of_z w64 (get_or vs m (pos 0)))) → r ≡ holder_at s t q
   holder_turn vs m e h at f r k =
-      k ∙ ap (holder_of s t q) (to_z-of_z (record { sfits = f })) ∙ (λ i. holder_of s t q (get_or (e i) (at i) (pos 0))) ∙ holder-at h
+      k ∙ ap (holder_of s t q) (to_z-of_z {w = w64} (record { sfits = f })) ∙ (λ i. holder_of s t q (get_or (e i) (at i) (pos 0))) ∙ holder-at h
 
 pub natural : (v : ℤ) → lt_z v (pos 0) ≡ false → T (non_neg v)
 natural (pos n) e = tt

@@ -6,19 +6,15 @@ use mathlib.Core.Path.{◌≡◌}
 use native.Mathlib.Decide.{dec_lt}
 use Rattle.device_store.specs.Sizes.{most}
 use Rattle.device_store.specs.Smaller.{lesser}
-use Rattle.device_holders.proofs.end_of_failsafe.Statement.{statement}
-use Rattle.device_holders.proofs.end_of_failsafe.Tie as tie
+use Rattle.device_holders.proofs.end_of_failsafe.Goals as goal
 
 far : (n : ℕ) → most ≤ n → most ≡ lesser most n
 unfolding lesser
 far n h = elim (dec_lt most n) [ yes k ↦ rw (lt-ltb most n k) | no k ↦ rw (le-ltb most n (omega arith)) (omega arith) ]
 
-returns : tie.Need-returns
+pub returns-then-since-duration : goal.returns-then-since-duration
 unfolding lesser
-returns c = rw (le-ltb most (c.before.args.since + c.before.args.duration) (omega arith))
+returns-then-since-duration c = rw (le-ltb most (c.args.since + c.args.duration) (omega arith))
 
-returns-2 : tie.Need-returns-2
-returns-2 c = far (c.before.args.since + c.before.args.duration) (omega arith)
-
-pub end-of-failsafe-spec : {M : Type 1} → statement M
-end-of-failsafe-spec = tie.close (tie.spec (omega arith) (omega arith) returns returns-2)  -- sub-if1, add-result
+pub returns : goal.returns
+returns c = far (c.args.since + c.args.duration) (omega arith)
