@@ -35,7 +35,7 @@ def read_rooms():
     for line in read('crates.txt').split('\n'):
         name, colon, rest = line.split('#')[0].partition(':')
         if colon:
-            rooms[name.strip()] = rest.split()
+            rooms[name.split()[0]] = rest.split()
     return {room: [d for d in on if d in rooms] for room, on in rooms.items()}
 
 
