@@ -1,5 +1,5 @@
 -- The numbers of a line: the words behind the command's name, each of a kind. Assumes nothing: these are definitions.
-use Rattle.std.specs.Prelude.{ℕ, suc, ◌+◌, ◌-◌, Bool, true, false, cond, not, ◌&&◌, List, [], ◌∷◌, ltb, leb, eqb, length, take, drop, set}
+use Rattle.std.specs.Prelude.{ℕ, ◌+◌, ◌-◌, Bool, true, false, cond, not, ◌&&◌, List, [], ◌∷◌, ltb, leb, eqb, length, take, drop, set}
 use Rattle.device_store.specs.Sizes.{most, value_end}
 use Rattle.console_words.specs.Hex.{is_none}
 use Rattle.console_words.specs.Numbers.{no_number, number_in}
