@@ -1,5 +1,5 @@
 -- Responses: how one is read from the payload's item for a named command. Assumes nothing: these are definitions.
-use Rattle.std.specs.Prelude.{ℕ, Bool, cond, ◌&&◌, ◌||◌, List, leb, eqb}
+use Rattle.std.specs.Prelude.{ℕ, cond, List, eqb}
 use Rattle.std.proofs.Math.Option.{Option, some, none, bind, map}
 use Rattle.wire_cbor.specs.Item.{Item, Pairs, payload_of}
 use Rattle.wire_cbor.specs.Find.{value_of}
