@@ -1,12 +1,12 @@
 -- The call's answer at each of its ends: a refusal leaves the buffer, and an accepted call writes the breaches.
 use Prim.Native.Nat.{ℕ, suc, ◌*◌, ◌<◌, ◌≤◌}
-use mathlib.Core.Bool.{Bool, true, false, not, cond}
+use mathlib.Core.Bool.{Bool, true, false, cond}
 use mathlib.Core.Path.{◌≡◌, refl, sym, ◌∙◌}
 use mathlib.Core.List.{List, [], ◌∷◌}
 use native.Mathlib.Omega.{arith}
 use lib.Dec.{eqb}
 use lib.ListN.{length}
-use borrow.Author.Tests.{not-false, lt-ltb, le-ltb, ltb-true}
+use borrow.Author.Tests.{lt-ltb, le-ltb, ltb-true}
 use Rattle.report_tables.specs.Endpoints.{types}
 use Rattle.report.specs.Sizes.{pair_count}
 use Rattle.report.specs.Lists.{keep, ascends, first_of, front}
@@ -22,8 +22,8 @@ pub type_below : (i : Inputs) → in_range i ≡ true → i.endpoint < types
 unfolding in_range
 type_below i range = ltb-true _ _ (and_left _ _ (and_left _ _ (and_left _ _ (and_left _ _ range))))
 
-pub judged_type : (i : Inputs) {b : Bool} → b ≡ in_range i → not b ≡ false → i.endpoint < types
-judged_type i {b} range e = type_below i (sym range ∙ not-false b e)
+pub judged_type : (i : Inputs) {b : Bool} → b ≡ in_range i → b ≡ true → i.endpoint < types
+judged_type i range e = type_below i (sym range ∙ e)
 
 length-flat : (ps : List Pair) → length (flat ps) ≡ 2 * length ps
 unfolding flat
@@ -58,16 +58,16 @@ module _ (i : Inputs) (attributes buffer : List ℕ) where
   refused n e f = (rw (e, f), rw (e, f))
 
   module _ {b : Bool} (range : b ≡ in_range i) where
-    pub ends-16 : not b ≡ true → Ends (answer 16 0) buffer
+    pub ends-16 : b ≡ false → Ends (answer 16 0) buffer
     unfolding report_number first_of
     ends-16 e = refused 16 (rw (← range, e)) refl
 
-    module _ {c : Bool} (ascent : c ≡ ascends attributes) (in-range : not b ≡ false) where
-      pub ends-17 : not c ≡ true → Ends (answer 17 0) buffer
+    module _ {c : Bool} (ascent : c ≡ ascends attributes) (in-range : b ≡ true) where
+      pub ends-17 : c ≡ false → Ends (answer 17 0) buffer
       unfolding report_number first_of
       ends-17 e = refused 17 (rw (← range, in-range, ← ascent, e)) refl
 
-      module _ (ps : List Pair) {n : ℕ} (same : ps ≡ breaches i attributes) (counted : n ≡ length ps) (ascending : not c ≡ false) where
+      module _ (ps : List Pair) {n : ℕ} (same : ps ≡ breaches i attributes) (counted : n ≡ length ps) (ascending : c ≡ true) where
         pub ends-15 : length buffer < 2 * n → Ends (answer 15 0) buffer
         unfolding report_number first_of
         ends-15 h = refused 15 (rw (← range, in-range, ← ascent, ascending, ← same, ← counted, lt-ltb _ _ h)) refl

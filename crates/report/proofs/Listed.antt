@@ -1,6 +1,6 @@
 -- The flags of the listed numbers stand for the list: the report by flags is the report by membership.
-use Prim.Native.Nat.{ℕ, suc, ◌+◌, ◌<◌}
-use mathlib.Core.Bool.{Bool, true, false, not, ◌&&◌, ◌||◌, or_false}
+use Prim.Native.Nat.{ℕ, suc, ◌<◌}
+use mathlib.Core.Bool.{Bool, true, false, not, ◌&&◌, ◌||◌, or-false}
 use mathlib.Core.Path.{◌≡◌, refl, sym, ap, ◌∙◌}
 use mathlib.Core.List.{List, [], ◌∷◌, ◌++◌, foldl}
 use native.Mathlib.Omega.{arith}
@@ -34,7 +34,7 @@ or_swap false false c = refl
 -- all of a list marked
 mark_all : (ns : List ℕ) (s : List Bool) (n : ℕ) → n < length s → flagged (foldl marked s ns) n ≡ (flagged s n || member n ns)
 unfolding member
-mark_all [] s n h = sym (or_false (flagged s n))
+mark_all [] s n h = sym (or-false (flagged s n))
 mark_all (x ∷ ns) s n h =
     mark_all ns (set s x true) n (rw length-set h)
     ∙ ap (λ b. b || member n ns) (mark_one s x n h)

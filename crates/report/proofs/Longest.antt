@@ -1,10 +1,10 @@
 -- The longest report, by groups: 9 bits without the one they need, 1 clash, 6 required or invalid bits, 32 supplies and attributes.
 use Prim.Native.Nat.{ℕ, suc, ◌+◌, ◌-◌, ◌<◌, ◌≤◌}
 use mathlib.Core.Bool.{Bool, true, false, not, ◌&&◌, ◌||◌, cond, false≢true}
-use mathlib.Core.Path.{◌≡◌, refl, sym, ap, ◌∙◌}
+use mathlib.Core.Path.{◌≡◌, refl, ap, ◌∙◌}
 use mathlib.Core.List.{List, [], ◌∷◌, ◌++◌, map}
 use native.Mathlib.Omega.{arith}
-use lib.Dec.{eqb, ltb, leb}
+use lib.Dec.{eqb, leb}
 use lib.ListN.{length, get_or}
 use borrow.Author.Tests.{eqb-true, leb-true}
 use Rattle.report_tables.specs.Endpoints.{types, required, invalid, bits_of}
@@ -18,7 +18,7 @@ use Rattle.report.specs.Report.{in_range}
 use Rattle.report.specs.Statements.{Longest, longest}
 use Rattle.report.specs.declared.Inputs.{Inputs}
 use Rattle.report.specs.declared.breaches.Pair.{Pair}
-use Rattle.report.proofs.Bools.{and_left, and_right, or_cases}
+use Rattle.report.proofs.Bools.{and_left, and_right}
 use Rattle.report.proofs.Tables.{passes}
 use Rattle.report.proofs.Answers.{type_below}
 use Rattle.report.proofs.Bounds.{features_below}

@@ -34,6 +34,7 @@ module _ {A : Type 0} (p : A → Bool) where
   -- what stands in the list and passes is kept
   pub keeps : (x : A) (l : List A) → p x ≡ true → Memᴰ x l → Memᴰ x (keep p l)
   unfolding keep
+  keeps x [] e m = elim m [ ]
   keeps x (y ∷ l) e (Memᴰ.head f) = rw (← f, e) (Memᴰ.head refl)
   keeps x (y ∷ l) e (Memᴰ.tail m) = go (p y) (keeps x l e m)
     where
@@ -69,6 +70,7 @@ in_order [] = true
 in_order (p ∷ ps) = before_all p ps && in_order ps
 
 before-all : (p q : Pair) (qs : List Pair) → before_all p qs ≡ true → Memᴰ q qs → Before p q
+before-all p q [] e m = elim m [ ]
 before-all p q (x ∷ qs) e (Memᴰ.head f) = rw f (before_true p x (and_left _ (before_all p qs) e))
 before-all p q (x ∷ qs) e (Memᴰ.tail m) = before-all p q qs (and_right (before p x) _ e) m
 
