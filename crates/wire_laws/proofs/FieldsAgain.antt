@@ -1,13 +1,13 @@
 -- Each kind of field, read and written again. Assumes nothing.
 use Prim.Native.Nat.{ℕ, ◌^◌, ◌≤◌}
-use mathlib.Core.Path.{◌≡◌, refl, sym, ap, ◌∙◌}
+use mathlib.Core.Path.{◌≡◌, refl, ap, ◌∙◌}
 use mathlib.Core.Bool.{Bool, true, false, cond}
 use mathlib.Core.Option
 use mathlib.Core.Option.{Option, some, none, bind}
 use native.Mathlib.Omega.{arith}
 use lib.Dec.{leb, ltb, eqb}
 use lib.IntN.{ℤ, pos, negsuc}
-use borrow.Author.Tests.{eqb-true, le-leb, le-ltb, leb-true, ltb-true, eq-eqb, ne_eqb}
+use borrow.Author.Tests.{eqb-true, le-leb, le-ltb, leb-true, ltb-true}
 use Rattle.wire_cbor.specs.Item.{Item, Pairs}
 use Rattle.wire_messages.specs.declared.Field.{Field}
 use Rattle.wire_messages.specs.declared.Aim.{Aim}

@@ -1,13 +1,12 @@
 -- Each kind of field, written and read back. Assumes nothing.
 use Prim.Native.Nat.{ℕ, ◌+◌, ◌^◌, ◌≤◌, ◌<◌}
 use mathlib.Core.Path.{◌≡◌, refl}
-use mathlib.Core.Bool.{Bool, true, false, cond}
-use mathlib.Core.Option.{some, none, bind}
+use mathlib.Core.Bool.{Bool, true, false}
+use mathlib.Core.Option.{some, bind}
 use native.Mathlib.Omega.{arith}
-use lib.Dec.{eqb}
 use lib.IntN.{pos, negsuc}
 use lib.ListN.{length, length-append}
-use borrow.Author.Tests.{eqb-true, le-leb, lt-ltb, leb-true, ltb-false}
+use borrow.Author.Tests.{le-leb, lt-ltb, leb-true, ltb-false}
 use Rattle.wire_heads.specs.Head.{head_bytes}
 use Rattle.wire_cbor.specs.Item.{Item, Ok, encode}
 use Rattle.wire_heads.proofs.Widths.{head-length, head-short}
