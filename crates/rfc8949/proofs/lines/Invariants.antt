@@ -1,0 +1,10 @@
+-- Each turn takes one from `turns`, so the loop ends, and `out` keeps its length.
+use mathlib.Core.Path.{◌≡◌}
+use lib.ListN.{length}
+use Rattle.rfc8949.proofs.lines.Given as goal
+
+abbrev pub invariant-loop-turns : goal.invariant-loop-turns
+invariant-loop-turns g l = length l.out ≡ length l.initial.out
+
+abbrev pub decreases-loop-turns : goal.decreases-loop-turns
+decreases-loop-turns g l = l.turns
