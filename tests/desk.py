@@ -15,7 +15,7 @@ from pathlib import Path
 TOP = Path(__file__).resolve().parent.parent
 DESK = Path(tempfile.mkdtemp(prefix="cekarum-tests."))
 NOBODY = 65534
-PATIENCE = 120  # seconds that no tool takes here, however slow the machine
+PATIENCE = 600  # seconds that no tool takes here, however slow the machine
 MARKED = re.compile(rb"^[a-z]+: (NOT PROVED|warning: the toolchain is)")
 
 DESK.chmod(0o755)
@@ -98,7 +98,7 @@ PATH = [os.path.dirname(sys.executable), *os.environ["PATH"].split(os.pathsep)]
 
 
 def environment(**more):
-    found = {key: value for key, value in os.environ.items() if key not in ("RATTLE_HOME", "SMALL")}
+    found = {key: value for key, value in os.environ.items() if key != "SMALL"}
     return {**found, "PATH": os.pathsep.join(PATH), **{key: str(value) for key, value in more.items()}}
 
 
@@ -182,11 +182,14 @@ def kit():
 
 def stand_in(name, script, identity=None):
     """A toolchain whose `rt` is a script; all else is the real one's. Gives the PATH on which it is found first."""
-    made = folder(name)
-    for part in kit().iterdir():
-        if part.name not in ("bin", "KIT-ID"):
-            (made / part.name).symlink_to(part)
-    written(made / "KIT-ID", identity or (kit() / "KIT-ID").read_bytes())
+    made, real = folder(name), kit()
+    for part in (*real.iterdir(), *real.glob("bin/*"), *real.glob("toolchain/*"), *real.glob("toolchain/bin/*")):
+        place = made / part.relative_to(real)
+        if place in (made / "bin", made / "toolchain", made / "toolchain" / "bin"):
+            place.mkdir(exist_ok=True)
+        elif place not in (made / "bin" / "rt", made / "KIT-ID"):
+            place.symlink_to(part)
+    written(made / "KIT-ID", identity or (real / "KIT-ID").read_bytes())
     executable(made / "bin" / "rt", "#!/bin/sh\n" + script)
     return os.pathsep.join([str(made / "bin"), *PATH])
 

@@ -1,7 +1,8 @@
 # Says in a lowered module what its types say, and refuses a module of a shape that it does not know. docs/ASSUMPTIONS.md has each
 # rule with its reason.
 #   a copy of n bytes at the front of a local of n bytes     both ends are aligned as that local
-#   a parameter that is the front of such an end             is aligned so
+#   a tag of n bytes                                         is aligned on n
+#   a parameter that is the front of such an end or tag      is aligned so
 #   a local of 16 bytes and more                             is laid on 8 bytes
 #   what an export is lent                                   does not overlap (noalias)
 # A line that has a pointer in it is of one of the forms below, or the module is refused.
@@ -20,6 +21,29 @@ function root(p) { # the pointer that p counts from; sets place
 }
 function certain(p,    r) { r = root(p); return r in aligned ? least(aligned[r], place) : 0 } # 0: unknown
 function whole(p, n,    r) { r = root(p); return r in aligned && !place && size[r] == n ? aligned[r] : 0 }
+
+function width(t,    i, n, most, each) { # in bytes; of several numbers the widest's; 0: of another form
+    if (t ~ /^(i8|i16|i32|i64|ptr|float|double)$/) return t == "ptr" || t == "double" ? 8 : t == "float" ? 4 : substr(t, 2) / 8
+    if (t !~ /^\{ [^{}]+ \}$/) return 0
+    n = split(substr(t, 3, length(t) - 4), each, /, /)
+    for (i = 1; i <= n; i++) {
+        if (!width(each[i])) return 0
+        if (width(each[i]) > most) most = width(each[i])
+    }
+    return most
+}
+
+# The tag of an enum, which is written over all bytes before its first field: that lies at the first place that its alignment
+# allows, so the enum is aligned at least as the tag is wide.
+function tag(p, n,    c, r) {
+    sub(/,$/, "", p)
+    c = certain(p)
+    if (c && c < n) refuse("a tag that is aligned on " n " where only " c " is certain")
+    r = root(p)
+    if (!place && r in parameter && n > needs[name, parameter[r]]) needs[name, parameter[r]] = n
+    sub(/align 1$/, "align " n)
+    return $0
+}
 
 # The ends of a copy: of two locals the types agree, and no end lies where its type cannot.
 function copy(to, from, n,    a, b, t) {
@@ -50,10 +74,11 @@ function function_name(l) { sub(/^[^@]*@"?/, "", l); sub(/"?\(.*$/, "", l); retu
     split("", aligned); split("", size); split("", base); split("", offset); split("", parameter)
     count = parts($0)
     for (i = 1; i <= count; i++) {
-        if (part[i] !~ /^(ptr|i[0-9]+|float|double) noundef (zeroext |signext )?%a[0-9]+$/) refuse("a parameter of another form: " part[i])
+        if (part[i] !~ /^(ptr|i[0-9]+|float|double) (noundef )?(zeroext |signext )?%a[0-9]+$/) refuse("a parameter of another form: " part[i])
         if (part[i] ~ /^ptr /) { p = part[i]; sub(/^.* /, "", p); parameter[p] = i }
     }
     inside = 1
+    is_export = $0 !~ /^define internal /
     line[NR] = $0
     next
 }
@@ -75,12 +100,14 @@ function function_name(l) { sub(/^[^@]*@"?/, "", l); sub(/"?\(.*$/, "", l); retu
     line[NR] = $0
     next
 }
-/ = load |^  store / { # each number lies where its width wants it: nothing is packed
+/ = load |^  store / { # each number lies where its width wants it, and two that are read at once where the wider one does
     a = $0; sub(/^.*, align /, "", a); sub(/,.*$/, "", a)
-    t = $1 == "store" ? $2 : $4; sub(/,$/, "", t)
-    if (t !~ /^(i8|i16|i32|i64|ptr|float|double)$/ || a + 0 != (t == "ptr" || t == "double" ? 8 : t == "float" ? 4 : substr(t, 2) / 8))
-        refuse("a number that is not aligned as its width: " $0)
-    line[NR] = $0
+    t = $0
+    if (sub(/^  store /, "", t)) sub(/ [^ ]+, ptr .*$/, "", t)
+    else { sub(/^.* = load /, "", t); sub(/, ptr .*$/, "", t) }
+    if (/^  store i(16|32|64) [^ ]+, ptr %[ar][0-9]+, align 1$/) line[NR] = tag($5, width(t))
+    else if (a + 0 == width(t) || is_export && /^  %r[0-9]+ = load (ptr|i64), ptr %r[0-9]+, align 1$/) line[NR] = $0
+    else refuse("a number that is not aligned as its width: " $0)
     next
 }
 /@llvm\.mem/ {
@@ -102,6 +129,7 @@ function function_name(l) { sub(/^[^@]*@"?/, "", l); sub(/"?\(.*$/, "", l); retu
     line[NR] = $0
     next
 }
+is_export && /^  %r[0-9]+ = icmp eq ptr %a[0-9]+, null$/ { line[NR] = $0; next } # of a slice, which an export puts together
 /(^|[^a-z])ptr([^a-z]|$)/ { refuse("a pointer in a line of another form: " $0) }
 { line[NR] = $0 }
 

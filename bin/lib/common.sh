@@ -87,21 +87,20 @@ need() { # COMMAND WHAT-TO-DO
     command -v "$1" >/dev/null || die "$1 is missing: $2"
 }
 
+# The toolchain is the folder that `rt` stands in: kit. Its compiler, linker and C library are in tools.
 find_kit() {
     local named
     need rt "put the Rattle toolchain's command on the PATH"
-    kit=${RATTLE_HOME:-$(dirname "$(dirname "$(readlink -f "$(command -v rt)")")")}
-    own=$kit/on/$(uname -m)
-    tools=$own/toolchain
-    [ -x "$tools/bin/clang" ] || die "the toolchain at $kit has no compiler for this machine, $(uname -m)"
+    kit=$(dirname "$(dirname "$(readlink -f "$(command -v rt)")")")
+    tools=$kit/toolchain
+    [ -x "$tools/bin/clang" ] || die "the toolchain at $kit has no compiler"
     named=$(sed -n 's/^Checked with `\([^`]*\)`.*/\1/p' "$top/CONTRIBUTING.md")
     [ "$named" = "$(cat "$kit/KIT-ID")" ] ||
         say "warning: the toolchain is '$(cat "$kit/KIT-ID")', and this project is checked with '$named' (CONTRIBUTING.md)"
 }
 
-# The crates that a crate rests on and the crate itself, what rests on nothing first: a line each, NAME:USED,USED. The libraries
-# of the toolchain are among them where its list is named too.
-crates_of() { # NAME [LIST]
+# The crates that a crate rests on and the crate itself, what rests on nothing first: a line each, NAME:USED,USED.
+crates_of() { # NAME
     awk -v name="$1" '
         function visit(n,    words, k, count, most) {
             if (n in level) return
@@ -116,8 +115,8 @@ crates_of() { # NAME [LIST]
             gsub(/[ \t]+/, ",", rests[n])
             print most, n ":" rests[n]
         }
-        { sub(/#.*/, ""); i = index($0, ":"); if (i) rests[substr($0, 1, i - 1)] = substr($0, i + 1) }
-        END { if (name in rests) visit(name) }' "$top/crates.txt" "${@:2}" | sort -s -n -k1,1 | cut -d" " -f2
+        { sub(/#.*/, ""); if ((i = index($0, ":"))) { split(substr($0, 1, i - 1), words, " "); rests[words[1]] = substr($0, i + 1) } }
+        END { if (name in rests) visit(name) }' "$top/crates.txt" | sort -s -n -k1,1 | cut -d" " -f2
 }
 
 names_of() { crates_of "$1" | cut -d: -f1; } # NAME

@@ -42,15 +42,18 @@ run_program() { # PROGRAM LOOK
     wait "$pid" || ending=$?
     wait "$looker" || true
     sink=$(cat "$room/sink") seen=$(cat "$room/seen")
-    cat "$room/said" >&2
+    sed '/^Error: /d' "$room/said" >&2
 }
 
-# Ends where the answers were not passed on or the program broke down. One who closes the pipe has what he wants.
+# Ends where the answers were not passed on or the program broke down. One who closes the pipe has what he wants. A program whose
+# reading or writing fails ends with status 1 and says so in a line 'Error: ..', which is told here alone.
 judge_run() {
-    local why
+    local why stream
     why=$(sed -n 's/.*: //p' "$room/fault")
     if [ "$sink" -eq 141 ] || [ "$why" = 'Broken pipe' ]; then exit 141; fi
     [ "$sink" -eq 0 ] || fail "cannot write to the standard output: ${why:-tee ended with status $sink}"
+    stream=$(sed -n 's/^Error: //p' "$room/said" | tail -n 1)
+    [ -z "$stream" ] || fail "the program cannot read its input or write its answers: $stream; nothing behind its last answer was done"
     [ "$ending" -eq 0 ] || fail "the program broke down with status $ending; nothing behind its last answer was done"
 }
 
