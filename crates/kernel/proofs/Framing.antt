@@ -2,14 +2,13 @@
 use Prim.Native.Nat.{ℕ, ◌+◌}
 use mathlib.Core.Bool.{Bool, true, false, cond, not}
 use mathlib.Core.Logic.{◌≢◌}
-use mathlib.Core.Path.{◌≡◌, refl, sym, ap, ◌∙◌}
-use mathlib.Core.List.{List, [], ◌∷◌}
+use mathlib.Core.Path.{◌≡◌, refl, ap, ◌∙◌}
+use mathlib.Core.List.{List}
 use mathlib.Core.Option.{Option}
 use native.Mathlib.Nat.{zero-add}
-use native.Mathlib.Omega.{arith}
 use lib.Dec.{leb, eqb}
 use lib.ListN.{length}
-use borrow.Author.Tests.{eq-eqb, ne_eqb}
+use borrow.Author.Tests.{ne_eqb}
 use Rattle.wire_bytes.specs.Bytes.{put, put_whole}
 use Rattle.refusals.specs.Refusals.{first_of}
 use Rattle.wire_messages.specs.declared.Outcome.{Outcome}
@@ -24,10 +23,10 @@ use Rattle.wire_output.specs.Writing.{item_frame, writing_number, written_of, le
 use Rattle.wire_output.specs.declared.Written.{Written}
 use Rattle.wire_requests.specs.declared.reading.Reading.{Reading}
 use Rattle.device_store.specs.Sizes.{words}
-use Rattle.device_calls.specs.Commands.{command_number, command_after, command_answer, decision_of, outcome_for, enacted}
+use Rattle.device_calls.specs.Commands.{command_number, command_after, command_answer, decision_of, outcome_for}
 use Rattle.device_calls.specs.declared.Answer.{Answer}
 use Rattle.device_calls.specs.declared.Decision.{Decision}
-use Rattle.device_calls.proofs.Decisions.{answered, decision_enacted}
+use Rattle.device_calls.proofs.Decisions.{answered}
 use Rattle.kernel.specs.Frame.{response_to, response_frame, number_from, obeyed_by, answer_from, after_from, out_from, frame_answer, frame_after, frame_out}
 use Rattle.kernel.specs.declared.frame_call.Framed.{Framed}
 

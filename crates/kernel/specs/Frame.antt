@@ -1,5 +1,5 @@
 -- The frame call: a frame's bytes in, the device, the response's bytes out.
-use Rattle.std.specs.Prelude.{ℕ, Bool, true, false, cond, List, [], ◌∷◌, leb, eqb, length}
+use Rattle.std.specs.Prelude.{ℕ, cond, List, [], leb, eqb, length}
 use Rattle.wire_bytes.specs.Bytes.{put_whole}
 use Rattle.wire_messages.specs.declared.Request.{Request}
 use Rattle.wire_messages.specs.declared.Response.{Response}
