@@ -159,7 +159,7 @@ def executable(path, text):
 def copy_of_sources(name, *also):
     """The sources as an archive has them: no .git, nothing built; of the crates the code and what is named besides."""
     made = DESK / name
-    unwanted = {"specs", "proofs", "must-fail"} - set(also)
+    unwanted = {"specs", "proofs", "must-fail", "out"} - set(also)
 
     def skipped(where, names):
         inside = Path(where)

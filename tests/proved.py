@@ -50,7 +50,7 @@ def first_build():
     temporary.chmod(0o755)
     env = environment(TMPDIR=temporary)
     process = start(tool("rescue", top), env=env)
-    while not list((top / "target").glob("log/*.say")):
+    while not any(b"rt: chose" in log.read_bytes() for log in temporary.glob("*/log")):
         time.sleep(0.1)
     time.sleep(2)
     began = time.monotonic()

@@ -32,7 +32,8 @@ epoch() {
 }
 
 # ---- PROOF.txt
-# A gate's log as lines of NAME FUNCTIONS AXIOMS SUM, for each crate that it proved from nothing.
+# A gate's log as lines of NAME FUNCTIONS AXIOMS SUM, for each crate that it proved from nothing; of one that it kept from an
+# earlier run it has no figures.
 proved_crates() { # LOG
     awk '
         /^logic=proved / {
@@ -44,7 +45,7 @@ proved_crates() { # LOG
                 if ($i ~ /^sum=/) sum = substr($i, 5)
             }
         }
-        /^rt: [a-z0-9_]+ proved \([0-9]+ s\)$/ && sum != "" && !($2 in seen) {
+        /^rt: [a-z0-9_]+ proved$/ && sum != "" && !($2 in seen) {
             seen[$2] = 1
             print $2, functions, axioms, sum
             sum = ""
@@ -61,14 +62,14 @@ whole_gate() { # LOG CRATES
     last=$(tail -n 1 "$1")
     [[ $last =~ ^[0-9]+\ passed,\ 0\ failed$ ]] || fail "$1 does not end with '.. passed, 0 failed', but with '${last:0:80}': it is no whole gate's"
     missing=$(comm -23 <(all_crates) <(cut -d' ' -f1 "$2" | LC_ALL=C sort) | paste -s -d ' ')
-    [ -z "$missing" ] || fail "$1 does not say that these are proved from nothing: $missing"
+    [ -z "$missing" ] || fail "$1 does not say that these are proved from nothing: $missing (rt ci --anew proves them all in one run)"
     logic=$(sed 's/.* //' "$kit/KIT-ID")
     [ "$(cut -d' ' -f4 "$2" | sort -u)" = "$logic" ] || fail "$1 is of another logic than $logic, the toolchain's"
-    with=$(awk '$3 > 0 { print $1 }' "$2" | grep -xF "$(names_of capi)" | paste -s -d ' ') || true
+    with=$(awk '$3 > 0 { print $1 }' "$2" | grep -xF "$(names_of capi_c)" | paste -s -d ' ') || true
     [ -z "$with" ] || fail "$1 has axioms of crates that are linked into the archives: $with"
 }
 
-all_crates() { sed -n 's/^\([a-z0-9_]*\):.*/\1/p' "$top/crates.txt" | LC_ALL=C sort; }
+all_crates() { sed -n 's/^\([a-z0-9_]*\)[^:#]*:.*/\1/p' "$top/crates.txt" | LC_ALL=C sort; }
 
 proof() {
     local of
@@ -98,7 +99,7 @@ figures() {
         }' "$room/crates"
     printf '\nAn axiom is a contract of the C library that is assumed. Crates marked * are linked into the archives.\n'
     printf 'docs/ASSUMPTIONS.md says what a proof covers, and what it does not.\n\n'
-    awk -v linked="$(names_of capi)" '
+    awk -v linked="$(names_of capi_c)" '
         BEGIN { split(linked, names, "\n"); for (i in names) into[names[i]] = 1; printf "  %-24s %9s %7s\n", "crate", "functions", "axioms" }
         { printf "%s %-24s %9d %7d\n", $1 in into ? "*" : " ", $1, $2, $3 }' "$room/crates"
 }
