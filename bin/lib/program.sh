@@ -85,7 +85,7 @@ program_main() { # NAME WORDS...
     run "$program" "$name" "$input"
 }
 
-# The same for the sources as they stand, in seconds.
+# The same for the sources as they stand.
 unproved_main() { # NAME INPUT
     local program
     say "NOT PROVED: the sources as they stand are compiled and run, and no proof is looked at"
