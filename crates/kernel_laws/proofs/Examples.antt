@@ -1,12 +1,11 @@
 -- Readings, worked out. Assumes nothing.
-use Prim.Native.Nat.{ℕ}
 use mathlib.Core.Path.{◌≡◌, refl}
 use mathlib.Core.Bool.{true, false}
 use mathlib.Core.List.{[], ◌∷◌}
 use Rattle.ticks.specs.declared.front.Front.{Front}
 use Rattle.ticks.specs.Ticks.{END, step_of, refused, accepted, moved, reading_of}
 use native.Mathlib.Omega.{arith}
-use Rattle.kernel_laws.specs.TickLaws.{refusal, at, answers, shown, truly, Gaps, last, gap, Within, done, more}
+use Rattle.kernel_laws.specs.TickLaws.{refusal, at, answers, shown, truly, last, gap, done, more}
 use Rattle.kernel_laws.proofs.Over.{true-seconds}
 
 abbrev fresh : Front

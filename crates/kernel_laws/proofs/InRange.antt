@@ -1,12 +1,11 @@
 -- The response to a request that was read is one that can be written: its command is served, and every number is in range.
-use Prim.Native.Nat.{ℕ, ◌+◌, ◌≤◌, ◌<◌}
+use Prim.Native.Nat.{ℕ, ◌<◌}
 use mathlib.Core.Bool.{Bool, true, false, cond, not, ◌&&◌, ◌||◌}
-use mathlib.Core.Path.{◌≡◌, refl, sym, ap, ◌∙◌}
+use mathlib.Core.Path.{◌≡◌, refl}
 use mathlib.Core.List.{List, [], ◌∷◌}
 use native.Mathlib.Omega.{arith}
 use lib.Dec.{ltb, leb, eqb}
-use lib.ListN.{get_or}
-use lib.IntN.{ℤ, pos, negsuc}
+use lib.IntN.{pos, negsuc}
 use borrow.Author.Tests.{ltb-true, ltb-false, le-leb}
 use Rattle.wire_messages.specs.Numbers.{wire_number}
 use Rattle.refusals.specs.Refusals.{first_of}
@@ -14,7 +13,6 @@ use Rattle.wire_messages.specs.declared.Amount.{Amount}
 use Rattle.wire_messages.specs.declared.Command.{Command}
 use Rattle.wire_messages.specs.declared.Outcome.{Outcome}
 use Rattle.wire_messages.specs.declared.Request.{Request}
-use Rattle.wire_messages.specs.declared.Response.{Response}
 use Rattle.wire_fields.specs.Fields.{most_value, most32}
 use Rattle.wire_requests.specs.WrittenRequests.{request_number, request_wide, request_unserved, is_served, command_wide}
 use Rattle.wire_messages.specs.Numbers.{served_command, served_at}
@@ -27,7 +25,6 @@ use Rattle.device_calls.specs.Refusals.{late}
 use Rattle.device_holds.specs.Holds.{Situation, situation_of, in_failsafe, state_at, present, shown, values_at, value_at}
 use Rattle.device_calls.specs.Commands.{command_number, command_after, command_answer}
 use Rattle.command_effects.specs.Outcomes.{is_capped, outcome_with, reason_of, stated}
-use Rattle.command_effects.specs.Says.{natural}
 use Rattle.command_effects.specs.Content.{is_unserved, unsupported, sets_limits, invalid, below_the_minimum}
 use Rattle.kernel.specs.Frame.{response_to}
 

@@ -1,6 +1,6 @@
 -- What is proved of readings, one after the other (document 02, L10). The proof of TrueSeconds is true-seconds, in proofs/, and so for
 -- the others. Assumes nothing: these are definitions and statements.
-use Rattle.std.specs.Prelude.{ℕ, zero, suc, ◌+◌, ◌-◌, ◌/◌, ◌%◌, ◌^◌, ◌≤◌, ◌<◌, ◌≡◌, true, false, List, [], ◌∷◌, map, pos, negsuc, length, get_or}
+use Rattle.std.specs.Prelude.{ℕ, ◌+◌, ◌-◌, ◌/◌, ◌%◌, ◌^◌, ◌≤◌, ◌<◌, ◌≡◌, true, false, List, [], ◌∷◌, map, pos, negsuc, length, get_or}
 use Rattle.ticks.specs.declared.front.Front.{Front}
 use Rattle.ticks.specs.declared.words.Answer.{Answer}
 use Rattle.device_store.specs.Sizes.{end}
