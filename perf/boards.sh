@@ -96,9 +96,8 @@ link_board() { # TARGET PROGRAM FILE...
     cortex-*) picolibc "$target" "arm-none-eabi-gcc $(flags_of "$target" | grep -o -- '-m\(cpu\|fpu\|float-abi\)=[^ ]*' | paste -s -d ' ') -mthumb" "$@" ;;
     riscv32imac) picolibc "$target" "riscv64-unknown-elf-gcc -march=rv32imac -mabi=ilp32" "$@" ;;
     wasm32)
-        ln -sf "$tools/bin/clang" "$boards/wasm-ld"
-        "$boards/wasm-ld" --no-entry --gc-sections -z stack-size=65536 --export-if-defined=__main_argc_argv \
-            --export-if-defined=__main_void -o "$@" "$boards/$target/wasm.o"
+        (exec -a wasm-ld "$tools/bin/clang" --no-entry --gc-sections -z stack-size=65536 --export-if-defined=__main_argc_argv \
+            --export-if-defined=__main_void -o "$@" "$boards/$target/wasm.o")
         ;;
     esac
 }

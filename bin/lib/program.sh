@@ -39,7 +39,7 @@ run_program() { # PROGRAM LOOK
     "${loader[@]}" "$1" <&3 >"$room/answers" 2>"$room/said" 3>&- 7>&- &
     pid=$!
     ending=0
-    wait "$pid" || ending=$?
+    wait "$pid" 2>/dev/null || ending=$?
     wait "$looker" || true
     sink=$(cat "$room/sink") seen=$(cat "$room/seen")
     sed '/^Error: /d' "$room/said" >&2
