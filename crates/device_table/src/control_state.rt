@@ -5,6 +5,7 @@ ghost use Rattle.device_table.specs.States.{state_up, state_down};
 use refusals::{AUTONOMOUS, CONTROLLED, LIMITED, OVERRIDE};
 
 // The control state beside the two power limits that are shown, some zone up.
+#[tactic(auto, using(crate::proofs::Naturals::is_natural), unfolding(crate::specs::States::state_up))]
 pub fn state_up(overridden: u64, a: i64, b: i64) -> i64
     ensures { result ≡ state_up overridden a b }
 {
