@@ -215,7 +215,14 @@ def unproved():
 STAND_IN = """
 [ "$1 ${PWD##*/}" = 'lib capi_c' ] || exit 2
 cat >"$TMPDIR/one.ll" <<'END'
-define i64 @cekarum_interface_@NUMBER@_start() { ret i64 0 }
+define noundef i64 @cekarum_interface_@NUMBER@_start(ptr noundef %a0, i64 noundef %a1) #0 {
+start:
+  %r0 = alloca [24 x i8], align 8
+  call void @llvm.memmove.p0.p0.i64(ptr %r0, ptr %a0, i64 24, i1 false)
+  ret i64 %a1
+}
+declare void @llvm.memmove.p0.p0.i64(ptr, ptr, i64, i1)
+attributes #0 = { nounwind }
 !llvm.ident = !{!0}
 !0 = !{!"@MARK@"}
 END
