@@ -32,6 +32,7 @@ fn put64(out: &mut [u8], at: usize, v: u64)
 }
 
 // Stores the bytes of an argument, behind the first byte of its head.
+#[tactic(auto, using(crate::proofs::Widths::arg_width_2, crate::proofs::Widths::arg_width_4))]
 fn put_argument(out: &mut [u8], at: usize, arg: u64)
     requires { at + width_of (info_of arg) ≤ length out.old }
     ensures { out.new ≡ put out.old at (bytes_of (width_of (info_of arg)) arg) }

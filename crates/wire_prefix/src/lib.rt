@@ -26,6 +26,7 @@ pub fn is_framed(frame: &[u8]) -> bool
 }
 
 // Whether no frame ends there: its payload would have no byte, or more than 2,048.
+#[tactic(auto, unfolding(crate::specs::Prefix::bad_end))]
 pub fn is_bad_end(end: usize) -> bool
     ensures { result ≡ bad_end end }
 {

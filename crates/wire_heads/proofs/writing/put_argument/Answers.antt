@@ -1,7 +1,7 @@
 -- By the width of the argument.
 use native.Mathlib.Omega.{arith}
 use Rattle.wire_bytes.proofs.PutLaws.{put-width, put-nothing, put_one}
-use Rattle.wire_heads.proofs.Widths.{arg_width_0, arg_width_1, arg_width_2, arg_width_4, arg_width_8}
+use Rattle.wire_heads.proofs.Widths.{arg_width_0, arg_width_1, arg_width_8}
 use Rattle.wire_heads.proofs.writing.put_argument.Goals as goal
 
 pub returns-then-arg-lt24 : goal.returns-then-arg-lt24
@@ -16,22 +16,6 @@ pub returns-then-arg-lt256 : goal.returns-then-arg-lt256
 returns-then-arg-lt256 c =
     put-width c.args.out.now _ c.args.at c.args.arg 1 _ (arg_width_1 c.args.arg c.if-arg-lt24.false c.if-arg-lt256.true)
     (put_one c.args.out.now c.args.at c.args.arg)
-
-pub put16-requires : goal.put16-requires
-put16-requires c =
-    omega (arith, arg_width_2 c.args.arg c.if-arg-lt256.false c.if-arg-lt65536.true, c.requires)
-
-pub returns-then-arg-lt65536 : goal.returns-then-arg-lt65536
-returns-then-arg-lt65536 c =
-    put-width c.args.out.now _ c.args.at c.args.arg 2 _ (arg_width_2 c.args.arg c.if-arg-lt256.false c.if-arg-lt65536.true) c.put16.ensures
-
-pub put32-requires : goal.put32-requires
-put32-requires c =
-    omega (arith, arg_width_4 c.args.arg c.if-arg-lt65536.false c.if-arg-lt4294967296.true, c.requires)
-
-pub returns-then-arg-lt4294967296 : goal.returns-then-arg-lt4294967296
-returns-then-arg-lt4294967296 c =
-    put-width c.args.out.now _ c.args.at c.args.arg 4 _ (arg_width_4 c.args.arg c.if-arg-lt65536.false c.if-arg-lt4294967296.true) c.put32.ensures
 
 pub put64-requires : goal.put64-requires
 put64-requires c = omega (arith, arg_width_8 c.args.arg c.if-arg-lt4294967296.false, c.requires)
