@@ -9,17 +9,12 @@ use Rattle.wire_messages.specs.declared.Field.{Field}
 use Rattle.wire_messages.specs.declared.Target.{Target}
 use Rattle.wire_messages.specs.declared.Aim.{Aim}
 use Rattle.wire_messages.specs.declared.Amount.{Amount}
-use Rattle.wire_messages.specs.declared.Limits.{Limits}
-use Rattle.wire_messages.specs.declared.Setpoints.{Setpoints}
-use Rattle.wire_messages.specs.declared.Phases.{Phases}
 use Rattle.wire_messages.specs.declared.CurrentLimits.{CurrentLimits}
 use Rattle.wire_messages.specs.declared.Command.{Command}
 use Rattle.wire_messages.specs.declared.Request.{Request}
 use Rattle.refusals.specs.Refusals.{first_of}
-use Rattle.wire_requests.specs.WrittenRequests.{is_served, request_item, request_wide, request_unserved, request_number}
+use Rattle.wire_requests.specs.WrittenRequests.{is_served, request_wide, request_unserved, request_number}
 use Rattle.wire_messages.specs.Numbers.{served_at}
-use Rattle.wire_requests.specs.Requests.{read_request}
-use Rattle.wire_output.specs.Writing.{item_frame}
 use Rattle.wire_requests.specs.declared.reading.Reading.{Reading}
 use Rattle.wire_laws.proofs.RequestBack.{request_reads_back}
 use Rattle.wire_laws.proofs.RequestAgain.{request-writable}
@@ -29,7 +24,7 @@ use Rattle.capi_messages.specs.Requests.{request_in, request_words, request_valu
 use Rattle.capi_messages.proofs.Made.{made}
 use Rattle.capi.specs.Requests.{request_words_after, request_values_after}
 use Rattle.capi_laws.proofs.Marks.{mark_kept}
-use Rattle.capi_laws.specs.Inverse.{RequestKept, Plain, ReadPlain, RequestInWords, FlatReadsBack, RequestRefusedWhole, SetpointZeroWritten, SetpointOmitted, OmissionPassedOver}
+use Rattle.capi_laws.specs.Inverse.{RequestKept, ReadPlain, RequestInWords, FlatReadsBack, RequestRefusedWhole, SetpointZeroWritten, SetpointOmitted, OmissionPassedOver}
 
 field-kept : (f : Field) → field_of (flat_field f) ≡ f
 unfolding field_of flat_field

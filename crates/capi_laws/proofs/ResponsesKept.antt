@@ -3,7 +3,7 @@ use Prim.Native.Nat.{ℕ, ◌≤◌}
 use mathlib.Core.Path.{◌≡◌, refl, ap}
 use mathlib.Core.Bool.{Bool, true, false, cond, not, ◌&&◌, ◌||◌}
 use native.Mathlib.Omega.{arith}
-use lib.Dec.{ltb, leb, eqb}
+use lib.Dec.{leb, eqb}
 use borrow.Author.Tests.{leb-true, lt-ltb, eqb-true}
 use Rattle.refusals.specs.Refusals.{first_of}
 use Rattle.wire_messages.specs.declared.Amount.{Amount}
@@ -14,9 +14,8 @@ use Rattle.wire_messages.specs.declared.Outcome.{Outcome}
 use Rattle.wire_messages.specs.declared.Response.{Response}
 use Rattle.wire_fields.specs.Fields.{most_value}
 use Rattle.wire_messages.specs.Numbers.{served_command}
-use Rattle.wire_responses.specs.Responses.{is_status, stands, read_response}
-use Rattle.wire_responses.specs.WrittenResponses.{response_item, amount_up_to, limit_in_range, setpoint_in_range, current_in_range, goes_with, is_nothing, fits, response_fits, response_number}
-use Rattle.wire_output.specs.Writing.{item_frame}
+use Rattle.wire_responses.specs.Responses.{is_status, stands}
+use Rattle.wire_responses.specs.WrittenResponses.{amount_up_to, limit_in_range, setpoint_in_range, current_in_range, goes_with, is_nothing, fits, response_fits, response_number}
 use Rattle.wire_responses.specs.declared.reading.Answer.{Answer}
 use Rattle.wire_laws.proofs.ResponseBack.{response_reads_back}
 use Rattle.wire_laws.proofs.ResponseAgain.{response-writable}
