@@ -8,7 +8,6 @@ use native.Mathlib.Omega.{arith}
 use lib.Dec.{leb, eqb}
 use lib.ListN.{length}
 use borrow.Author.Tests.{ne_eqb}
-use Rattle.refusals.specs.Refusals
 use Rattle.wire_messages.specs.declared.Request.{Request}
 use Rattle.wire_requests.specs.Requests.{read_request, reading_number}
 use Rattle.wire_output.specs.Writing.{writing_number}

@@ -25,7 +25,7 @@ use Rattle.wire_responses.specs.declared.reading.Answer.{Answer}
 use Rattle.device_store.specs.Zones.{any}
 use Rattle.report.specs.declared.Inputs.{Inputs}
 use Rattle.report.specs.Report.{report_number}
-use Rattle.demands.specs.Tests.{missing, map_of, envelope_of, unserved, parameters_of, read_tests, answer_tests, write_request_tests, write_response_tests, report_tests}
+use Rattle.demands.specs.Tests.{missing, envelope_of, unserved, parameters_of, read_tests, answer_tests, write_request_tests, write_response_tests, report_tests}
 use Rattle.demands.specs.Answers.{ByTests}
 use Rattle.demands.proofs.FirstTests.{each, first-append, by_tests}
 

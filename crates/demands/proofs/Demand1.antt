@@ -8,7 +8,6 @@ use lib.ListN.{length}
 use borrow.Author.Tests.{ne_eqb}
 use Rattle.kernel.specs.Frame.{frame_number, frame_answer}
 use Rattle.device_store.specs.declared.Settings.{Settings}
-use Rattle.device_calls.specs.Refusals
 use Rattle.device_store.specs.Zones.{any}
 use Rattle.device_rules.specs.Rules.{bad_settings}
 use Rattle.device_calls.specs.Start.{start_number, start_after}

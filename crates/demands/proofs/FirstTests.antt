@@ -6,7 +6,6 @@ use Prim.Native.Nat.{ℕ, ◌≤◌}
 use native.Mathlib.Omega.{arith}
 use lib.Dec.{leb, eqb}
 use borrow.Author.Tests.{ne_eqb, leb-true}
-use Rattle.refusals.specs.Refusals
 use Rattle.device_calls.specs.Refusals.{first_of, Numbered}
 use Rattle.kernel_laws.proofs.FirstOf.{refused-exactly, accepted-exactly}
 use Rattle.demands.specs.Answers.{ByTests}

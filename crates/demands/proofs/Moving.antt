@@ -1,28 +1,28 @@
 -- Moving the clock leaves all that an ask and a plan go by but the second, and the rows say the values from each second on.
 use Prim.Native.Nat.{ℕ, zero, suc, ◌+◌, ◌-◌, ◌≤◌, ◌<◌}
-use mathlib.Core.Path.{◌≡◌, refl, sym, ap, ◌∙◌, subst}
+use mathlib.Core.Path.{◌≡◌, refl, sym, ap, ◌∙◌}
 use mathlib.Core.Bool.{Bool, true, false, cond, ◌||◌}
 use mathlib.Core.Logic.{ite}
-use mathlib.Core.List.{List, [], ◌∷◌, Memᴰ, List-discrete}
+use mathlib.Core.List.{List, ◌∷◌, Memᴰ, List-discrete}
 use native.Mathlib.Omega.{arith}
 use lib.Dec.{ltb, leb}
 use lib.IntN.{ℤ, ℤ_discrete}
-use lib.ListN.{length, set}
+use lib.ListN.{length}
 use lib.Seq.{set_out}
 use borrow.Author.Tests.{le-leb, lt-leb, le-ltb, leb-true, leb-false, ltb-false}
 use Rattle.refusals.specs.Refusals.{first_of}
 use Rattle.device_store.specs.Sizes.{end, slots, words}
 use Rattle.device_rules.specs.Rules.{late}
 use Rattle.device_store.specs.Zones.{free_zone}
-use Rattle.device_store.specs.Words.{clock_of, since_of, override_of, settings_of, zones_of, head_change, applied, after}
+use Rattle.device_store.specs.Words.{clock_of, override_of, zones_of, head_change, applied, after}
 use Rattle.device_store.proofs.Lens.{zones_length}
 use Rattle.device_store.proofs.Effects.{applied-settings, applied-clock, applied-since, applied-override, applied-zones}
-use Rattle.device_holds.specs.Holds.{Situation, situation_of, values_at}
+use Rattle.device_holds.specs.Holds.{situation_of, values_at}
 use Rattle.device_calls.specs.Calls.{ask_answer, move_number, move_after}
-use Rattle.plan.specs.Rows.{last, rows_of, plan, IsPlan}
+use Rattle.plan.specs.Rows.{last, rows_of, plan}
 use Rattle.plan.specs.Plan.{plan_of, rows_from}
 use Rattle.plan.proofs.IsPlan.{past, plan-is}
-use Rattle.demands.specs.Moving.{said_of, left_at, Moving, MovesAsPlanned}
+use Rattle.demands.specs.Moving.{said_of, left_at, MovesAsPlanned}
 
 module _ (f : ℕ → List ℤ) where
   abbrev same : (t : ℕ) → Dec (f (suc t) ≡ f t)

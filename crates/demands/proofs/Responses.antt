@@ -9,7 +9,6 @@ use lib.ListN.{length}
 use lib.Dec.{leb-zero}
 use borrow.Author.Tests.{eqb-true}
 use Rattle.wire_bytes.specs.Bytes.{put, put_whole}
-use Rattle.refusals.specs.Refusals
 use Rattle.wire_messages.specs.declared.Request.{Request}
 use Rattle.wire_requests.specs.Requests.{read_request}
 use Rattle.wire_responses.specs.Responses.{is_status}

@@ -30,7 +30,7 @@ use Rattle.device_store.specs.declared.Settings.{Settings}
 use Rattle.command_effects.specs.declared.actions.Action.{Action}
 use Rattle.device_store.specs.Sizes.{value_end}
 use Rattle.device_store.specs.Quantities.{direction_of, phase_of}
-use Rattle.command_effects.specs.Says.{limit_field, target_field, setpoint_field, phase_field, current_field, aim_field, kind_of, is_of, field_at, says, natural}
+use Rattle.command_effects.specs.Says.{target_field, phase_field, aim_field, kind_of, is_of, field_at, says, natural}
 use Rattle.command_effects.specs.Effects.{field_action, action}
 use Rattle.command_effects.specs.Says.{top_of}
 

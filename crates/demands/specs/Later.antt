@@ -18,7 +18,7 @@ use Rattle.plan.specs.Plan.{rows_from}
 use Rattle.plan_plain.specs.declared.Row.{Row}
 use Rattle.plan_plain.specs.Records.{plain_answer, plain_slice}
 use Rattle.rescue_walk.specs.Walk.{rescued, runs}
-use Rattle.rescue_walk.specs.Rescue.{longest_script, number, written, answer}
+use Rattle.rescue_walk.specs.Rescue.{longest_script, written, answer}
 use Rattle.demands.specs.Tests.{missing}
 use Rattle.demands.specs.Answers.{ByTests}
 use Rattle.refusals.specs.Refusals.{BAD_CBOR, BAD_LENGTH, BAD_MESSAGE, BAD_TIME, NO_SPACE}
