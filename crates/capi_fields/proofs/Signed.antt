@@ -20,11 +20,11 @@ pub left_out : (z : ℤ) → z ≡ negsuc 0 → Amount.Absent ≡ amount_of z
 unfolding amount_of
 left_out z e = rw e
 
-pub too-low : (z : ℤ) → (z ≡ negsuc 0 → ⊥) → lt_z z (pos 0) ≡ true → Amount.Is most ≡ amount_of z
+pub too_low : (z : ℤ) → (z ≡ negsuc 0 → ⊥) → lt_z z (pos 0) ≡ true → Amount.Is most ≡ amount_of z
 unfolding amount_of
-too-low (pos n) e h = absurd (false≢true (sym h ∙ leb-suc-zero n))
-too-low (negsuc zero) e h = absurd (e refl)
-too-low (negsuc (suc n)) e h = refl
+too_low (pos n) e h = absurd (false≢true (sym h ∙ leb-suc-zero n))
+too_low (negsuc zero) e h = absurd (e refl)
+too_low (negsuc (suc n)) e h = refl
 
 -- of a number that is not below 0: it is no less than 0, and it is its magnitude
 pub not_low : (z : ℤ) → lt_z z (pos 0) ≡ false → T (non_neg z)
@@ -35,3 +35,6 @@ pub put_in : (z : ℤ) → lt_z z (pos 0) ≡ false → Amount.Is (nat_abs z) �
 unfolding amount_of
 put_in (pos n) h = refl
 put_in (negsuc n) h = absurd (false≢true h)
+
+-- the cases of `amount_of`, for a search
+pub ruleset amounts = (left_out, too_low, put_in, of_bits)

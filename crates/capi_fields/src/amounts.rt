@@ -11,6 +11,7 @@ const VALUE_END: u64 = 1 << 63;
 const MOST: u64 = 18446744073709551615;
 
 // From C: -1 is absent; any other negative number is a value that no response has.
+#[tactic(auto, using(crate::proofs::Signed::amounts))]
 pub fn amount_of(v: i64) -> Amount
     ensures { result ≡ amount_of v }
 {
@@ -24,6 +25,7 @@ pub fn amount_of(v: i64) -> Amount
 }
 
 // For C, as an ask shows it.
+#[tactic(auto, unfolding(crate::specs::Amounts::flat_amount))]
 pub fn flat_amount(a: Amount) -> i64
     ensures { result ≡ flat_amount a }
 {

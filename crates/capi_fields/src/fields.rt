@@ -13,6 +13,7 @@ pub struct FlatField {
 }
 
 // A field from C: null, a number, or absent.
+#[tactic(auto, unfolding(crate::specs::Fields::field_of))]
 pub fn field_of(f: FlatField) -> Field
     ensures { result ≡ field_of f }
 {
@@ -26,6 +27,7 @@ pub fn field_of(f: FlatField) -> Field
 }
 
 // The same of a setpoint, which has no null.
+#[tactic(auto, unfolding(crate::specs::Fields::target_of))]
 pub fn target_of(f: FlatField) -> Target
     ensures { result ≡ target_of f }
 {
@@ -36,6 +38,7 @@ pub fn target_of(f: FlatField) -> Target
 }
 
 // What a clear names: one direction, or both.
+#[tactic(auto, unfolding(crate::specs::Fields::aim_of))]
 pub fn aim_of(has: bool, direction: u64) -> Aim
     ensures { result ≡ aim_of has direction }
 {
@@ -46,6 +49,7 @@ pub fn aim_of(has: bool, direction: u64) -> Aim
 }
 
 // A duration that is to be left out, and is 0; any other is written, a 0 too.
+#[tactic(auto, unfolding(crate::specs::Fields::setpoint_time))]
 pub fn setpoint_time(omitted: bool, duration: u64) -> Amount
     ensures { result ≡ setpoint_time omitted duration }
 {
@@ -56,6 +60,7 @@ pub fn setpoint_time(omitted: bool, duration: u64) -> Amount
 }
 
 // Kinds that SetLimit's fields have.
+#[tactic(auto, unfolding(crate::specs::Fields::limit_kind))]
 pub fn are_limit_kinds(a: u64, b: u64) -> bool
     ensures { result ≡ (limit_kind a && limit_kind b) }
 {
@@ -63,12 +68,14 @@ pub fn are_limit_kinds(a: u64, b: u64) -> bool
 }
 
 // Kinds that SetCurrentLimits' phases have.
+#[tactic(auto, unfolding(crate::specs::Fields::limit_kind))]
 pub fn are_phase_kinds(a: u64, b: u64, c: u64) -> bool
     ensures { result ≡ (limit_kind a && (limit_kind b && limit_kind c)) }
 {
     (a < 3) & ((b < 3) & (c < 3))
 }
 
+#[tactic(auto, unfolding(crate::specs::Fields::setpoint_kind))]
 fn is_setpoint_kind(k: u64) -> bool
     ensures { result ≡ setpoint_kind k }
 {
@@ -90,6 +97,7 @@ pub fn no_field() -> FlatField
 }
 
 // A field for C.
+#[tactic(auto, unfolding(crate::specs::Fields::flat_field))]
 pub fn flat_field(f: Field) -> FlatField
     ensures { result ≡ flat_field f }
 {
@@ -101,6 +109,7 @@ pub fn flat_field(f: Field) -> FlatField
 }
 
 // A setpoint's field for C.
+#[tactic(auto, unfolding(crate::specs::Fields::flat_target))]
 pub fn flat_target(f: Target) -> FlatField
     ensures { result ≡ flat_target f }
 {

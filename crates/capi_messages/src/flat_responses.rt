@@ -65,6 +65,7 @@ fn is_limit(command: u64, applied: bool) -> bool
     (command == 1) | !applied
 }
 
+#[tactic(auto, unfolding(crate::specs::Responses::outcome_of))]
 fn outcome_of(command: u64, p: FlatResponse) -> Outcome
     ensures { result ≡ outcome_of command p }
 {

@@ -78,3 +78,6 @@ module _ (s : Settings) (end : ℕ) where
       left_elsewhere n o =
           each ∙ up_to-cong (λ q. get_or hs q nothing) (λ q. left_by s (mapped m.phases m.direction q) q end (get_or hs q nothing)) helds
           (λ q h. rw (ne_eqb (direction_of q) m.direction (λ e. omega arith)) (keeps (is_current q) (phase_field m.phases (phase_of q)) q (get_or hs q nothing)))
+
+-- what a map of phases leaves, for a search
+pub ruleset maps = (left_consumption, left_production, left_elsewhere)

@@ -81,6 +81,7 @@ fn with_phases(s: Settings, m: Phases, q: usize, until: u64, old: [Held; HELDS])
 }
 
 // A map of a direction that is none leaves all as it was.
+#[tactic(auto, using(crate::proofs::Leaves::maps))]
 fn with_map(s: Settings, m: CurrentLimits, until: u64, old: [Held; HELDS]) -> [Held; HELDS]
     ensures { result ≡ helds_after s (Command.SetCurrentLimits m) until old }
 {

@@ -6,6 +6,7 @@ use device_store::MOST;
 use wire_messages::Amount;
 
 // The second until which a value set at n for a duration holds.
+#[tactic(auto, unfolding(crate::specs::Durations::until_of))]
 pub fn until_of(n: u64, duration: u64) -> u64
     ensures { result ≡ until_of n duration }
 {

@@ -44,6 +44,7 @@ pub fn field_negative(f: Field) -> bool
 }
 
 // The rule for a single value: 0 means off.
+#[tactic(auto, unfolding(crate::specs::Fields::too_low))]
 fn is_too_low(minimum: u64, v: u64) -> bool
     ensures { result ≡ too_low minimum v }
 {

@@ -20,6 +20,7 @@ fn above_if(capped: bool) -> Amount
 }
 
 // Why a SetLimit was refused, or that it was capped.
+#[tactic(auto, unfolding(crate::specs::Fields::reason_of))]
 pub fn reason_of(n: u64, capped: bool) -> Amount
     ensures { result ≡ reason_of n capped }
 {

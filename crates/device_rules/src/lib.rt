@@ -14,6 +14,7 @@ const RANKS: u64 = 3;
 const MOST_PHASES: u64 = 3;
 
 // 5: whether a call at t comes before the last accepted one, or past the end of time.
+#[tactic(auto, unfolding(crate::specs::Rules::late))]
 pub fn is_late(clock: u64, t: u64) -> bool
     ensures { result ≡ late clock t }
 {
@@ -21,6 +22,7 @@ pub fn is_late(clock: u64, t: u64) -> bool
 }
 
 // 6: an id outside 1 to 255, or a rank outside 1 to 3.
+#[tactic(auto, unfolding(crate::specs::Rules::bad_join))]
 pub fn is_bad_join(zone: u64, rank: u64) -> bool
     ensures { result ≡ bad_join zone rank }
 {
@@ -34,6 +36,7 @@ pub fn is_bad_join(zone: u64, rank: u64) -> bool
 }
 
 // Whether an override's reason goes with its direction; else 18. Reasons 3 and 4 are for an energy manager alone.
+#[tactic(auto, unfolding(crate::specs::Rules::go_together))]
 pub fn go_together(manager: bool, reason: u64, direction: u64) -> bool
     ensures { result ≡ go_together manager reason direction }
 {
@@ -52,12 +55,14 @@ pub fn go_together(manager: bool, reason: u64, direction: u64) -> bool
     false
 }
 
+#[tactic(auto, unfolding(crate::specs::Rules::bad_maximum))]
 fn is_bad_maximum(m: u64) -> bool
     ensures { result ≡ bad_maximum m }
 {
     VALUE_END <= m && m != MOST
 }
 
+#[tactic(auto, unfolding(crate::specs::Rules::outside))]
 fn is_outside(low: u64, v: u64, high: u64) -> bool
     ensures { result ≡ outside low v high }
 {
@@ -65,6 +70,7 @@ fn is_outside(low: u64, v: u64, high: u64) -> bool
 }
 
 // 16: a setting out of range, or a contractual consumption maximum below the minimum.
+#[tactic(auto, unfolding(crate::specs::Rules::bad_settings))]
 pub fn is_bad_settings(s: Settings) -> bool
     ensures { result ≡ bad_settings s }
 {

@@ -45,6 +45,7 @@ fn wide(mask: u16) -> u64
 }
 
 // The bits that an endpoint type requires, as a map; none past the last type.
+#[tactic(auto, unfolding(crate::specs::Endpoints::required))]
 pub fn required_bits(endpoint: u64) -> u64
     ensures { result ≡ mask (bits_of required endpoint) }
 {
@@ -55,6 +56,7 @@ pub fn required_bits(endpoint: u64) -> u64
 }
 
 // The bits that an endpoint type forbids, as a map; none past the last type.
+#[tactic(auto, unfolding(crate::specs::Endpoints::invalid))]
 pub fn invalid_bits(endpoint: u64) -> u64
     ensures { result ≡ mask (bits_of invalid endpoint) }
 {

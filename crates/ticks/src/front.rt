@@ -28,6 +28,7 @@ pub struct Reading {
 }
 
 // A new front, before its first reading.
+#[tactic(auto, unfolding(crate::specs::Ticks::no_front))]
 pub fn no_front() -> Front
     ensures { result ≡ no_front }
 {
@@ -39,6 +40,7 @@ pub fn no_front() -> Front
     }
 }
 
+#[tactic(auto, unfolding(crate::specs::Ticks::refused))]
 fn refuse(f: Front) -> Reading
     ensures { result ≡ refused f }
 {
@@ -50,6 +52,7 @@ fn refuse(f: Front) -> Reading
 }
 
 // The end is not passed.
+#[tactic(auto, unfolding(crate::specs::Ticks::accepted))]
 fn accept(tick: u32, seconds: u64, remainder: u32) -> Reading
     requires { seconds ≤ END }
     ensures { result ≡ accepted tick seconds remainder }
@@ -67,6 +70,7 @@ fn accept(tick: u32, seconds: u64, remainder: u32) -> Reading
 }
 
 // Takes a reading, on every content of the front. The difference of two readings wraps, as the counter does.
+#[tactic(auto, using(crate::proofs::Steps::step_is), unfolding(crate::specs::Ticks::reading_of, crate::specs::Ticks::moved))]
 pub fn read_tick(f: Front, tick: u32) -> Reading
     ensures { result ≡ reading_of f tick }
 {

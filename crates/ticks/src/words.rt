@@ -19,6 +19,7 @@ pub const FRONT: usize = 4;
 const ROUND: u64 = 4294967296;
 
 // Of a reading and of a remainder the low 32 bits count.
+#[tactic(auto, unfolding(crate::specs::Words::front_in))]
 fn front_in(words: &[u64; FRONT]) -> Front
     ensures { result ≡ front_in words.now }
 {
@@ -31,6 +32,7 @@ fn front_in(words: &[u64; FRONT]) -> Front
 }
 
 // Stores a front that has begun.
+#[tactic(auto, unfolding(crate::specs::Words::front_words))]
 fn put_front(words: &mut [u64; FRONT], f: Front)
     ensures { words.new ≡ sets words.old 0 (front_words f) }
 {
@@ -41,6 +43,7 @@ fn put_front(words: &mut [u64; FRONT], f: Front)
 }
 
 // Stores the front of an accepted reading.
+#[tactic(auto, unfolding(crate::specs::Words::kept))]
 fn keep_front(words: &mut [u64; FRONT], r: Reading)
     ensures { words.new ≡ kept words.old r }
 {

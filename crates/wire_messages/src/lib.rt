@@ -36,6 +36,7 @@ pub const CLEAR_CURRENT_LIMITS: u64 = 6;
 pub const COMMANDS: u64 = CLEAR_CURRENT_LIMITS;
 
 // Whether a command's number is served.
+#[tactic(auto, unfolding(crate::specs::Numbers::served_command))]
 pub fn is_command(c: u64) -> bool
     ensures { result ≡ served_command c }
 {
@@ -43,6 +44,7 @@ pub fn is_command(c: u64) -> bool
 }
 
 // Whether it is the served endpoint and feature.
+#[tactic(auto, unfolding(crate::specs::Numbers::served_at))]
 pub fn is_served(endpoint: u64, feature: u64) -> bool
     ensures { result ≡ served_at endpoint feature }
 {

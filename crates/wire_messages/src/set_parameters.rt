@@ -35,6 +35,7 @@ fn target_of(f: Field) -> Target
 }
 
 // What SetLimit makes of its parameters.
+#[tactic(auto, unfolding(crate::specs::Shapes::limits_from))]
 pub fn limits_from(s: Setting) -> Limits
     ensures { result ≡ limits_from s }
 {
@@ -50,6 +51,7 @@ pub fn limits_from(s: Setting) -> Limits
 }
 
 // What SetSetpoint makes of its parameters, which have no null and keep their duration as it stands.
+#[tactic(auto, unfolding(crate::specs::Shapes::setpoints_from))]
 pub fn setpoints_from(s: Setting) -> Setpoints
     ensures { result ≡ setpoints_from s }
 {
@@ -85,6 +87,7 @@ pub fn target_field(t: Target) -> Field
 }
 
 // The parameters of SetLimit.
+#[tactic(auto, unfolding(crate::specs::Shapes::setting_of_limits))]
 pub fn setting_of_limits(l: Limits) -> Setting
     ensures { result ≡ setting_of_limits l }
 {
@@ -99,6 +102,7 @@ pub fn setting_of_limits(l: Limits) -> Setting
 }
 
 // The parameters of SetSetpoint, with the duration as it stands: a 0 is written.
+#[tactic(auto, unfolding(crate::specs::Shapes::setting_of_setpoints))]
 pub fn setting_of_setpoints(l: Setpoints) -> Setting
     ensures { result ≡ setting_of_setpoints l }
 {
