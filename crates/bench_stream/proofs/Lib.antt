@@ -4,3 +4,4 @@ pub mod Turns
 pub mod Stops
 pub mod Readings
 pub mod Moves
+mod Taken

@@ -1,6 +1,6 @@
 -- Bytes moved to the front of a buffer, and what a fill keeps there. Assumes nothing.
 use Prim.Native.Nat.{ℕ, zero, suc, ◌+◌, ◌-◌, ◌<◌, ◌≤◌}
-use mathlib.Core.Path.{◌≡◌, refl, sym, ap, ◌∙◌}
+use mathlib.Core.Path.{◌≡◌, sym, ap, ◌∙◌}
 use mathlib.Core.Bool.{false, and-false}
 use mathlib.Core.List.{List, [], ◌∷◌, ◌++◌}
 use native.Mathlib.Numerals.{add-one}
@@ -9,9 +9,8 @@ use lib.Dec.{ltb}
 use lib.ListN.{length, get_or, take, drop, set, length-drop, take-append-drop}
 use lib.Seq.{paste, paste-zero, paste-suc, length-paste, length-take-le, get_or-append-add, get_or-drop, take_at, take-take, take-nil}
 use Rattle.bench_records.specs.Kinds.{longest}
-use Rattle.bench_stream.specs.declared.input.Input.{Input}
-use Rattle.bench_stream.specs.Buffer.{bytes_in, shifted, is_short, Filled}
-use Rattle.bench_stream.specs.Laws.{Fetched, Fetches, Unrun}
+use Rattle.bench_stream.specs.Buffer.{bytes_in, shifted, is_short}
+use Rattle.bench_stream.specs.Laws.{Fetches, Unrun}
 use Rattle.bench_stream.proofs.Stops.{not_short}
 
 module _ (buf : List ℕ) (from to : ℕ) (order : from ≤ to) (within : to ≤ length buf) where

@@ -1,15 +1,15 @@
 -- Where a record is ready, and where none is. Assumes nothing.
 use Prim.Native.Nat.{ℕ, ◌+◌, ◌-◌, ◌<◌, ◌≤◌}
-use mathlib.Core.Path.{◌≡◌, refl, sym, ap, ◌∙◌}
+use mathlib.Core.Path.{◌≡◌, refl, sym, ◌∙◌}
 use mathlib.Core.Logic.{⊎_elim}
-use mathlib.Core.Bool.{Bool, true, false, ◌&&◌, ◌||◌}
-use mathlib.Core.List.{List, []}
+use mathlib.Core.Bool.{Bool, true, false}
+use mathlib.Core.List.{List}
 use native.Mathlib.Omega.{arith}
 use borrow.Author.Tests.{lt-ltb, le-ltb, ltb-true, ltb-false, le-leb, lt-leb, eq-eqb, eqb-true}
 use lib.Dec.{ltb, leb, eqb}
 use lib.ListN.{length}
 use Rattle.wire_bytes.proofs.Order.{below}
-use Rattle.bench_records.specs.Kinds.{head, longest}
+use Rattle.bench_records.specs.Kinds.{longest}
 use Rattle.bench_records.specs.Records.{record_at}
 use Rattle.bench_records.specs.declared.fields.Record.{Record}
 use Rattle.bench_records.specs.declared.fields.Scan.{Scan}

@@ -1,21 +1,21 @@
 -- A whole record of a piece is the same one, and does the same, with whatever comes behind the piece. Assumes nothing.
 use Prim.Native.Nat.{ℕ, zero, suc, ◌+◌, ◌<◌, ◌≤◌}
-use mathlib.Core.Path.{◌≡◌, refl, sym, ap, ◌∙◌}
+use mathlib.Core.Path.{◌≡◌, refl, ap}
 use mathlib.Core.Bool.{Bool, true, false, cond, ◌&&◌}
-use mathlib.Core.List.{List, [], ◌++◌, append-nil}
+use mathlib.Core.List.{List, ◌++◌}
 use native.Mathlib.Omega.{arith}
 use lib.Dec.{leb, eqb}
 use lib.IntN.{ℤ}
-use lib.ListN.{length, get_or, take, drop, length-append, length-drop, get_or-append}
+use lib.ListN.{length, get_or, drop, length-append, length-drop, get_or-append}
 use lib.Seq.{drop-append-le, take-append-le}
 use borrow.Author.Tests.{le-leb, leb-true, eqb-true}
 use Rattle.wire_bytes.specs.Bytes.{number_at}
-use Rattle.bench_records.specs.Kinds.{head, longest, join, leave, lost, back, frame, plan, override, clear, move, kinds, frame_least, frame_most, right_length, right_body}
+use Rattle.bench_records.specs.Kinds.{head, join, leave, lost, back, frame, plan, override, clear, move, kinds, right_length, right_body}
 use Rattle.bench_records.specs.Records.{is_mark, fields_at, good, record_at}
 use Rattle.bench_records.specs.declared.fields.Record.{Record}
 use Rattle.bench_records.specs.declared.fields.Scan.{Scan}
 use Rattle.bench_records.proofs.Scans.{both, record_within}
-use Rattle.bench_script.specs.Runs.{Left, call_of, body_of, record_leaves, scan_leaves, step_leaves, step_from, step_answer}
+use Rattle.bench_script.specs.Runs.{call_of, body_of, record_leaves, scan_leaves, step_leaves, step_from, step_answer}
 use Rattle.bench_script.specs.declared.calls.Call.{Call}
 
 -- a body's bytes that its call does not read make no difference

@@ -1,5 +1,7 @@
 -- What of a script is read and not yet run. Assumes nothing: these are definitions.
 use Rattle.std.specs.Prelude.{ℕ, ◌+◌, ◌-◌, ◌≤◌, ◌≡◌, Bool, false, ◌&&◌, List, ◌++◌, ltb, length, take, drop}
+use Rattle.std.specs.Io.KnownBytes.{Consumes}
+use Rattle.std.specs.declared.option.Option.{Option}
 use Rattle.bench_records.specs.Kinds.{longest}
 use Rattle.bench_stream.specs.declared.input.Input.{Input}
 
@@ -24,3 +26,8 @@ pub record Filled (buf : List ℕ) (x : Input) (buf' : List ℕ) (y : Input) : T
   pub kept : take (x.to - x.from) buf' ≡ bytes_in buf x.from x.to
   pub counted : y.to + y.left ≤ (x.to - x.from) + x.left
   pub enough : is_short y.to y.left ≡ false
+
+-- what a reader has left to give, where that is known, before and after: so many bytes were taken from its front that they and
+-- those that may still be read are no more than `most`
+abbrev pub Takes : Option (List ℕ) → Option (List ℕ) → ℕ → ℕ → Type 0
+Takes old new left most = (bs : List ℕ) × Consumes old new bs × (length bs + left ≤ most)

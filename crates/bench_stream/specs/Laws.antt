@@ -1,6 +1,6 @@
 -- What is proved of the driver. The proof of WholeRuns is whole-runs, in proofs/, and so for the others.
 -- Assumes nothing: these are statements.
-use Rattle.std.specs.Prelude.{ℕ, ◌+◌, ◌≤◌, ◌<◌, ◌≡◌, Bool, true, false, cond, List, [], ◌∷◌, ◌++◌, eqb, length, take, drop}
+use Rattle.std.specs.Prelude.{ℕ, ◌+◌, ◌≤◌, ◌<◌, ◌≡◌, Bool, true, false, cond, List, [], ◌++◌, eqb, length, take, drop}
 use Rattle.text.specs.Pieces.{joined}
 use Rattle.bench_records.specs.Kinds.{longest}
 use Rattle.bench_records.specs.Records.{record_at}

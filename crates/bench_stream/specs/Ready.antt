@@ -2,7 +2,6 @@
 use Rattle.std.specs.Prelude.{ℕ, ◌+◌, ◌≤◌, ◌≡◌, Bool, true, false, ◌&&◌, ◌||◌, List, [], ◌++◌, ltb, leb, length, drop}
 use Rattle.bench_records.specs.Kinds.{longest}
 use Rattle.bench_records.specs.Records.{record_at}
-use Rattle.bench_records.specs.declared.fields.Record.{Record}
 use Rattle.bench_records.specs.declared.fields.Scan.{Scan}
 use Rattle.bench_script.specs.Bench.{script, answer_room, remaining, Comes}
 use Rattle.bench_stream.specs.declared.pieces.Place.{Place}

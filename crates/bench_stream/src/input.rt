@@ -1,6 +1,7 @@
 // What of a script is read and not yet run.
-ghost use Rattle.std.specs.Prelude.{◌≡◌, ◌+◌, ◌-◌, ◌≤◌, length, take, IfOk, OnErr};
-ghost use Rattle.bench_stream.specs.Buffer.{bytes_in, shifted, is_short, Filled};
+ghost use Rattle.std.specs.Prelude.{◌≡◌, ◌+◌, ◌-◌, ◌≤◌, length, take, IfOk, OnErr, MatchResult};
+ghost use Rattle.std.specs.Io.KnownBytes.{ConsumesCount};
+ghost use Rattle.bench_stream.specs.Buffer.{bytes_in, shifted, is_short, Filled, Takes};
 
 use std::io;
 use std::io::Read;
@@ -42,6 +43,7 @@ fn read_more<R: Read>(input: &mut R, buf: &mut [u8], to: usize, left: u64) -> io
     requires { to ≤ length buf.old }
     ensures result_in_bounds { IfOk result (λ n. (to + n ≤ length buf.old) × (n ≤ left)) }
     ensures buf_unchanged { take to buf.new ≡ take to buf.old }
+    ensures taken { ConsumesCount (R.remaining input.old) (R.remaining input.new) result }
 {
     let end = read_end(buf.len(), to, left);
     input.read(&mut buf[to..end])
@@ -54,11 +56,13 @@ fn is_short(to: usize, left: u64) -> bool
 }
 
 // Brings what is left to the front, and reads until a whole record must be there or the input ends. Where a read fails, what was
-// left stands at the front.
+// left stands at the front. No more is read than may be, also where a read fails.
 pub(crate) fn fill<R: Read>(input: &mut R, buf: &mut [u8], x: Input) -> io::Result<Input>
     requires { (x.from ≤ x.to) × (x.to ≤ length buf.old) }
     ensures filled { IfOk result (λ y. Filled buf.old x buf.new y) }
     ensures kept_on_error { OnErr result (take (x.to - x.from) buf.new ≡ bytes_in buf.old x.from x.to) }
+    ensures taken { MatchResult result (λ y. Takes (R.remaining input.old) (R.remaining input.new) y.left x.left)
+        (λ _. Takes (R.remaining input.old) (R.remaining input.new) 0 x.left) }
 {
     let from = x.from;
     let end = x.to;

@@ -1,6 +1,7 @@
 // A script from its first record to its last.
-ghost use Rattle.std.specs.Prelude.{◌≡◌, true, ◌≤◌, length, IfOk};
+ghost use Rattle.std.specs.Prelude.{◌≡◌, true, ◌≤◌, length, IfOk, MatchResult};
 ghost use Rattle.bench_script.specs.Bench.{frame_room, rows_room, answer_room};
+ghost use Rattle.bench_stream.specs.Buffer.{Takes};
 ghost use Rattle.bench_stream.specs.Ready.{goes_on};
 
 use crate::input::{Input, fill};
@@ -47,7 +48,9 @@ fn play_with<R: Read, W: Write>(
     rows: &mut [i64],
 ) -> io::Result<Ended>
     requires { (frame_room ≤ length out.old) × (length rows.old ≡ rows_room) × (answer_room ≤ length page.old) }
-    ensures { IfOk result (λ e. (e.left ≤ limit) × (e.good ≡ true → e.left ≡ 0)) }
+    ensures ended { IfOk result (λ e. (e.left ≤ limit) × (e.good ≡ true → e.left ≡ 0)) }
+    ensures taken { MatchResult result (λ e. Takes (R.remaining input.old) (R.remaining input.new) e.left limit)
+        (λ _. Takes (R.remaining input.old) (R.remaining input.new) 0 limit) }
 {
     let mut x = Input {
         from: 0,
@@ -76,9 +79,11 @@ fn play_with<R: Read, W: Write>(
 }
 
 // Plays a script of at most `limit` bytes on a fresh device. A script without a bad record is read to its end. Where a read or a
-// write fails, some of the script is read and not run, or run and its answers not written whole.
+// write fails, some of the script is read and not run, or run and its answers not written whole; never is more read than `limit`.
 pub fn play<R: Read, W: Write>(input: &mut R, output: &mut W, limit: u64) -> io::Result<Ended>
-    ensures { IfOk result (λ e. (e.left ≤ limit) × (e.good ≡ true → e.left ≡ 0)) }
+    ensures ended { IfOk result (λ e. (e.left ≤ limit) × (e.good ≡ true → e.left ≡ 0)) }
+    ensures taken { MatchResult result (λ e. Takes (R.remaining input.old) (R.remaining input.new) e.left limit)
+        (λ _. Takes (R.remaining input.old) (R.remaining input.new) 0 limit) }
 {
     let mut d = [0u64; WORDS];
     kernel::start(&mut d, bench_script::bench_settings());
