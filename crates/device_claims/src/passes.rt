@@ -43,6 +43,7 @@ fn low_at(k: usize) -> usize
 }
 
 // One value of limit k more.
+#[tactic(auto, unfolding(crate::specs::Pass::low_step, device_store::specs::Smaller::nearer, device_store::specs::Smaller::lesser))]
 fn low_with(t: u64, h: Held, k: usize, g: LowestValues) -> LowestValues
     requires { k < lowest_values }
     ensures value { result ≡ low_step t h k g }
@@ -60,6 +61,7 @@ fn low_with(t: u64, h: Held, k: usize, g: LowestValues) -> LowestValues
 }
 
 // One value of setpoint k more. A later precedence takes the place of an equal one, so that the first of all needs no test of its own.
+#[tactic(auto, unfolding(crate::specs::Pass::lead_step, crate::specs::Pass::takes, device_store::specs::Smaller::nearer, device_store::specs::Smaller::lesser))]
 fn lead_with(t: u64, h: Held, precedence: u64, k: usize, g: LeadingSetpoints) -> LeadingSetpoints
     requires { k < leading_setpoints }
     ensures value { result ≡ lead_step t h precedence k g }

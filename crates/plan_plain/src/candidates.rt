@@ -13,6 +13,7 @@ const EXPIRIES: usize = SLOTS * HELDS;
 const CANDIDATES: usize = EXPIRIES + 1;
 
 // When quantity q of the zone in slot i ends, 0 where the slot is free or nothing is held.
+#[tactic(auto, unfolding(crate::specs::Candidates::expiry_at, device_store::specs::Zones::is_joined))]
 fn expiry(d: &State, i: usize, q: usize) -> u64
     ensures { result ≡ expiry_at (zones_of d.now) i q }
 {
@@ -46,6 +47,7 @@ fn candidate(d: &State, k: usize) -> u64
 }
 
 // The nearer of `best` and, where it lies past t, c.
+#[tactic(auto, unfolding(device_store::specs::Smaller::nearer))]
 fn nearer(t: u64, best: u64, c: u64) -> u64
     ensures { result ≡ nearer t best c }
 {
