@@ -53,9 +53,9 @@ fn holds_value(d: &State, slot: usize, t: u64, q: usize, v: u64) -> bool
 // The best-placed slot so far, and slot i beside it. SLOTS is none.
 fn better_placed(d: &State, best: usize, i: usize, t: u64, q: usize, v: u64) -> usize
     requires i_lt_slots { i < slots }
-    requires free_zone_value { is_joined (get_or (zones_of d.now) best free_zone) ≡ ltb best slots }
-    ensures free_zone_value_2 { get_or (zones_of d.now) result free_zone ≡ better_placed (holds_value t q v) (get_or (zones_of d.now) best free_zone) (get_or (zones_of d.now) i free_zone) }
-    ensures free_zone_value_3 { is_joined (get_or (zones_of d.now) result free_zone) ≡ ltb result slots }
+    requires best_joined { is_joined (get_or (zones_of d.now) best free_zone) ≡ ltb best slots }
+    ensures placed { get_or (zones_of d.now) result free_zone ≡ better_placed (holds_value t q v) (get_or (zones_of d.now) best free_zone) (get_or (zones_of d.now) i free_zone) }
+    ensures placed_joined { is_joined (get_or (zones_of d.now) result free_zone) ≡ ltb result slots }
 {
     if holds_value(d, i, t, q, v) {
         if best < SLOTS {

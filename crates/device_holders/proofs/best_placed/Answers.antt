@@ -17,8 +17,8 @@ pub loop-i-preserved : goal.loop-i-preserved
 loop-i-preserved c = (
   omega arith,
   fold_turn _ (zones_of c.args.d.now) free_zone c.loop-i.i _ _ _ (omega (arith, zones_length c.args.d.now))
-      c.loop-i.invariant.1 c.better_placed-best.ensures.free_zone_value_2,
-  c.better_placed-best.ensures.free_zone_value_3,
+      c.loop-i.invariant.1 c.better_placed-best.ensures.placed,
+  c.better_placed-best.ensures.placed_joined,
 )
 
 pub returns : goal.returns

@@ -11,34 +11,34 @@ use Rattle.device_holders.proofs.better_placed.Goals as goal
 pub returns-then-precedence_at : goal.returns-then-precedence_at
 returns-then-precedence_at c =
     record {
-      free_zone_value_2 = placed_better _ _ _ (via c.holds_value.ensures c.if-holds_value.true) (c.requires.free_zone_value ∙ lt-ltb _ _ c.if-best-lt-SLOTS.true)
+      placed = placed_better _ _ _ (via c.holds_value.ensures c.if-holds_value.true) (c.requires.best_joined ∙ lt-ltb _ _ c.if-best-lt-SLOTS.true)
           (omega (arith, c.precedence_at.ensures, c.precedence_at-then-best-lt-SLOTS.ensures, c.if-precedence_at.true));
-      free_zone_value_3 = holds_joined _ _ _ _ (via c.holds_value.ensures c.if-holds_value.true) ∙ sym (lt-ltb _ _ c.requires.i_lt_slots);
+      placed_joined = holds_joined _ _ _ _ (via c.holds_value.ensures c.if-holds_value.true) ∙ sym (lt-ltb _ _ c.requires.i_lt_slots);
     }
 
 pub returns-then-best-lt-SLOTS : goal.returns-then-best-lt-SLOTS
 returns-then-best-lt-SLOTS c =
     record {
-      free_zone_value_2 = placed_stays _ _ _ (c.requires.free_zone_value ∙ lt-ltb _ _ c.if-best-lt-SLOTS.true) (omega (
+      placed = placed_stays _ _ _ (c.requires.best_joined ∙ lt-ltb _ _ c.if-best-lt-SLOTS.true) (omega (
         arith,
         c.precedence_at.ensures,
         c.precedence_at-then-best-lt-SLOTS.ensures,
         c.if-precedence_at.false,
       ));
-      free_zone_value_3 = c.requires.free_zone_value;
+      placed_joined = c.requires.best_joined;
     }
 
 pub returns-then-holds_value : goal.returns-then-holds_value
 returns-then-holds_value c =
     record {
-      free_zone_value_2 = placed_first _ _ _ (via c.holds_value.ensures c.if-holds_value.true)
-          (c.requires.free_zone_value ∙ le-ltb c.args.best slots (omega (arith, c.if-best-lt-SLOTS.false)));
-      free_zone_value_3 = holds_joined _ _ _ _ (via c.holds_value.ensures c.if-holds_value.true) ∙ sym (lt-ltb _ _ c.requires.i_lt_slots);
+      placed = placed_first _ _ _ (via c.holds_value.ensures c.if-holds_value.true)
+          (c.requires.best_joined ∙ le-ltb c.args.best slots (omega (arith, c.if-best-lt-SLOTS.false)));
+      placed_joined = holds_joined _ _ _ _ (via c.holds_value.ensures c.if-holds_value.true) ∙ sym (lt-ltb _ _ c.requires.i_lt_slots);
     }
 
 pub returns : goal.returns
 returns c =
     record {
-      free_zone_value_2 = placed_fails _ _ _ (via c.holds_value.ensures c.if-holds_value.false);
-      free_zone_value_3 = c.requires.free_zone_value;
+      placed = placed_fails _ _ _ (via c.holds_value.ensures c.if-holds_value.false);
+      placed_joined = c.requires.best_joined;
     }
