@@ -1,5 +1,5 @@
 -- The bench reads record after record: each copied one stands in front of what is left, and behind the last is nothing. Assumes nothing.
-use Prim.Native.Nat.{ℕ, zero, suc, ◌+◌, ◌%◌, ◌/◌, ◌≤◌, ◌<◌}
+use Prim.Native.Nat.{ℕ, zero, suc, ◌+◌, ◌%◌, ◌/◌, ◌<◌}
 use mathlib.Core.Path.{◌≡◌, refl, sym, ap, ◌∙◌}
 use mathlib.Core.Bool.{Bool, true, false, ◌&&◌}
 use mathlib.Core.List.{List, [], ◌∷◌, ◌++◌}
@@ -22,7 +22,7 @@ use Rattle.bench_script.specs.Answers.{cell, row_pieces}
 use Rattle.bench_script.specs.Bench.{Answered, record_answered, plan_pieces, answered_pieces, Played, ended, behind, played_from, played, script, bench_text}
 use Rattle.bench_script.proofs.Texts.{joined-more}
 use Rattle.bench_script.proofs.Plays.{played-bound}
-use Rattle.rescue_walk.specs.Walk.{scan_len, record_len, Piece, copied, passed, pass, walk, kept, rescued}
+use Rattle.rescue_walk.specs.Walk.{scan_len, record_len, Piece, copied, passed, pass, kept, rescued}
 use Rattle.rescue_walk.proofs.Begins.{found, stays}
 use Rattle.rescue_walk.proofs.Rooms.{kept-pass}
 use Rattle.rescue_walk.proofs.Walks.{Walk, ended as over, skips, gives, walks}

@@ -2,7 +2,7 @@
 use Prim.Native.Nat.{ℕ, zero, suc, ◌+◌, ◌-◌, ◌*◌, ◌≤◌, ◌<◌}
 use mathlib.Core.Logic.{◌⊎◌, inl, inr}
 use mathlib.Core.Path.{◌≡◌, refl, sym, ap, ◌∙◌}
-use mathlib.Core.Bool.{Bool, true, false, ◌&&◌, not}
+use mathlib.Core.Bool.{true, false, not}
 use mathlib.Core.List.{List, [], ◌∷◌, ◌++◌, append_assoc}
 use native.Mathlib.Omega.{arith}
 use lib.Dec.{eqb}
@@ -15,7 +15,7 @@ use Rattle.rescue_walk.specs.Walk.{record_len, Piece, copied, passed, walk, runs
 use Rattle.rescue_walk.proofs.Begins.{found}
 use Rattle.rescue_walk.proofs.Loops.{runs-two}
 use Rattle.bench_laws.specs.Sound.{joined, filled, run_first, apart, none_starts, faithful}
-use Rattle.bench_laws.specs.Places.{offset_in, length_in, end_in, NthRun, Listed, Located, Ascending, LongestRun, LongestEach, RecordLies, Between}
+use Rattle.bench_laws.specs.Places.{offset_in, length_in, end_in, NthRun, Listed, Located, Ascending, LongestRun, LongestEach, Between}
 use Rattle.bench_laws.proofs.Sounds.{make_up, longest}
 use Rattle.bench_laws.proofs.Pinned.{faithful-always, some-filled}
 

@@ -132,8 +132,8 @@ fn last_word(
     put_bad(out, at)
 }
 
-// Writes the answer to a line behind `at`, and says the position past it. `console_words` and `room` are the receiver's, `front` is the
-// tick counter's, `wire_bytes` is room for the bytes of a line: half of the longest line is enough.
+// Writes the answer to a line behind `at`, and says the position past it. `words` and `room` are the receiver's, `front` is the
+// tick counter's, `bytes` is room for the bytes of a line: half of the longest line is enough.
 pub fn answer(
     d: &mut State,
     words: &mut [u64; RECORD],
