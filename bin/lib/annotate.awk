@@ -1,8 +1,7 @@
 # Says in a lowered module what its types say, and refuses a module of a shape that it does not know. docs/ASSUMPTIONS.md has each
 # rule with its reason.
 #   a copy of n bytes at the front of a local of n bytes     both ends are aligned as that local
-#   a tag of n bytes                                         is aligned on n
-#   a parameter that is the front of such an end or tag      is aligned so
+#   a parameter that is the front of such an end             is aligned so
 #   a local of 16 bytes and more                             is laid on 8 bytes
 #   what an export is lent                                   does not overlap (noalias)
 # A line that has a pointer in it is of one of the forms below, or the module is refused.
@@ -31,18 +30,6 @@ function width(t,    i, n, most, each) { # in bytes; of several numbers the wide
         if (width(each[i]) > most) most = width(each[i])
     }
     return most
-}
-
-# The tag of an enum, which is written over all bytes before its first field: that lies at the first place that its alignment
-# allows, so the enum is aligned at least as the tag is wide.
-function tag(p, n,    c, r) {
-    sub(/,$/, "", p)
-    c = certain(p)
-    if (c && c < n) refuse("a tag that is aligned on " n " where only " c " is certain")
-    r = root(p)
-    if (!place && r in parameter && n > needs[name, parameter[r]]) needs[name, parameter[r]] = n
-    sub(/align 1$/, "align " n)
-    return $0
 }
 
 # The ends of a copy: of two locals the types agree, and no end lies where its type cannot.
@@ -105,7 +92,7 @@ function function_name(l) { sub(/^[^@]*@"?/, "", l); sub(/"?\(.*$/, "", l); retu
     t = $0
     if (sub(/^  store /, "", t)) sub(/ [^ ]+, ptr .*$/, "", t)
     else { sub(/^.* = load /, "", t); sub(/, ptr .*$/, "", t) }
-    if (/^  store i(16|32|64) [^ ]+, ptr %[ar][0-9]+, align 1$/) line[NR] = tag($5, width(t))
+    if (/^  store i(16|32|64) [^ ]+, ptr %[ar][0-9]+, align 1$/) line[NR] = $0 # the tag of an enum, over all bytes before its first field
     else if (a + 0 == width(t) || is_export && /^  %r[0-9]+ = load (ptr|i64), ptr %r[0-9]+, align 1$/) line[NR] = $0
     else refuse("a number that is not aligned as its width: " $0)
     next

@@ -202,8 +202,9 @@ def references_in(page, line, rooms):
             yield span, room and room.has_coded(rest[2:].split('::'), exact)
         elif re.fullmatch(r': [a-z0-9]+(-\w+)*', rest) and (room or '-' in rest):      # else a word and a colon
             yield span, room and rest[2:] in room.edits
-        elif page == 'docs/STATEMENTS.md' and re.fullmatch(r'[a-z0-9]+(-\w+)+', span):     # an edit or a theorem of some room
-            yield span, any(span in r.edits or span in r.stated for r in rooms.values())
+        elif page == 'docs/STATEMENTS.md' and re.fullmatch(r'[a-z0-9]+([-_]\w+)+', span) and span not in rooms:
+            # an edit, a theorem or a function of some room
+            yield span, any(span in r.edits or span in r.stated or r.has_coded([span], False) for r in rooms.values())
 
 
 def rows_of(page, heading):
