@@ -37,6 +37,7 @@ pub struct Stepped {
     pub next: usize,
 }
 
+#[tactic(auto, unfolding(crate::specs::Runs::call_of))]
 fn call_of(kind: u64, zone: u64, a: u64, b: u64) -> Call
     ensures { result ≡ call_of kind zone a b }
 {

@@ -69,6 +69,7 @@ fn is_record(s: &[u8], at: usize) -> bool
 }
 
 // Whether the record at `at` can be told, whatever comes behind the piece.
+#[tactic(auto, unfolding(crate::specs::Ready::is_told))]
 fn is_told(s: &[u8], at: usize) -> bool
     requires { at ≤ length s.now }
     ensures { result ≡ is_told s.now at }
