@@ -3,7 +3,7 @@ ghost use Rattle.std.specs.Prelude.{◌≡◌, ◌&&◌};
 ghost use Rattle.capi_fields.specs.Fields.{field_of, target_of, aim_of, setpoint_time, limit_kind, setpoint_kind};
 ghost use Rattle.capi_fields.specs.Fields.{no_field, flat_field, flat_target, has_aim, aimed, time_of, is_omitted};
 
-use wire_messages::{Aim, Amount, Field, Target};
+use wire_messages::Field;
 
 // A field of a Set command: kind 0 is absent, 1 null, 2 the number `value`.
 #[derive(Clone, Copy)]
@@ -28,35 +28,35 @@ pub fn field_of(f: FlatField) -> Field
 
 // The same of a setpoint, which has no null.
 #[tactic(auto, unfolding(crate::specs::Fields::target_of))]
-pub fn target_of(f: FlatField) -> Target
+pub fn target_of(f: FlatField) -> Option<i64>
     ensures { result ≡ target_of f }
 {
     if f.kind == 2 {
-        return Target::Value(f.value);
+        return Some(f.value);
     }
-    Target::Absent
+    None
 }
 
 // What a clear names: one direction, or both.
 #[tactic(auto, unfolding(crate::specs::Fields::aim_of))]
-pub fn aim_of(has: bool, direction: u64) -> Aim
+pub fn aim_of(has: bool, direction: u64) -> Option<u64>
     ensures { result ≡ aim_of has direction }
 {
     if has {
-        return Aim::One(direction);
+        return Some(direction);
     }
-    Aim::Both
+    None
 }
 
 // A duration that is to be left out, and is 0; any other is written, a 0 too.
 #[tactic(auto, unfolding(crate::specs::Fields::setpoint_time))]
-pub fn setpoint_time(omitted: bool, duration: u64) -> Amount
+pub fn setpoint_time(omitted: bool, duration: u64) -> Option<u64>
     ensures { result ≡ setpoint_time omitted duration }
 {
     if omitted & (duration == 0) {
-        return Amount::Absent;
+        return None;
     }
-    Amount::Is(duration)
+    Some(duration)
 }
 
 // Kinds that SetLimit's fields have.
@@ -110,50 +110,50 @@ pub fn flat_field(f: Field) -> FlatField
 
 // A setpoint's field for C.
 #[tactic(auto, unfolding(crate::specs::Fields::flat_target))]
-pub fn flat_target(f: Target) -> FlatField
+pub fn flat_target(f: Option<i64>) -> FlatField
     ensures { result ≡ flat_target f }
 {
     match f {
-        Target::Absent => no_field(),
-        Target::Value(v) => FlatField { kind: 2, value: v },
+        None => no_field(),
+        Some(v) => FlatField { kind: 2, value: v },
     }
 }
 
 // Whether a clear names a direction, and which.
-pub fn has_aim(a: Aim) -> bool
+pub fn has_aim(a: Option<u64>) -> bool
     ensures { result ≡ has_aim a }
 {
     match a {
-        Aim::Both => false,
-        Aim::One(_) => true,
+        None => false,
+        Some(_) => true,
     }
 }
 
-pub fn aimed(a: Aim) -> u64
+pub fn aimed(a: Option<u64>) -> u64
     ensures { result ≡ aimed a }
 {
     match a {
-        Aim::Both => 0,
-        Aim::One(d) => d,
+        None => 0,
+        Some(d) => d,
     }
 }
 
 // A setpoint's duration as a number, 0 where it is left out.
-pub fn time_of(a: Amount) -> u64
+pub fn time_of(a: Option<u64>) -> u64
     ensures { result ≡ time_of a }
 {
     match a {
-        Amount::Absent => 0,
-        Amount::Is(d) => d,
+        None => 0,
+        Some(d) => d,
     }
 }
 
 // Whether a setpoint's duration is left out.
-pub fn is_omitted(a: Amount) -> bool
+pub fn is_omitted(a: Option<u64>) -> bool
     ensures { result ≡ is_omitted a }
 {
     match a {
-        Amount::Absent => true,
-        Amount::Is(_) => false,
+        None => true,
+        Some(_) => false,
     }
 }

@@ -1,4 +1,5 @@
 -- A request made flat and taken back: its fields one by one, and its command by its number.
+use Rattle.std.specs.Prelude.{None, Some}
 use Prim.Native.Nat.{ℕ}
 use mathlib.Core.Path.{◌≡◌, refl, ap}
 use mathlib.Core.Bool.{Bool, true, false, cond, not, ◌&&◌}
@@ -6,9 +7,9 @@ use native.Mathlib.Omega.{arith}
 use lib.Dec.{eqb}
 use borrow.Author.Tests.{eqb-true}
 use Rattle.wire_messages.specs.declared.Field.{Field}
-use Rattle.wire_messages.specs.declared.Target.{Target}
-use Rattle.wire_messages.specs.declared.Aim.{Aim}
-use Rattle.wire_messages.specs.declared.Amount.{Amount}
+use Rattle.wire_messages.specs.Options.{Target}
+use Rattle.wire_messages.specs.Options.{Aim}
+use Rattle.wire_messages.specs.Options.{Amount}
 use Rattle.wire_messages.specs.declared.CurrentLimits.{CurrentLimits}
 use Rattle.wire_messages.specs.declared.Command.{Command}
 use Rattle.wire_messages.specs.declared.Request.{Request}
@@ -34,18 +35,18 @@ field-kept (Field.Value v) = refl
 
 target_kept : (f : Target) → target_of (flat_target f) ≡ f
 unfolding target_of flat_target
-target_kept Target.Absent = refl
-target_kept (Target.Value v) = refl
+target_kept None = refl
+target_kept (Some v) = refl
 
 aim_kept : (a : Aim) → aim_of (has_aim a) (aimed a) ≡ a
 unfolding aim_of
-aim_kept Aim.Both = refl
-aim_kept (Aim.One d) = refl
+aim_kept None = refl
+aim_kept (Some d) = refl
 
 time_kept : (a : Amount) → setpoint_time (is_omitted a) (time_of a) ≡ a
 unfolding setpoint_time
-time_kept Amount.Absent = refl
-time_kept (Amount.Is d) = refl
+time_kept None = refl
+time_kept (Some d) = refl
 
 field-kind : (f : Field) → limit_kind (flat_field f).kind ≡ true
 unfolding limit_kind flat_field
@@ -55,8 +56,8 @@ field-kind (Field.Value v) = refl
 
 target_kind : (f : Target) → setpoint_kind (flat_target f).kind ≡ true
 unfolding setpoint_kind flat_target
-target_kind Target.Absent = refl
-target_kind (Target.Value v) = refl
+target_kind None = refl
+target_kind (Some v) = refl
 
 currents-kept : (r : Request) (m : CurrentLimits) → current_command (flat_currents r m m.phases) ≡ Command.SetCurrentLimits m
 unfolding current_command flat_currents
@@ -138,7 +139,7 @@ pub omission_passed_over : OmissionPassedOver
 unfolding setpoints_of setpoint_time
 omission_passed_over q n = go q.omitted (eqb q.duration 0) refl
   where
-    go : (o b : Bool) → eqb q.duration 0 ≡ b → cond (o && b) Amount.Absent (Amount.Is q.duration) ≡ Amount.Is q.duration
+    go : (o b : Bool) → eqb q.duration 0 ≡ b → cond (o && b) None (Some q.duration) ≡ Some q.duration
     go true true e = absurd (n (eqb-true q.duration 0 e))
     go true false e = refl
     go false b e = refl

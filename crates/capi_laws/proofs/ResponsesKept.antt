@@ -1,4 +1,5 @@
 -- A response made flat and taken back: its result goes with the command, and its amounts are below 2^63.
+use Rattle.std.specs.Prelude.{None, Some}
 use Prim.Native.Nat.{ℕ, ◌≤◌}
 use mathlib.Core.Path.{◌≡◌, refl, ap}
 use mathlib.Core.Bool.{Bool, true, false, cond, not, ◌&&◌, ◌||◌}
@@ -6,7 +7,7 @@ use native.Mathlib.Omega.{arith}
 use lib.Dec.{leb, eqb}
 use borrow.Author.Tests.{leb-true, lt-ltb, eqb-true}
 use Rattle.refusals.specs.Refusals.{first_of}
-use Rattle.wire_messages.specs.declared.Amount.{Amount}
+use Rattle.wire_messages.specs.Options.{Amount}
 use Rattle.wire_messages.specs.declared.LimitResult.{LimitResult}
 use Rattle.wire_messages.specs.declared.SetpointResult.{SetpointResult}
 use Rattle.wire_messages.specs.declared.CurrentResult.{CurrentResult}
@@ -36,13 +37,13 @@ both false b e = never e
 
 pub amount-shown : AmountShown
 unfolding flat_amount shown
-amount-shown Amount.Absent = refl
-amount-shown (Amount.Is v) = refl
+amount-shown None = refl
+amount-shown (Some v) = refl
 
 amount-kept : (n : ℕ) (a : Amount) → n ≤ most_value → amount_up_to n a ≡ true → amount_of (flat_amount a) ≡ a
 unfolding amount_of flat_amount
-amount-kept n Amount.Absent l e = refl
-amount-kept n (Amount.Is v) l e = let h = leb-true v n e in rw (lt-ltb v value_end (omega arith))
+amount-kept n None l e = refl
+amount-kept n (Some v) l e = let h = leb-true v n e in rw (lt-ltb v value_end (omega arith))
 
 limit-kept : (command : ℕ) (r : Response) (l : LimitResult) → (eqb command 1 && limit_in_range l) ≡ true → outcome_of command (flat_response r (Outcome.Limit l)) ≡ Outcome.Limit l
 unfolding flat_response flat outcome_of limit_in_range

@@ -1,7 +1,7 @@
 -- The flat forms that C has lose nothing, and a refused reading leaves what it was lent. The proof of RequestKept is request_kept, in proofs/, and so for the others.
 -- Assumes nothing: these are statements.
-use Rattle.std.specs.Prelude.{ℕ, ◌≡◌, true, false, List, ℤ}
-use Rattle.wire_messages.specs.declared.Amount.{Amount}
+use Rattle.std.specs.Prelude.{ℕ, ◌≡◌, true, false, List, ℤ, None, Some}
+use Rattle.wire_messages.specs.Options.{Amount}
 use Rattle.wire_messages.specs.declared.Request.{Request}
 use Rattle.wire_messages.specs.declared.Response.{Response}
 use Rattle.wire_requests.specs.WrittenRequests.{is_served, request_item, request_number}
@@ -52,13 +52,13 @@ RequestRefusedWhole =
 
 -- L8 in C, "for setpoints it must now write the 0": a duration is omitted where that is asked for beside a 0, and nowhere else
 abbrev pub SetpointZeroWritten : Type 0
-SetpointZeroWritten = (q : FlatRequest) → q.omitted ≡ false → (setpoints_of q).duration ≡ Amount.Is q.duration
+SetpointZeroWritten = (q : FlatRequest) → q.omitted ≡ false → (setpoints_of q).duration ≡ Some q.duration
 
 abbrev pub SetpointOmitted : Type 0
-SetpointOmitted = (q : FlatRequest) → q.omitted ≡ true → q.duration ≡ 0 → (setpoints_of q).duration ≡ Amount.Absent
+SetpointOmitted = (q : FlatRequest) → q.omitted ≡ true → q.duration ≡ 0 → (setpoints_of q).duration ≡ None
 
 abbrev pub OmissionPassedOver : Type 0
-OmissionPassedOver = (q : FlatRequest) → (q.duration ≡ 0 → ⊥) → (setpoints_of q).duration ≡ Amount.Is q.duration
+OmissionPassedOver = (q : FlatRequest) → (q.duration ≡ 0 → ⊥) → (setpoints_of q).duration ≡ Some q.duration
 
 -- AMOUNTS of a response are as an ask shows them
 abbrev pub AmountShown : Type 0

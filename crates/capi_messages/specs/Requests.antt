@@ -1,6 +1,6 @@
 -- Requests as C has them, flat, and as the kernel has them: each from the other.
-use Rattle.std.specs.Prelude.{ℕ, Bool, false, cond, ◌&&◌, List, [], ◌∷◌, eqb, ℤ, pos, get_or}
-use Rattle.wire_messages.specs.declared.Aim.{Aim}
+use Rattle.std.specs.Prelude.{ℕ, Bool, false, cond, ◌&&◌, List, [], ◌∷◌, eqb, ℤ, pos, get_or, None}
+use Rattle.wire_messages.specs.Options.{Aim}
 use Rattle.wire_messages.specs.declared.Limits.{Limits}
 use Rattle.wire_messages.specs.declared.Setpoints.{Setpoints}
 use Rattle.wire_messages.specs.declared.Phases.{Phases}
@@ -120,7 +120,7 @@ flat_request r (Command.SetSetpoint m) =
 flat_request r (Command.ClearSetpoint a) = flat_clear r 4 a
 flat_request r (Command.SetCurrentLimits m) = flat_currents r m m.phases
 flat_request r (Command.ClearCurrentLimits a) = flat_clear r 6 a
-flat_request r (Command.Unserved n) = flat_clear r n Aim.Both
+flat_request r (Command.Unserved n) = flat_clear r n None
 
 -- AS WORDS: id, endpoint, feature, command, the fields' kinds, duration, cause, directed, direction, the phases' kinds, omitted; the fields'
 -- and the phases' values beside them

@@ -1,6 +1,6 @@
 -- Responses as C has them, flat, and as the kernel has them: each from the other. Absent is -1.
-use Rattle.std.specs.Prelude.{ℕ, Bool, true, false, cond, not, ◌||◌, List, [], ◌∷◌, eqb, ℤ, pos, negsuc, get_or}
-use Rattle.wire_messages.specs.declared.Amount.{Amount}
+use Rattle.std.specs.Prelude.{ℕ, Bool, true, false, cond, not, ◌||◌, List, [], ◌∷◌, eqb, ℤ, pos, negsuc, get_or, None}
+use Rattle.wire_messages.specs.Options.{Amount}
 use Rattle.wire_messages.specs.declared.LimitResult.{LimitResult}
 use Rattle.wire_messages.specs.declared.SetpointResult.{SetpointResult}
 use Rattle.wire_messages.specs.declared.CurrentResult.{CurrentResult}
@@ -74,11 +74,11 @@ flat_current r l =
     }
 
 unfoldable pub flat_response : Response → Outcome → FlatResponse
-flat_response r Outcome.Nothing = flat r false false 0 Amount.Absent Amount.Absent Amount.Absent
+flat_response r Outcome.Nothing = flat r false false 0 None None None
 flat_response r (Outcome.Limit l) = flat r true l.applied l.state l.consumption l.production l.reason
-flat_response r (Outcome.Setpoint l) = flat r true true 0 l.consumption l.production Amount.Absent
+flat_response r (Outcome.Setpoint l) = flat r true true 0 l.consumption l.production None
 flat_response r (Outcome.Current l) = flat_current r l
-flat_response r Outcome.Success = flat r true true 0 Amount.Absent Amount.Absent Amount.Absent
+flat_response r Outcome.Success = flat r true true 0 None None None
 
 -- AS WORDS: id, status, result, applied, state; consumption, production, reason and the phases' currents beside them
 unfoldable pub response_in : List ℕ → List ℤ → FlatResponse

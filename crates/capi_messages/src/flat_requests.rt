@@ -9,7 +9,7 @@ use capi_fields::{
     flat_field, flat_target, has_aim, is_omitted, is_yes, no_field, setpoint_time, target_of,
     time_of, word_of,
 };
-use wire_messages::{Aim, Command, CurrentLimits, Limits, Phases, Request, Setpoints};
+use wire_messages::{Command, CurrentLimits, Limits, Phases, Request, Setpoints};
 
 // Words of a request: id, endpoint, feature, command, the fields' kinds, duration, cause, directed, direction, the phases' kinds, omitted.
 pub const REQUEST: usize = 14;
@@ -195,7 +195,7 @@ fn flat_currents(r: Request, m: CurrentLimits, f: Phases) -> FlatRequest
     }
 }
 
-fn flat_clear(r: Request, command: u64, a: Aim) -> FlatRequest
+fn flat_clear(r: Request, command: u64, a: Option<u64>) -> FlatRequest
     ensures { result ≡ flat_clear r command a }
 {
     let none = no_field();
@@ -263,7 +263,7 @@ pub fn flat_request(r: Request, c: Command) -> FlatRequest
             flat_currents(r, m, f)
         }
         Command::ClearCurrentLimits(a) => flat_clear(r, 6, a),
-        Command::Unserved(n) => flat_clear(r, n, Aim::Both),
+        Command::Unserved(n) => flat_clear(r, n, None),
     }
 }
 

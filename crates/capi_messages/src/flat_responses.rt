@@ -4,7 +4,7 @@ ghost use Rattle.capi_messages.specs.Responses.{limit_of, setpoint_of, current_o
 ghost use Rattle.capi_messages.specs.Responses.{flat, flat_current, flat_response, response_in, response_words, response_values};
 
 use capi_fields::{amount_of, flat_amount, is_yes, word_of};
-use wire_messages::{Amount, CurrentResult, LimitResult, Outcome, Response, SetpointResult};
+use wire_messages::{CurrentResult, LimitResult, Outcome, Response, SetpointResult};
 
 // Words of a response: id, status, result, applied, state.
 pub const RESPONSE: usize = 5;
@@ -100,9 +100,9 @@ fn flat(
     res: bool,
     applied: bool,
     state: u64,
-    a: Amount,
-    b: Amount,
-    why: Amount,
+    a: Option<u64>,
+    b: Option<u64>,
+    why: Option<u64>,
 ) -> FlatResponse
     ensures { result ≡ flat r res applied state a b why }
 {
@@ -146,7 +146,7 @@ fn flat_current(r: Response, l: CurrentResult) -> FlatResponse
 pub fn flat_response(r: Response, o: Outcome) -> FlatResponse
     ensures { result ≡ flat_response r o }
 {
-    let none = Amount::Absent;
+    let none = None;
     match o {
         Outcome::Nothing => flat(r, false, false, 0, none, none, none),
         Outcome::Limit(l) => {

@@ -1,7 +1,7 @@
 -- A command seen by quantity. Assumes nothing: these are definitions.
-use Rattle.std.specs.Prelude.{ℕ, zero, suc, Bool, true, false, cond, ◌||◌, eqb, get_or}
+use Rattle.std.specs.Prelude.{ℕ, zero, suc, Bool, true, false, cond, ◌||◌, eqb, get_or, None, Some}
 use Rattle.wire_messages.specs.declared.Field.{Field}
-use Rattle.wire_messages.specs.declared.Aim.{Aim}
+use Rattle.wire_messages.specs.Options.{Aim}
 use Rattle.wire_messages.specs.declared.CurrentLimits.{CurrentLimits}
 use Rattle.wire_messages.specs.declared.Command.{Command}
 use Rattle.device_store.specs.Sizes.{most}
@@ -58,13 +58,13 @@ is_set (Command.Unserved n) = false
 
 -- the direction that a clear or a map of phases names; the other Set commands name directions by their fields alone
 abbrev pub aim_of : Command → Aim
-aim_of (Command.SetLimit m) = Aim.Both
+aim_of (Command.SetLimit m) = None
 aim_of (Command.ClearLimit a) = a
-aim_of (Command.SetSetpoint m) = Aim.Both
+aim_of (Command.SetSetpoint m) = None
 aim_of (Command.ClearSetpoint a) = a
-aim_of (Command.SetCurrentLimits m) = Aim.One m.direction
+aim_of (Command.SetCurrentLimits m) = Some m.direction
 aim_of (Command.ClearCurrentLimits a) = a
-aim_of (Command.Unserved n) = Aim.Both
+aim_of (Command.Unserved n) = None
 
 -- a command's duration: an omitted one is 0, and so lasts until replaced, but for a setpoint, where it is 3,600 s
 abbrev pub duration_of : Command → ℕ

@@ -5,7 +5,7 @@ ghost use Rattle.command_by_quantity.specs.Says.{current_field, is_of, field_at,
 
 use command_fields::{aim_field, limit_field, phase_field, setpoint_duration, setpoint_field};
 use device_store::{CURRENTS, LIMITS, direction_of, is_current, is_limit, phase_of};
-use wire_messages::{Aim, Command, CurrentLimits, Field, Setpoints};
+use wire_messages::{Command, CurrentLimits, Field, Setpoints};
 
 // What a command is about. Each kind is accepted or not by a setting of its own.
 #[derive(Clone, Copy)]
@@ -103,17 +103,17 @@ pub fn is_set(c: Command) -> bool
 }
 
 // The direction that a clear or a map of phases names. The other Set commands name directions by their fields alone.
-pub fn aim_of(c: Command) -> Aim
+pub fn aim_of(c: Command) -> Option<u64>
     ensures { result ≡ aim_of c }
 {
     match c {
-        Command::SetLimit(_) => Aim::Both,
+        Command::SetLimit(_) => None,
         Command::ClearLimit(a) => a,
-        Command::SetSetpoint(_) => Aim::Both,
+        Command::SetSetpoint(_) => None,
         Command::ClearSetpoint(a) => a,
-        Command::SetCurrentLimits(m) => Aim::One(m.direction),
+        Command::SetCurrentLimits(m) => Some(m.direction),
         Command::ClearCurrentLimits(a) => a,
-        Command::Unserved(_) => Aim::Both,
+        Command::Unserved(_) => None,
     }
 }
 

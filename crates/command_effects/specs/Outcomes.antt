@@ -3,7 +3,7 @@ use Rattle.std.specs.Prelude.{ℕ, ◌+◌, Bool, cond, List, eqb, get_or, ℤ, 
 use Rattle.wire_messages.specs.Numbers.{SET_LIMIT}
 use Rattle.wire_messages.specs.Statuses.{stands}
 use Rattle.wire_messages.specs.declared.Command.{Command}
-use Rattle.wire_messages.specs.declared.Amount.{Amount}
+use Rattle.wire_messages.specs.Options.{Amount}
 use Rattle.wire_messages.specs.declared.Outcome.{Outcome}
 use Rattle.device_store.specs.Quantities.{current_at}
 unfoldable pub use Rattle.command_fields.specs.Fields.{reason_of}

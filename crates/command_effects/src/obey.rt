@@ -8,7 +8,7 @@ use crate::actions::Action;
 use command_by_quantity::{duration_of, top_of};
 use command_fields::{aim_field, limit_field, natural_of, setpoint_field, until_of};
 use device_store::{CURRENTS, HELDS, Held, LIMITS, Settings, Zone, least};
-use wire_messages::{Aim, Command, CurrentLimits, Field, Phases};
+use wire_messages::{Command, CurrentLimits, Field, Phases};
 
 // What is stored is never above the top.
 fn field_action(top: u64, f: Field) -> Action
@@ -102,7 +102,7 @@ fn all_phases(f: Field) -> Phases
 }
 
 // A clear says the same of every phase.
-fn without_currents(s: Settings, a: Aim, until: u64, old: [Held; HELDS]) -> [Held; HELDS]
+fn without_currents(s: Settings, a: Option<u64>, until: u64, old: [Held; HELDS]) -> [Held; HELDS]
     ensures { result ≡ helds_after s (Command.ClearCurrentLimits a) until old }
 {
     let consumption = all_phases(aim_field(a, 0));

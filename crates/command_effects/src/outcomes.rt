@@ -5,7 +5,7 @@ ghost use Rattle.command_effects.specs.Outcomes.{limit_outcome, setpoint_outcome
 
 use command_fields::{natural_of, reason_of, stated};
 use device_store::{CURRENTS, VALUES};
-use wire_messages::{Amount, CurrentResult, LimitResult, Outcome, SetpointResult};
+use wire_messages::{CurrentResult, LimitResult, Outcome, SetpointResult};
 
 // SetLimit is answered with the state and the limits that hold.
 pub fn limit_outcome(n: u64, capped: bool, values: [i64; VALUES]) -> Outcome
@@ -31,7 +31,7 @@ pub fn setpoint_outcome(values: [i64; VALUES]) -> Outcome
 }
 
 // The current of a phase in a direction, consumption first.
-fn current_in(values: [i64; VALUES], p: usize, d: u64) -> Amount
+fn current_in(values: [i64; VALUES], p: usize, d: u64) -> Option<u64>
     requires { p < phases }
     ensures { result ≡ current_in values p d }
 {

@@ -1,4 +1,5 @@
 -- Signed numbers of a request: below 0, or a natural number.
+use Rattle.std.specs.Prelude.{None, Some}
 use Prim.Native.Nat.{ℕ}
 use native.Mathlib.Omega.{arith}
 use mathlib.Core.Bool.{true, false}
@@ -7,7 +8,6 @@ use lib.Dec.{T, leb-suc-zero}
 use lib.IntN.{ℤ, pos, negsuc, nat_abs}
 use lib.Signed.{lt_z, non_neg}
 use Rattle.command_fields.specs.Fields.{negative, natural, stated}
-use Rattle.wire_messages.specs.declared.Amount.TheVariants.{Absent, Is}
 
 pub is_neg : (z : ℤ) → lt_z z (pos 0) ≡ negative z
 is_neg (pos n) = leb-suc-zero n
@@ -26,10 +26,10 @@ neg (pos n) e = absurd (false≢true (sym e ∙ leb-suc-zero n))
 neg (negsuc n) e = refl
 
 -- a value as a response has it
-pub left_out : (z : ℤ) → negative z ≡ true → Absent ≡ stated z
+pub left_out : (z : ℤ) → negative z ≡ true → None ≡ stated z
 left_out (pos n) e = absurd (false≢true (sym e))
 left_out (negsuc n) e = refl
 
-pub put_in : (z : ℤ) → negative z ≡ false → Is (natural z) ≡ stated z
+pub put_in : (z : ℤ) → negative z ≡ false → Some (natural z) ≡ stated z
 put_in (pos n) e = refl
 put_in (negsuc n) e = absurd (false≢true e)

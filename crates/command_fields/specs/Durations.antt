@@ -1,7 +1,6 @@
 -- How long a value holds. Assumes nothing: these are definitions.
-use Rattle.std.specs.Prelude.{ℕ, ◌+◌, min, cond, eqb}
-use Rattle.wire_messages.specs.declared.Amount.{Amount}
-use Rattle.wire_messages.specs.declared.Amount.TheVariants.{Absent, Is}
+use Rattle.std.specs.Prelude.{ℕ, ◌+◌, min, cond, eqb, None, Some}
+use Rattle.wire_messages.specs.Options.{Amount}
 use Rattle.device_store.specs.Sizes.{most}
 
 -- "A value set at second n with duration d > 0 holds while t < n + d; duration 0 or omitted holds until replaced or cleared"
@@ -13,5 +12,5 @@ abbrev pub forgotten : ℕ
 forgotten = 3600
 
 abbrev pub setpoint_duration : Amount → ℕ
-setpoint_duration Absent = forgotten
-setpoint_duration (Is d) = d
+setpoint_duration None = forgotten
+setpoint_duration (Some d) = d

@@ -1,9 +1,8 @@
 -- What one field of a command says, and what one number of its answer is. Assumes nothing: these are definitions.
-use Rattle.std.specs.Prelude.{ℕ, Bool, true, false, cond, ◌&&◌, ltb, eqb, ℤ, pos, negsuc}
+use Rattle.std.specs.Prelude.{ℕ, Bool, true, false, cond, ◌&&◌, ltb, eqb, ℤ, pos, negsuc, None, Some}
 use Rattle.refusals.specs.Reasons.{below_minimum, above_contractual, invalid_value, override_set, not_supported}
 use Rattle.wire_messages.specs.declared.Field.{Field}
-use Rattle.wire_messages.specs.declared.Amount.{Amount}
-use Rattle.wire_messages.specs.declared.Amount.TheVariants.{Absent, Is}
+use Rattle.wire_messages.specs.Options.{Amount}
 use Rattle.refusals.specs.Refusals.{NOT_SUPPORTED, OVERRIDDEN, BAD_VALUE, BELOW_MINIMUM}
 
 -- WHAT A FIELD SAYS
@@ -45,13 +44,13 @@ field_above top (Field.Value v) = ltb top (natural v)
 -- "below minimum 0 (status 14), above contractual 1 (status 0), invalid 2 (13), override 3 (12), not supported 4 (11)"
 unfoldable pub reason_of : ℕ → Bool → Amount
 reason_of n capped =
-    cond (eqb n NOT_SUPPORTED) (Is not_supported)
-    (cond (eqb n OVERRIDDEN) (Is override_set)
-    (cond (eqb n BAD_VALUE) (Is invalid_value)
-    (cond (eqb n BELOW_MINIMUM) (Is below_minimum)
-    (cond (eqb n 0 && capped) (Is above_contractual) Absent))))
+    cond (eqb n NOT_SUPPORTED) (Some not_supported)
+    (cond (eqb n OVERRIDDEN) (Some override_set)
+    (cond (eqb n BAD_VALUE) (Some invalid_value)
+    (cond (eqb n BELOW_MINIMUM) (Some below_minimum)
+    (cond (eqb n 0 && capped) (Some above_contractual) None))))
 
 -- a value as a response has it: left out when absent
 abbrev pub stated : ℤ → Amount
-stated (pos v) = Is v
-stated (negsuc n) = Absent
+stated (pos v) = Some v
+stated (negsuc n) = None

@@ -3,7 +3,6 @@ ghost use Rattle.std.specs.Prelude.{◌≡◌};
 ghost use Rattle.command_fields.specs.Durations.{until_of, setpoint_duration};
 
 use device_store::MOST;
-use wire_messages::Amount;
 
 // The second until which a value set at n for a duration holds.
 #[tactic(auto, unfolding(crate::specs::Durations::until_of))]
@@ -23,11 +22,11 @@ pub fn until_of(n: u64, duration: u64) -> u64
 const FORGOTTEN: u64 = 3600;
 
 // The duration of a setpoint: one that was forgotten ends, and a 0 that was sent does not.
-pub fn setpoint_duration(a: Amount) -> u64
+pub fn setpoint_duration(a: Option<u64>) -> u64
     ensures { result ≡ setpoint_duration a }
 {
     match a {
-        Amount::Absent => FORGOTTEN,
-        Amount::Is(d) => d,
+        None => FORGOTTEN,
+        Some(d) => d,
     }
 }

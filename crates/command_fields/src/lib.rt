@@ -13,7 +13,7 @@ pub use fields::{
     field_above, field_names, field_negative, field_too_low, is_negative, natural_of,
 };
 pub use numbers::{reason_of, stated};
-use wire_messages::{Aim, Field, Limits, Phases, Setpoints, target_field};
+use wire_messages::{Field, Limits, Phases, Setpoints, target_field};
 
 pub fn limit_field(m: Limits, d: u64) -> Field
     ensures { result ≡ limit_field m d }
@@ -35,12 +35,12 @@ pub fn setpoint_field(m: Setpoints, d: u64) -> Field
     target_field(b)
 }
 
-pub fn aim_field(a: Aim, d: u64) -> Field
+pub fn aim_field(a: Option<u64>, d: u64) -> Field
     ensures { result ≡ aim_field a d }
 {
     match a {
-        Aim::Both => Field::Null,
-        Aim::One(e) => if e == d { Field::Null } else { Field::Absent },
+        None => Field::Null,
+        Some(e) => if e == d { Field::Null } else { Field::Absent },
     }
 }
 

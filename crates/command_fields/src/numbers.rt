@@ -8,45 +8,44 @@ use refusals::{
     BAD_VALUE, BELOW_MINIMUM, NOT_SUPPORTED, OVERRIDDEN, REASON_ABOVE_CONTRACTUAL,
     REASON_BELOW_MINIMUM, REASON_INVALID, REASON_NOT_SUPPORTED, REASON_OVERRIDE,
 };
-use wire_messages::Amount;
 
-fn above_if(capped: bool) -> Amount
-    ensures { result ≡ cond capped (Amount.Is above_contractual) Amount.Absent }
+fn above_if(capped: bool) -> Option<u64>
+    ensures { result ≡ cond capped (Some above_contractual) None }
 {
     if capped {
-        return Amount::Is(REASON_ABOVE_CONTRACTUAL);
+        return Some(REASON_ABOVE_CONTRACTUAL);
     }
-    Amount::Absent
+    None
 }
 
 // Why a SetLimit was refused, or that it was capped.
 #[tactic(auto, unfolding(crate::specs::Fields::reason_of))]
-pub fn reason_of(n: u64, capped: bool) -> Amount
+pub fn reason_of(n: u64, capped: bool) -> Option<u64>
     ensures { result ≡ reason_of n capped }
 {
     if n == NOT_SUPPORTED {
-        return Amount::Is(REASON_NOT_SUPPORTED);
+        return Some(REASON_NOT_SUPPORTED);
     }
     if n == OVERRIDDEN {
-        return Amount::Is(REASON_OVERRIDE);
+        return Some(REASON_OVERRIDE);
     }
     if n == BAD_VALUE {
-        return Amount::Is(REASON_INVALID);
+        return Some(REASON_INVALID);
     }
     if n == BELOW_MINIMUM {
-        return Amount::Is(REASON_BELOW_MINIMUM);
+        return Some(REASON_BELOW_MINIMUM);
     }
     if n == 0 {
         return above_if(capped);
     }
-    Amount::Absent
+    None
 }
 
-pub fn stated(v: i64) -> Amount
+pub fn stated(v: i64) -> Option<u64>
     ensures { result ≡ stated v }
 {
     if is_negative(v) {
-        return Amount::Absent;
+        return None;
     }
-    Amount::Is(natural_of(v))
+    Some(natural_of(v))
 }

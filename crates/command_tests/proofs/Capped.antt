@@ -1,10 +1,11 @@
 -- A clear says no number, so that only a Set command is capped.
+use Rattle.std.specs.Prelude.{None, Some}
 use Prim.Native.Nat.{ℕ}
 use mathlib.Core.Bool.{Bool, true, false, cond, ◌&&◌}
 use mathlib.Core.Path.{◌≡◌, refl, sym}
 use lib.Dec.{eqb}
 use Rattle.wire_messages.specs.declared.Field.{Field}
-use Rattle.wire_messages.specs.declared.Aim.{Aim}
+use Rattle.wire_messages.specs.Options.{Aim}
 use Rattle.wire_messages.specs.declared.Command.{Command}
 use Rattle.device_store.specs.declared.Settings.{Settings}
 use Rattle.device_store.specs.Quantities.{helds, is_limit, is_setpoint, is_current, direction_of}
@@ -22,8 +23,8 @@ module _ (top : ℕ) where
   null false = refl
 
   clears : (b : Bool) (a : Aim) (d : ℕ) → field_above top (cond b (aim_field a d) Field.Absent) ≡ false
-  clears true Aim.Both d = refl
-  clears true (Aim.One e) d = null (eqb e d)
+  clears true None d = refl
+  clears true (Some e) d = null (eqb e d)
   clears false a d = refl
 
 pub capped : (s : Settings) (c : Command) → (is_set c && some_field_is FieldTest.AboveMaximum s c) ≡ is_capped s c

@@ -1,6 +1,6 @@
 -- What is asked of a command itself: 4, and 11 to 14. Assumes nothing: these are definitions.
-use Rattle.std.specs.Prelude.{ℕ, Bool, true, false, not, ◌&&◌, ◌||◌, List, [], ◌∷◌, eqb}
-use Rattle.wire_messages.specs.declared.Aim.{Aim}
+use Rattle.std.specs.Prelude.{ℕ, Bool, true, false, not, ◌&&◌, ◌||◌, List, [], ◌∷◌, eqb, None, Some}
+use Rattle.wire_messages.specs.Options.{Aim}
 use Rattle.wire_messages.specs.declared.Command.{Command}
 use Rattle.device_store.specs.Sizes.{helds}
 use Rattle.device_store.specs.declared.Settings.{Settings}
@@ -31,8 +31,8 @@ accepts s Kind.Currents = s.currents
 accepts s Kind.Unserved = true
 
 abbrev pub aim_unsupported : ℕ → Aim → Bool
-aim_unsupported has Aim.Both = false
-aim_unsupported has (Aim.One d) = not (supports has d)
+aim_unsupported has None = false
+aim_unsupported has (Some d) = not (supports has d)
 
 unfoldable pub unsupported : Settings → Command → Bool
 unsupported s c =

@@ -9,7 +9,7 @@ use command_by_quantity::{Kind, aim_of, is_set, kind_of, says};
 use command_fields::field_too_low;
 use device_store::{Settings, supports};
 use refusals::{BAD_VALUE, BELOW_MINIMUM, NOT_SUPPORTED, OVERRIDDEN};
-use wire_messages::{Aim, Command};
+use wire_messages::Command;
 
 fn accepts(s: Settings, k: Kind) -> bool
     ensures { result ≡ accepts s k }
@@ -22,12 +22,12 @@ fn accepts(s: Settings, k: Kind) -> bool
     }
 }
 
-fn aim_unsupported(has: u64, a: Aim) -> bool
+fn aim_unsupported(has: u64, a: Option<u64>) -> bool
     ensures { result ≡ aim_unsupported has a }
 {
     match a {
-        Aim::Both => false,
-        Aim::One(d) => !supports(has, d),
+        None => false,
+        Some(d) => !supports(has, d),
     }
 }
 

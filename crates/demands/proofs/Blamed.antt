@@ -1,4 +1,5 @@
 -- A device that calls lead to names whom the history names, and that zone set the value itself.
+use Rattle.std.specs.Prelude.{None, Some}
 use Prim.Native.Nat.{ℕ, ◌≤◌, ◌<◌}
 use mathlib.Core.Path.{◌≡◌, refl, sym, ap, ◌∙◌, subst}
 use mathlib.Core.Logic.{◌↔◌, ⊎_elim}
@@ -8,8 +9,7 @@ use native.Mathlib.Omega.{arith}
 use borrow.Author.Tests.{lt-ltb}
 use lib.IntN.{pos, negsuc}
 use lib.ListN.{get_or}
-use Rattle.wire_messages.specs.declared.Amount.{Amount}
-use Rattle.wire_messages.specs.declared.Amount.TheVariants.{Absent, Is}
+use Rattle.wire_messages.specs.Options.{Amount}
 use Rattle.device_store.specs.Sizes.{ids, helds, slots, value_end}
 use Rattle.device_store.specs.Zones.{id_of, free_zone, held_of}
 use Rattle.device_store.specs.Words.{zones_of}
@@ -36,10 +36,10 @@ use Rattle.demands.proofs.FailsafeEnd.{whole-end}
 use Rattle.demands.proofs.SameHolders.{holder_same}
 
 -- what is shown as v is v
-shown-is : (a : Amount) (v : ℕ) → shown a ≡ pos v → a ≡ Is v
+shown-is : (a : Amount) (v : ℕ) → shown a ≡ pos v → a ≡ Some v
 shown-is a v e =
     ⊎_elim
-    (λ k. k.1 ∙ ap Is (let f : pos k.0 ≡ pos v = sym k.2 ∙ e in cc))
+    (λ k. k.1 ∙ ap Some (let f : pos k.0 ≡ pos v = sym k.2 ∙ e in cc))
     (λ n. absurd (let f : pos v ≡ negsuc 0 = sym e ∙ n in let z : ◌≡◌ {A = ℕ} 0 1 = cc in omega arith))
     (shown-as a)
 
@@ -68,21 +68,21 @@ module _ (s : Settings) (pairs : InPairs s) (calls : List Call) (t q : ℕ) wher
   same = holder_same here there alike t q
 
   -- no value is as large as 2^63, so that what shows none is absent
-  none-absent : q < helds → shown (value_at there t q) ≡ negsuc 0 → value_at there t q ≡ Absent
+  none-absent : q < helds → shown (value_at there t q) ≡ negsuc 0 → value_at there t q ≡ None
   none-absent l e = go (value_at there t q) refl
     where
-      go : (a : Amount) → value_at there t q ≡ a → a ≡ Absent
-      go Absent f = refl
-      go (Is v) f =
+      go : (a : Amount) → value_at there t q ≡ a → a ≡ None
+      go None f = refl
+      go (Some v) f =
           let g : shown (value_at there t q) ≡ pos v = unfold shown in rw (f, lt-ltb v value_end (value_small s calls t q v l f)) in
           let m : pos v ≡ negsuc 0 = sym g ∙ e in
           absurd (let z : ◌≡◌ {A = ℕ} 0 1 = cc in omega arith)
 
-  absent_none : value_at there t q ≡ Absent → shown (value_at there t q) ≡ negsuc 0
+  absent_none : value_at there t q ≡ None → shown (value_at there t q) ≡ negsuc 0
   unfolding shown
   absent_none e = rw e
 
-  nobody : q < helds → ((holder_at there t q).who ≡ NOBODY) ↔ (value_at there t q ≡ Absent)
+  nobody : q < helds → ((holder_at there t q).who ≡ NOBODY) ↔ (value_at there t q ≡ None)
   nobody l = let n = (names there t q).nobody in (λ e. none-absent l (n.0 e), λ e. n.1 (absent_none e))
 
   safe : (holder_at there t q).who ≡ BY_FAILSAFE → Safe s calls t q

@@ -1,4 +1,5 @@
 -- The winner of a quantity goes by which zones are joined, and not by where they stand: so do all values.
+use Rattle.std.specs.Prelude.{None, Some}
 use mathlib.Core.Path.{◌≡◌, refl, sym, ap, ◌∙◌, subst}
 use mathlib.Core.Bool.{Bool, true, false, cond, ◌&&◌}
 use mathlib.Core.List.{List, ◌∷◌, Memᴰ}
@@ -8,8 +9,7 @@ use lib.IntN.{pos}
 use lib.ListN.{length, get_or}
 use borrow.Author.Tests.{ltb-false}
 use lib.Dec.{ltb}
-use Rattle.wire_messages.specs.declared.Amount.{Amount}
-use Rattle.wire_messages.specs.declared.Amount.TheVariants.{Absent, Is}
+use Rattle.wire_messages.specs.Options.{Amount}
 use Rattle.device_store.specs.Quantities.{is_setpoint}
 use Rattle.device_store.specs.declared.Zone.{Zone}
 use Rattle.device_store.specs.Sizes.{helds}
@@ -81,8 +81,8 @@ winner-same t q l m there back one = go (winner t q l).there refl (winner t q m)
         let same : x.0 ≡ y.0 = one x.0 y.0 x.1 (back.has y.0 y.2.0 y.1) x.2.0 ids in
         ap (λ (k : Claim). k.value) (sym x.3 ∙ ap (claim_of t q) same ∙ y.3)
 
-    go : (a : Bool) → c.there ≡ a → (b : Bool) → d.there ≡ b → cond a (Is c.value) Absent ≡ cond b (Is d.value) Absent
-    go true p true r = ap Is (both p r (is_setpoint q) refl)
+    go : (a : Bool) → c.there ≡ a → (b : Bool) → d.there ≡ b → cond a (Some c.value) None ≡ cond b (Some d.value) None
+    go true p true r = ap Some (both p r (is_setpoint q) refl)
     go true p false r = never (sym r ∙ (beaten t q l m there p).0)
     go false p true r = never (sym p ∙ (beaten t q m l back r).0)
     go false p false r = refl
@@ -118,14 +118,14 @@ any_joined-same l m there back = any_same is_joined (λ x e. e) l m there back
 
 -- the smallest with a failsafe limit goes by the claim's amount
 smallest_of : ℕ → Amount → ℕ
-smallest_of n Absent = n
-smallest_of n (Is v) = cond (ltb v n) v n
+smallest_of n None = n
+smallest_of n (Some v) = cond (ltb v n) v n
 
 smallest_by : (n : ℕ) (c : Claim) → smallest_with n c ≡ smallest_of n (amount_of c)
 unfolding smallest_with smallest_of
 smallest_by n c = go c.there
   where
-    go : (b : Bool) → cond (b && ltb c.value n) c.value n ≡ smallest_of n (cond b (Is c.value) Absent)
+    go : (b : Bool) → cond (b && ltb c.value n) c.value n ≡ smallest_of n (cond b (Some c.value) None)
     go true = refl
     go false = refl
 

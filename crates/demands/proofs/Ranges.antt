@@ -1,4 +1,5 @@
 -- No history stores a number of 2^63 or more, so each value is shown as it is.
+use Rattle.std.specs.Prelude.{None, Some}
 use mathlib.Core.Path.{◌≡◌, refl, sym, ap, ◌∙◌, subst}
 use mathlib.Core.Logic.{⊎_elim}
 use mathlib.Core.Bool.{Bool, true, false, cond, ◌&&◌, ◌||◌}
@@ -10,7 +11,6 @@ use native.Mathlib.Omega.{arith}
 use lib.Dec.{ltb, leb, eqb}
 use lib.ListN.{get_or}
 use borrow.Author.Tests.{leb-false, ltb-true}
-use Rattle.wire_messages.specs.declared.Amount.TheVariants.{Absent, Is}
 use Rattle.wire_messages.specs.declared.Command.{Command}
 use Rattle.wire_requests.specs.Requests.{read_request}
 use Rattle.wire_requests.specs.declared.reading.Reading.{Reading}
@@ -115,13 +115,13 @@ failsafe_small s q l = go (bad_settings s) refl
     go false e = good-failsafe s e q l
 
 -- THE VALUES
-winner-small : (s : Settings) (h : Log) → Small h → (t q v : ℕ) → q < helds → amount_of (winner t q (zones_by s h)) ≡ Is v → v < value_end
+winner-small : (s : Settings) (h : Log) → Small h → (t q v : ℕ) → q < helds → amount_of (winner t q (zones_by s h)) ≡ Some v → v < value_end
 winner-small s h k t q v l e = go (winner t q (zones_by s h)).there refl e
   where
     c : Claim
     c = winner t q (zones_by s h)
 
-    go : (b : Bool) → c.there ≡ b → cond b (Is c.value) Absent ≡ Is v → v < value_end
+    go : (b : Bool) → c.there ≡ b → cond b (Some c.value) None ≡ Some v → v < value_end
     go true p e =
         let r = standing t q (zones_by s h) p in
         let w : c.value ≡ v = cc in
@@ -129,7 +129,7 @@ winner-small s h k t q v l e = go (winner t q (zones_by s h)).there refl e
         omega (arith, zone_small s h k q l r.0 r.1)
     go false p e = absurd (let w : ◌≡◌ {A = ℕ} 0 1 = cc in omega arith)
 
-pub value_small : (s : Settings) (calls : List Call) (t q v : ℕ) → q < helds → value_at (situation_by (started_with s) (log (started_with s) calls)) t q ≡ Is v → v < value_end
+pub value_small : (s : Settings) (calls : List Call) (t q v : ℕ) → q < helds → value_at (situation_by (started_with s) (log (started_with s) calls)) t q ≡ Some v → v < value_end
 unfolding value_at failsafe_value smallest_with
 value_small s calls t q v l e = go (supports u.directions (direction_of q)) (any_up (zones_by u h)) (in_failsafe (situation_by u h) t) (is_limit q) (is_setpoint q) refl e
   where
@@ -155,7 +155,7 @@ value_small s calls t q v l e = go (supports u.directions (direction_of q)) (any
         least false b e = failsafe_small s q (ltb-true q 2 p)
 
     go : (a b c d s : Bool) → is_limit q ≡ d
-        → cond a (cond b (amount_of c₀) (cond c (cond d (Is (smallest_with n c₀)) (cond s Absent (amount_of c₀))) Absent)) Absent ≡ Is v → v < value_end
+        → cond a (cond b (amount_of c₀) (cond c (cond d (Some (smallest_with n c₀)) (cond s None (amount_of c₀))) None)) None ≡ Some v → v < value_end
     go true true c d s p e = winner-small u h (log-small u calls) t q v l e
     go true false true true s p e = let w : smallest_with n c₀ ≡ v = cc in omega (arith, least-small p)
     go true false true false true p e = absurd (let w : ◌≡◌ {A = ℕ} 0 1 = cc in omega arith)

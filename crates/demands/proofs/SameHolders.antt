@@ -6,7 +6,7 @@ use mathlib.Core.List.{List, Memᴰ}
 use native.Mathlib.Omega.{arith}
 use lib.IntN.{ℤ, pos, negsuc}
 use lib.ListN.{length, get_or}
-use Rattle.wire_messages.specs.declared.Amount.{Amount}
+use Rattle.wire_messages.specs.Options.{Amount}
 use Rattle.device_store.specs.declared.Zone.{Zone}
 use Rattle.device_store.specs.Zones.{id_of, free_zone, is_joined}
 use Rattle.device_holds.specs.Holds.{Situation, value_at, shown}

@@ -1,4 +1,5 @@
 -- A command that a frame carries names values below 2^63 alone.
+use Rattle.std.specs.Prelude.{None, Some}
 use mathlib.Core.Path.{◌≡◌, refl}
 use mathlib.Core.Bool.{Bool, true, false, cond, ◌&&◌}
 use mathlib.Core.List.{List}
@@ -13,7 +14,7 @@ use borrow.Author.Tests.{ltb-true}
 use Rattle.wire_cbor.specs.Item.{Item, Pairs, payload_of}
 use Rattle.wire_cbor.specs.Find.{value_of}
 use Rattle.wire_messages.specs.declared.Field.{Field}
-use Rattle.wire_messages.specs.declared.Aim.{Aim}
+use Rattle.wire_messages.specs.Options.{Aim}
 use Rattle.wire_messages.specs.declared.Limits.{Limits}
 use Rattle.wire_messages.specs.declared.Phases.{Phases}
 use Rattle.wire_messages.specs.declared.CurrentLimits.{CurrentLimits}
@@ -125,8 +126,8 @@ small_target (Field.Value z) h = h
 
 -- a clear says no number
 small_aim : (a : Aim) (d : ℕ) → SmallField (aim_field a d)
-small_aim Aim.Both d = tt
-small_aim (Aim.One e) d = small_cond (eqb e d) Field.Null Field.Absent tt tt
+small_aim None d = tt
+small_aim (Some e) d = small_cond (eqb e d) Field.Null Field.Absent tt tt
 
 -- each phase as value_in reads it
 abbrev SmallPhases : Phases → Type 0

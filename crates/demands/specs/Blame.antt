@@ -1,6 +1,5 @@
 -- Who holds each value comes from the history alone, and the zone that is named set it itself.
-use Rattle.std.specs.Prelude.{ℕ, ◌+◌, ◌≤◌, ◌<◌, true, ◌↔◌, ◌≡◌, List}
-use Rattle.wire_messages.specs.declared.Amount.TheVariants.{Absent, Is}
+use Rattle.std.specs.Prelude.{ℕ, ◌+◌, ◌≤◌, ◌<◌, true, ◌↔◌, ◌≡◌, List, None, Some}
 use Rattle.device_store.specs.Sizes.{ids, helds}
 use Rattle.device_store.specs.declared.Settings.{Settings}
 use Rattle.device_holds.specs.Holds.{situation_of, value_at}
@@ -14,7 +13,7 @@ use Rattle.demands.specs.ReleasedSlot.{own_since, SetTogether}
 -- zone z is joined, shows the value v of quantity q, and one of its own accepted commands since it last joined set v with that end, past t
 pub record SetItself (s : Settings) (calls : List Call) (t q z : ℕ) : Type 0 where
   pub value : ℕ
-  pub shows : value_at (told s calls) t q ≡ Is value
+  pub shows : value_at (told s calls) t q ≡ Some value
   pub joined : joined_by (history s calls) z ≡ true
   pub unexpired : t < (holder_at (told s calls) t q).until
   pub command : SetTogether (started_with s) (own_since z (history s calls)) z q (record { value = value; until = (holder_at (told s calls) t q).until })
@@ -22,7 +21,7 @@ pub record SetItself (s : Settings) (calls : List Call) (t q z : ℕ) : Type 0 w
 -- the failsafe is named with its very end, which has not come
 pub record Safe (s : Settings) (calls : List Call) (t q : ℕ) : Type 0 where
   pub value : ℕ
-  pub shows : value_at (told s calls) t q ≡ Is value
+  pub shows : value_at (told s calls) t q ≡ Some value
   pub because : NamesFailsafe (told s calls) t q value
   pub until : (holder_at (told s calls) t q).until ≡ (told s calls).since + (told s calls).settings.duration
 
@@ -30,7 +29,7 @@ pub record Safe (s : Settings) (calls : List Call) (t q : ℕ) : Type 0 where
 pub record Blames (s : Settings) (calls : List Call) (t q : ℕ) : Type 0 where
   -- the slots, and the history's list of zones by their ids, name the same holder with the same end
   pub same : holder_at (situation_of (run s calls)) t q ≡ holder_at (told s calls) t q
-  pub nobody : q < helds → ((holder_at (told s calls) t q).who ≡ NOBODY) ↔ (value_at (told s calls) t q ≡ Absent)
+  pub nobody : q < helds → ((holder_at (told s calls) t q).who ≡ NOBODY) ↔ (value_at (told s calls) t q ≡ None)
   pub failsafe : (holder_at (told s calls) t q).who ≡ BY_FAILSAFE → Safe s calls t q
   pub zone : q < helds → (z : ℕ) → (holder_at (told s calls) t q).who ≡ z → 1 ≤ z → z < ids → SetItself s calls t q z
 

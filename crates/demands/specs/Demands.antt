@@ -1,9 +1,8 @@
 -- THE TENDER'S THREE DEMANDS, over the definitions that the contracts of the calls cite. Proved in proofs/Demand1, Demand2 and Demand3.
-use Rattle.std.specs.Prelude.{ℕ, ◌≤◌, ◌<◌, ◌≡◌, ◌≢◌, Bool, true, false, List, ◌++◌, ℤ, pos, length, drop}
+use Rattle.std.specs.Prelude.{ℕ, ◌≤◌, ◌<◌, ◌≡◌, ◌≢◌, Bool, true, false, List, ◌++◌, ℤ, pos, length, drop, Some}
 use Rattle.std.proofs.Math.Option.{some}
 use Rattle.wire_bytes.specs.Bytes.{put_whole}
 use Rattle.wire_cbor.specs.Encodings.{PayloadExact, OneItem}
-use Rattle.wire_messages.specs.declared.Amount.TheVariants.{Is}
 use Rattle.wire_messages.specs.declared.Command.{Command}
 use Rattle.wire_messages.specs.declared.Request.{Request}
 use Rattle.wire_messages.specs.declared.Response.{Response}
@@ -163,7 +162,7 @@ pub record FromHistory (s : Settings) (calls : List Call) : Type 0 where
   -- an ask shows them at the time of the last accepted call
   pub ask : ask_answer (run s calls) ≡ values_at (told s calls) (clock_by (history s calls))
   -- a value that is there is shown as it is: none is as large as 2^63, so -1 is absent alone
-  pub whole : (t q v : ℕ) → q < helds → value_at (told s calls) t q ≡ Is v → shown (value_at (told s calls) t q) ≡ pos v
+  pub whole : (t q v : ℕ) → q < helds → value_at (told s calls) t q ≡ Some v → shown (value_at (told s calls) t q) ≡ pos v
   -- the number of each call and the response to each frame come from the history too
   pub numbers : (c : Call) → number (run s calls) c ≡ number_by (started_with s) (history s calls) c
   pub plan_numbers : (room : ℕ) → plan_number (run s calls) room ≡ plan_number_by (started_with s) (history s calls) room

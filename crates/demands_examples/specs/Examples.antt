@@ -1,10 +1,10 @@
 -- Document 01's marked examples P1 to P10, the bench's, and those of L3, L5, L8 and L13: one table of cases, over the definitions that the calls' contracts cite. d is the direction.
-use Rattle.std.specs.Prelude.{ℕ, ◌+◌, ◌-◌, ◌<◌, ◌≡◌, true, false, cond, eqb, ℤ, pos, negsuc, replicate}
+use Rattle.std.specs.Prelude.{ℕ, ◌+◌, ◌-◌, ◌<◌, ◌≡◌, true, false, cond, eqb, ℤ, pos, negsuc, replicate, None, Some}
 use mathlib.Core.List.{List, [], ◌∷◌, ◌++◌, foldl, map}
 use Rattle.refusals.specs.States.{AUTONOMOUS, CONTROLLED, LIMITED, FAILSAFE}
-use Rattle.wire_messages.specs.declared.Amount.{Amount}
+use Rattle.wire_messages.specs.Options.{Amount}
 use Rattle.wire_messages.specs.declared.Field.{Field}
-use Rattle.wire_messages.specs.declared.Target.{Target}
+use Rattle.wire_messages.specs.Options.{Target}
 use Rattle.wire_messages.specs.declared.Command.{Command}
 use Rattle.wire_messages.specs.declared.Outcome.{Outcome}
 use Rattle.device_store.specs.Quantities.{current_at}
@@ -96,14 +96,14 @@ mw v = Field.Value (pos v)
 abbrev pub setpoint_for : Amount → ℕ → ℕ → Command
 setpoint_for n d v =
     Command.SetSetpoint (record {
-      consumption = cond (eqb d 0) (Target.Value (pos v)) Target.Absent;
-      production = cond (eqb d 0) Target.Absent (Target.Value (pos v));
+      consumption = cond (eqb d 0) (Some (pos v)) None;
+      production = cond (eqb d 0) None (Some (pos v));
       duration = n;
       cause = 0;
     })
 
 abbrev pub setpoint : ℕ → ℕ → Command
-setpoint = setpoint_for (Amount.Is 0)
+setpoint = setpoint_for (Some 0)
 
 -- SetCurrentLimits with a field for phase p (none where there is no such phase), in direction d
 abbrev pub current : ℕ → ℕ → Field → ℕ → Command
@@ -143,8 +143,8 @@ told z t c = λ ws. pos (command_number ws z t c) ∷ []
 
 -- the reason that its response would have
 abbrev pub amount : Amount → ℤ
-amount Amount.Absent = absent
-amount (Amount.Is v) = pos v
+amount None = absent
+amount (Some v) = pos v
 
 abbrev pub reason_in : Outcome → ℤ
 reason_in Outcome.Nothing = absent
@@ -213,10 +213,10 @@ command_cases d =
     ∷ case free (two (tell 3 100 (limit d (mw 9000) 60) ∷ [])) (limit_at d 160) (absent ∷ [])
     -- L8 a setpoint set at 100 with an omitted duration: there at 3,699, gone at 3,700; with a 0 it stays; replaced in time it stays, and
     -- a limit with an omitted duration, which is 0, stays
-    ∷ case free (two (tell 3 100 (setpoint_for Amount.Absent d 9000) ∷ [])) (setpoint_at d 3699) (pos 9000 ∷ [])
-    ∷ case free (two (tell 3 100 (setpoint_for Amount.Absent d 9000) ∷ [])) (setpoint_at d 3700) (absent ∷ [])
+    ∷ case free (two (tell 3 100 (setpoint_for None d 9000) ∷ [])) (setpoint_at d 3699) (pos 9000 ∷ [])
+    ∷ case free (two (tell 3 100 (setpoint_for None d 9000) ∷ [])) (setpoint_at d 3700) (absent ∷ [])
     ∷ case free (two (tell 3 100 (setpoint d 9000) ∷ [])) (setpoint_at d 3700) (pos 9000 ∷ [])
-    ∷ case free (two (tell 3 100 (setpoint_for Amount.Absent d 9000) ∷ tell 3 3000 (setpoint_for Amount.Absent d 8000) ∷ [])) (setpoint_at d 3700) (pos 8000 ∷ [])
+    ∷ case free (two (tell 3 100 (setpoint_for None d 9000) ∷ tell 3 3000 (setpoint_for None d 8000) ∷ [])) (setpoint_at d 3700) (pos 8000 ∷ [])
     ∷ case free (two (tell 3 100 (limit d (mw 9000) 0) ∷ [])) (limit_at d 3700) (pos 9000 ∷ [])
     -- P3 leave and rejoin: absent
     ∷ case free (two (tell 3 10 (limit d (mw 9000) 0) ∷ leave 3 20 ∷ join 3 1 30 ∷ [])) (limit_at d 30) (absent ∷ [])

@@ -1,8 +1,7 @@
 -- What the zones claim for a quantity at a second, and which claim wins.
-use Rattle.std.specs.Prelude.{ℕ, Bool, true, false, cond, not, ◌&&◌, ◌||◌, ltb, eqb}
+use Rattle.std.specs.Prelude.{ℕ, Bool, true, false, cond, not, ◌&&◌, ◌||◌, ltb, eqb, None, Some}
 use mathlib.Core.List.{List, foldl}
-use Rattle.wire_messages.specs.declared.Amount.{Amount}
-use Rattle.wire_messages.specs.declared.Amount.TheVariants.{Absent, Is}
+use Rattle.wire_messages.specs.Options.{Amount}
 use Rattle.device_store.specs.Quantities.{is_setpoint}
 use Rattle.device_store.specs.Zones.{id_of, rank_of, is_joined, held_of}
 use Rattle.device_store.specs.declared.Zone.{Zone}
@@ -39,4 +38,4 @@ unfoldable pub winner : ℕ → ℕ → List Zone → Claim
 winner t q zs = foldl (λ a x. better q a (claim_of t q x)) no_claim zs
 
 abbrev pub amount_of : Claim → Amount
-amount_of c = cond c.there (Is c.value) Absent
+amount_of c = cond c.there (Some c.value) None

@@ -1,4 +1,5 @@
 -- What a zone that holds a value says, and what is shown of an amount.
+use Rattle.std.specs.Prelude.{None, Some}
 use Prim.Native.Nat.{ℕ}
 use mathlib.Core.Bool.{Bool, true, false, cond, ◌&&◌}
 use mathlib.Core.Logic.{◌⊎◌, inl, inr}
@@ -6,8 +7,7 @@ use mathlib.Core.Path.{◌≡◌, refl, sym}
 use borrow.Author.Tests.{lt-ltb, ltb-true, eq-eqb, eqb-true}
 use lib.Dec.{ltb, eqb}
 use lib.IntN.{pos, negsuc}
-use Rattle.wire_messages.specs.declared.Amount.{Amount}
-use Rattle.wire_messages.specs.declared.Amount.TheVariants.{Absent, Is}
+use Rattle.wire_messages.specs.Options.{Amount}
 use Rattle.device_store.specs.Sizes.{value_end}
 use Rattle.device_store.specs.Zones.{is_joined, held_of}
 use Rattle.device_store.specs.declared.Zone.{Zone}
@@ -36,11 +36,11 @@ pub holds_joined : (t q v : ℕ) (x : Zone) → holds_value t q v x ≡ true →
 holds_joined t q v x e = (holds_is t q v x e).0.0
 
 -- an amount is shown as it is, or as none
-pub shown-as : (a : Amount) → ((v : ℕ) × (a ≡ Is v) × (shown a ≡ pos v)) ⊎ (shown a ≡ negsuc 0)
+pub shown-as : (a : Amount) → ((v : ℕ) × (a ≡ Some v) × (shown a ≡ pos v)) ⊎ (shown a ≡ negsuc 0)
 unfolding shown
-shown-as Absent = inr refl
-shown-as (Is v) = go (ltb v value_end)
+shown-as None = inr refl
+shown-as (Some v) = go (ltb v value_end)
   where
-    go : (b : Bool) → ((w : ℕ) × (Is v ≡ Is w) × (cond b (pos v) (negsuc 0) ≡ pos w)) ⊎ (cond b (pos v) (negsuc 0) ≡ negsuc 0)
+    go : (b : Bool) → ((w : ℕ) × (Some v ≡ Some w) × (cond b (pos v) (negsuc 0) ≡ pos w)) ⊎ (cond b (pos v) (negsuc 0) ≡ negsuc 0)
     go true = inl (v, refl, refl)
     go false = inr refl

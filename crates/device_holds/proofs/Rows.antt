@@ -1,4 +1,5 @@
 -- The four rows of the table of links, and the control state: what `Table` promises holds in every situation, at every second.
+use Rattle.std.specs.Prelude.{None, Some}
 use Prim.Native.Nat.{ℕ, ◌+◌, ◌<◌, ◌≤◌}
 use mathlib.Core.Bool.{Bool, true, false, cond, not, ◌&&◌, ◌||◌}
 use mathlib.Core.Logic.{◌↔◌, inl, inr}
@@ -10,7 +11,6 @@ use borrow.Author.Tests.{lt-ltb, le-ltb, le-leb, lt-leb, ltb-true, ltb-false, le
 use lib.Dec.{ltb, eqb}
 use lib.ListN.{get_or}
 use Rattle.refusals.specs.States.{AUTONOMOUS, CONTROLLED, LIMITED, FAILSAFE, OVERRIDE}
-use Rattle.wire_messages.specs.declared.Amount.TheVariants.{Absent, Is}
 use Rattle.device_store.specs.Zones.{id_of, rank_of, free_zone, any, is_joined, is_up, any_joined, any_up, held_of}
 use Rattle.device_store.specs.Quantities.{is_limit, is_setpoint, is_current, direction_of, supports}
 use Rattle.device_holds.specs.Holds.{Claim, claim_of, goes_before, winner, amount_of, Situation, in_failsafe, smallest_with, failsafe_value, value_at, present, state_at}
@@ -49,17 +49,17 @@ current-no_limit : (q : ℕ) → is_current q ≡ true → is_limit q ≡ false
 current-no_limit q e = let h : 4 ≤ q = leb-true 4 q e in le-ltb q 2 (omega arith)
 
 -- what an amount tells of its claim
-amount-there : (c : Claim) (v : ℕ) → amount_of c ≡ Is v → (c.there ≡ true) × (c.value ≡ v)
+amount-there : (c : Claim) (v : ℕ) → amount_of c ≡ Some v → (c.there ≡ true) × (c.value ≡ v)
 amount-there c v = go c.there refl
   where
-    go : (b : Bool) → c.there ≡ b → cond b (Is c.value) Absent ≡ Is v → (c.there ≡ true) × (c.value ≡ v)
+    go : (b : Bool) → c.there ≡ b → cond b (Some c.value) None ≡ Some v → (c.there ≡ true) × (c.value ≡ v)
     go true e f = (e, cc)
     go false e f = let z : ◌≡◌ {A = ℕ} 0 1 = cc in absurd (omega arith)
 
-amount-none : (c : Claim) → amount_of c ≡ Absent → c.there ≡ false
+amount-none : (c : Claim) → amount_of c ≡ None → c.there ≡ false
 amount-none c = go c.there refl
   where
-    go : (b : Bool) → c.there ≡ b → cond b (Is c.value) Absent ≡ Absent → b ≡ false
+    go : (b : Bool) → c.there ≡ b → cond b (Some c.value) None ≡ None → b ≡ false
     go true e f = let z : ◌≡◌ {A = ℕ} 0 1 = cc in absurd (omega arith)
     go false e f = refl
 
@@ -84,19 +84,19 @@ module _ (s : Situation) (t : ℕ) where
     unfolding goes_before
     none-smaller l i h u = ltb-false _ _ (rw (l, claim_there t q (get_or s.zones i free_zone) u) at ((wins t q s.zones).first i h u))
 
-  unsupported-absent : (q : ℕ) → supported q ≡ false → value_at s t q ≡ Absent
+  unsupported-absent : (q : ℕ) → supported q ≡ false → value_at s t q ≡ None
   unfolding value_at
   unsupported-absent q e = rw e
 
   -- A VALUE FROM THE BEST CLAIM, as in the first row
   module _ (q : ℕ) (from : supported q ≡ true → value_at s t q ≡ amount_of (best q)) where
-    claimed : (v : ℕ) → value_at s t q ≡ Is v → (supported q ≡ true) × ((best q).there ≡ true) × ((best q).value ≡ v)
+    claimed : (v : ℕ) → value_at s t q ≡ Some v → (supported q ≡ true) × ((best q).there ≡ true) × ((best q).value ≡ v)
     claimed v f = go (supported q) refl
       where
         go : (b : Bool) → supported q ≡ b → (supported q ≡ true) × ((best q).there ≡ true) × ((best q).value ≡ v)
         go true e = let b : ((best q).there ≡ true) × ((best q).value ≡ v) = amount-there (best q) v (sym (from e) ∙ f) in (e, b.0, b.1)
         go false e =
-            let none : Absent ≡ Is v = sym (unsupported-absent q e) ∙ f in
+            let none : None ≡ Some v = sym (unsupported-absent q e) ∙ f in
             let z : ◌≡◌ {A = ℕ} 0 1 = cc in
             absurd (omega arith)
 
@@ -108,7 +108,7 @@ module _ (s : Situation) (t : ℕ) where
           (λ i h u. rw (← b.2) (none-smaller q l i h u)),
         )
 
-    none-held : supported q ≡ true → (value_at s t q ≡ Absent) ↔ Each t q s.zones (λ x. ⊥)
+    none-held : supported q ≡ true → (value_at s t q ≡ None) ↔ Each t q s.zones (λ x. ⊥)
     none-held e = (
       λ f. (wins t q s.zones).none.0 (amount-none (best q) (sym (from e) ∙ f)),
       λ f. from e ∙ rw ((wins t q s.zones).none.1 f),
@@ -120,7 +120,7 @@ module _ (s : Situation) (t : ℕ) where
     unfolding value_at
     from-best e = rw (e, up)
 
-    pub value_there : (v : ℕ) → value_at s t q ≡ Is v → (supported q ≡ true) × ((best q).there ≡ true) × ((best q).value ≡ v)
+    pub value_there : (v : ℕ) → value_at s t q ≡ Some v → (supported q ≡ true) × ((best q).there ≡ true) × ((best q).value ≡ v)
     value_there = claimed q from-best
 
     pub smallest_limit : is_setpoint q ≡ false → SmallestLimit s t q
@@ -177,11 +177,11 @@ module _ (s : Situation) (t : ℕ) where
         go true false e f = record { held = inl refl; safe = omega arith; first = λ i h u. omega (arith, ltb-false (best q).value n f, none-smaller q (limit-no_setpoint q l) i h u) }
         go false b e f = record { held = inl refl; safe = omega arith; first = λ i h u. absurd ((wins t q s.zones).none.0 e i h u) }
 
-    setpoint-absent : in_failsafe s t ≡ true → (q : ℕ) → is_setpoint q ≡ true → value_at s t q ≡ Absent
+    setpoint-absent : in_failsafe s t ≡ true → (q : ℕ) → is_setpoint q ≡ true → value_at s t q ≡ None
     unfolding value_at failsafe_value
     setpoint-absent r q l = rw (down, r, setpoint-no_limit q l, l) (go (supported q))
       where
-        go : (b : Bool) → cond b Absent Absent ≡ Absent
+        go : (b : Bool) → cond b None None ≡ None
         go true = refl
         go false = refl
 
@@ -201,11 +201,11 @@ module _ (s : Situation) (t : ℕ) where
           absent = λ q l. none-held q (current-best r q l);
         }
 
-    out_of_row : in_failsafe s t ≡ false → (q : ℕ) → value_at s t q ≡ Absent
+    out_of_row : in_failsafe s t ≡ false → (q : ℕ) → value_at s t q ≡ None
     unfolding value_at
     out_of_row r q = rw (down, r) (go (supported q))
       where
-        go : (b : Bool) → cond b Absent Absent ≡ Absent
+        go : (b : Bool) → cond b None None ≡ None
         go true = refl
         go false = refl
 
@@ -215,7 +215,7 @@ module _ (s : Situation) (t : ℕ) where
     other_state false false true e = omega arith
     other_state false false false e = omega arith
 
-    past_row : s.since + s.settings.duration ≤ t → (state_at s t ≡ FAILSAFE → ⊥) × ((q : ℕ) → value_at s t q ≡ Absent)
+    past_row : s.since + s.settings.duration ≤ t → (state_at s t ≡ FAILSAFE → ⊥) × ((q : ℕ) → value_at s t q ≡ None)
     unfolding state_at
     past_row h =
         let r : in_failsafe s t ≡ false = row_is ∙ le-ltb t (s.since + s.settings.duration) h in
@@ -225,11 +225,11 @@ module _ (s : Situation) (t : ℕ) where
     none-up = record { before = in_row; past = past_row }
 
   -- THE REST
-  none-joined : any_joined s.zones ≡ false → (q : ℕ) → value_at s t q ≡ Absent
+  none-joined : any_joined s.zones ≡ false → (q : ℕ) → value_at s t q ≡ None
   unfolding value_at in_failsafe
   none-joined e q = rw (joined-first s.zones e, e) (go (supported q))
     where
-      go : (b : Bool) → cond b Absent Absent ≡ Absent
+      go : (b : Bool) → cond b None None ≡ None
       go true = refl
       go false = refl
 

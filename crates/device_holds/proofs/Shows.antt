@@ -1,4 +1,5 @@
 -- The table of links, row by row: what is shown of the numbers that stand for the winning claims, or of the failsafe limits.
+use Rattle.std.specs.Prelude.{None, Some}
 use Prim.Native.Nat.{ℕ, ◌+◌, ◌-◌, ◌<◌, ◌≤◌}
 use mathlib.Core.Bool.{Bool, true, false, cond, not, ◌&&◌, ◌||◌}
 use mathlib.Core.Path.{◌≡◌, refl, sym, ◌∙◌}
@@ -11,8 +12,7 @@ use lib.IntN.{ℤ, pos, negsuc}
 use lib.ListN.{get_or}
 use lib.Signed.{non_neg}
 use Rattle.refusals.specs.States.{AUTONOMOUS, CONTROLLED, LIMITED, OVERRIDE}
-use Rattle.wire_messages.specs.declared.Amount.{Amount}
-use Rattle.wire_messages.specs.declared.Amount.TheVariants.{Absent, Is}
+use Rattle.wire_messages.specs.Options.{Amount}
 use Rattle.device_store.specs.Quantities.{helds, is_limit, is_setpoint, direction_of, supports}
 use Rattle.device_store.specs.Sizes.{most, end, value_end}
 use Rattle.device_store.specs.Zones.{up_to, any_joined, any_up}
@@ -27,7 +27,7 @@ use Rattle.device_claims.specs.declared.passes.LowestValues.{LowestValues}
 use Rattle.device_claims.specs.declared.passes.LeadingSetpoints.{LeadingSetpoints}
 use Rattle.device_claims.proofs.Places.{setpoint-place, no_setpoint, limit-at, current-at}
 
-below_shown : (has d v : ℕ) → shown_below (top_of has d) v ≡ cond (supports has d) (shown (Is v)) (negsuc 0)
+below_shown : (has d v : ℕ) → shown_below (top_of has d) v ≡ cond (supports has d) (shown (Some v)) (negsuc 0)
 unfolding shown_below top_of shown
 below_shown has d v = go (supports has d)
   where
@@ -36,19 +36,19 @@ below_shown has d v = go (supports has d)
     go false = rw (le-ltb v 0 (omega arith))
 
 -- the largest word shows as absent
-number-shown : (a : Claim) → shown (Is (claim_number a)) ≡ shown (amount_of a)
+number-shown : (a : Claim) → shown (Some (claim_number a)) ≡ shown (amount_of a)
 unfolding shown claim_number
 number-shown a = go a.there
   where
-    go : (b : Bool) → shown (Is (cond b a.value most)) ≡ shown (cond b (Is a.value) Absent)
+    go : (b : Bool) → shown (Some (cond b a.value most)) ≡ shown (cond b (Some a.value) None)
     go true = refl
     go false = refl
 
 -- what is present is what is not shown as absent
 present-shown : (a : Amount) → non_neg (shown a) ≡ present a
 unfolding shown present
-present-shown Absent = refl
-present-shown (Is v) = go (ltb v value_end)
+present-shown None = refl
+present-shown (Some v) = go (ltb v value_end)
   where
     go : (b : Bool) → non_neg (cond b (pos v) (negsuc 0)) ≡ b
     go true = refl
@@ -64,7 +64,7 @@ module _ (s : Situation) (t : ℕ) where
     unfolding value_at shown
     value_up q n e = below_shown has (direction_of q) n ∙ rw (up, e) (go (supports has (direction_of q)))
       where
-        go : (b : Bool) → cond b (shown (Is (claim_number (winner t q s.zones)))) (negsuc 0) ≡ shown (cond b (amount_of (winner t q s.zones)) Absent)
+        go : (b : Bool) → cond b (shown (Some (claim_number (winner t q s.zones)))) (negsuc 0) ≡ shown (cond b (amount_of (winner t q s.zones)) None)
         go true = number-shown (winner t q s.zones)
         go false = refl
 
@@ -120,17 +120,17 @@ module _ (s : Situation) (t : ℕ) where
         limit : ℕ
         limit = smallest_with (get_or s.settings.failsafe q 0) (best q)
 
-        go : (b l p : Bool) → cond b (shown (Is (cond l limit (cond p most (claim_number (best q)))))) (negsuc 0) ≡ shown (cond b (cond l (Is limit) (cond p Absent (amount_of (best q)))) Absent)
+        go : (b l p : Bool) → cond b (shown (Some (cond l limit (cond p most (claim_number (best q)))))) (negsuc 0) ≡ shown (cond b (cond l (Some limit) (cond p None (amount_of (best q)))) None)
         go true true p = refl
         go true false true = refl
         go true false false = number-shown (best q)
         go false l p = refl
 
-    absent-down : (q : ℕ) → safe ≡ false → value_at s t q ≡ Absent
+    absent-down : (q : ℕ) → safe ≡ false → value_at s t q ≡ None
     unfolding value_at
     absent-down q e = rw (down, failsafe_is, e) (go (supports has (direction_of q)))
       where
-        go : (a : Bool) → cond a Absent Absent ≡ Absent
+        go : (a : Bool) → cond a None None ≡ None
         go true = refl
         go false = refl
 

@@ -1,4 +1,5 @@
 -- Between two expiries nothing moves: what holds changes at no second but the due ones.
+use Rattle.std.specs.Prelude.{None, Some}
 use Prim.Native.Nat.{ℕ, zero, suc, ◌+◌, ◌*◌, ◌<◌, ◌≤◌}
 use mathlib.Core.Bool.{Bool, true, false, cond, not, ◌&&◌}
 use mathlib.Core.Path.{◌≡◌, refl, ap}
@@ -16,8 +17,7 @@ use Rattle.device_store.specs.Zones.{up_to, id_of, rank_of, held_of, is_joined, 
 use Rattle.device_store.specs.Words.{zones_of, since_of, settings_of}
 use Rattle.device_holds.specs.Holds.{Claim, Situation, situation_of, no_claim, claim_of, better, winner, amount_of, in_failsafe, smallest_with, failsafe_value, value_at, state_at, shown, values_at}
 use Rattle.device_holds.specs.Dues.{zone_dues, held_dues, low_dues, lead_dues, dues}
-use Rattle.wire_messages.specs.declared.Amount.{Amount}
-use Rattle.wire_messages.specs.declared.Amount.TheVariants.{Absent, Is}
+use Rattle.wire_messages.specs.Options.{Amount}
 use Rattle.device_store.specs.declared.Zone.{Zone}
 use Rattle.device_store.proofs.Runs.{length-up_to, up_to-cong}
 use Rattle.device_store.proofs.Lens.{zones_length}
@@ -101,7 +101,7 @@ module _ (s : Situation) (t : ℕ) (idle : Idle (suc t) (dues s)) where
   safe_steady q k h = go (is_setpoint q) refl
     where
       safe : Bool → Bool → Claim → Amount
-      safe l b c = cond l (Is (smallest_with (get_or s.settings.failsafe q 0) c)) (cond b Absent (amount_of c))
+      safe l b c = cond l (Some (smallest_with (get_or s.settings.failsafe q 0) c)) (cond b None (amount_of c))
 
       go : (b : Bool) → is_setpoint q ≡ b → safe (is_limit q) b (winner (suc t) q s.zones) ≡ safe (is_limit q) b (winner t q s.zones)
       go true e = rw (setpoint-no_limit q e)
@@ -115,10 +115,10 @@ module _ (s : Situation) (t : ℕ) (idle : Idle (suc t) (dues s)) where
       safe = ltb t (s.since + s.settings.duration)
 
       go : (u j : Bool) → Idle (suc t) (cond u (low_dues s.zones ++ lead_dues s.zones) (cond j ((s.since + s.settings.duration) ∷ low_dues s.zones) []))
-          → cond u (amount_of (winner (suc t) q s.zones)) (cond (not u && (j && safe)) (failsafe_value s (suc t) q) Absent)
-          ≡ cond u (amount_of (winner t q s.zones)) (cond (not u && (j && safe)) (failsafe_value s t q) Absent)
+          → cond u (amount_of (winner (suc t) q s.zones)) (cond (not u && (j && safe)) (failsafe_value s (suc t) q) None)
+          ≡ cond u (amount_of (winner t q s.zones)) (cond (not u && (j && safe)) (failsafe_value s t q) None)
       go true j h = ap amount_of (both_steady t q s.zones k h)
-      go false true h = ap (λ (a : Amount). cond safe a Absent) (safe_steady q k (λ m. h (Memᴰ.tail m)))
+      go false true h = ap (λ (a : Amount). cond safe a None) (safe_steady q k (λ m. h (Memᴰ.tail m)))
       go false false h = refl
 
   state_steady : state_at s (suc t) ≡ state_at s t

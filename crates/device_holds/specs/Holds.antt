@@ -1,8 +1,7 @@
 -- What holds at a second t: document 01's table of links, and the control state.
-use Rattle.std.specs.Prelude.{ℕ, ◌+◌, Bool, false, cond, not, ◌&&◌, ◌||◌, List, ◌∷◌, ltb, eqb, get_or, set, ℤ, pos}
+use Rattle.std.specs.Prelude.{ℕ, ◌+◌, Bool, false, cond, not, ◌&&◌, ◌||◌, List, ◌∷◌, ltb, eqb, get_or, set, ℤ, pos, None, Some}
 use Rattle.refusals.specs.States.{AUTONOMOUS, CONTROLLED, LIMITED, FAILSAFE, OVERRIDE}
-use Rattle.wire_messages.specs.declared.Amount.{Amount}
-use Rattle.wire_messages.specs.declared.Amount.TheVariants.{Absent, Is}
+use Rattle.wire_messages.specs.Options.{Amount}
 use Rattle.device_store.specs.Quantities.{helds, is_limit, is_setpoint, direction_of, supports}
 use Rattle.device_store.specs.Sizes.{value_end}
 use Rattle.device_store.specs.Zones.{up_to, any_joined, any_up}
@@ -35,21 +34,21 @@ in_failsafe s t = not (any_up s.zones) && (any_joined s.zones && ltb t (s.since 
 -- the second row of a quantity: setpoints are absent, current limits hold on, without a failsafe limit of their own
 unfoldable pub failsafe_value : Situation → ℕ → ℕ → Amount
 failsafe_value s t q =
-    cond (is_limit q) (Is (smallest_with (get_or s.settings.failsafe q 0) (winner t q s.zones)))
-    (cond (is_setpoint q) Absent (amount_of (winner t q s.zones)))
+    cond (is_limit q) (Some (smallest_with (get_or s.settings.failsafe q 0) (winner t q s.zones)))
+    (cond (is_setpoint q) None (amount_of (winner t q s.zones)))
 
 -- the four rows; "an unsupported direction is always absent"
 unfoldable pub value_at : Situation → ℕ → ℕ → Amount
 value_at s t q =
     cond (supports s.settings.directions (direction_of q))
     (cond (any_up s.zones) (amount_of (winner t q s.zones))
-    (cond (in_failsafe s t) (failsafe_value s t q) Absent))
-    Absent
+    (cond (in_failsafe s t) (failsafe_value s t q) None))
+    None
 
 -- a number past the largest value, which no history stores, is none
 unfoldable pub present : Amount → Bool
-present Absent = false
-present (Is v) = ltb v value_end
+present None = false
+present (Some v) = ltb v value_end
 
 -- "FAILSAFE in the second row; else OVERRIDE if set; else LIMITED if a limit is present; else CONTROLLED if a zone is up; else AUTONOMOUS"; current limits do not count
 unfoldable pub state_at : Situation → ℕ → ℕ

@@ -1,7 +1,6 @@
 -- What the table of links promises, in the tender's words: one statement for all quantities and directions.
-use Rattle.std.specs.Prelude.{ℕ, ◌+◌, ◌<◌, ◌≤◌, true, false, not, ◌||◌, ◌⊎◌, ◌↔◌, ◌≡◌, List, [], ◌∷◌, eqb, length, get_or}
+use Rattle.std.specs.Prelude.{ℕ, ◌+◌, ◌<◌, ◌≤◌, true, false, not, ◌||◌, ◌⊎◌, ◌↔◌, ◌≡◌, List, [], ◌∷◌, eqb, length, get_or, None, Some}
 use Rattle.refusals.specs.States.{CONTROLLED, LIMITED, FAILSAFE, OVERRIDE}
-use Rattle.wire_messages.specs.declared.Amount.TheVariants.{Absent, Is}
 use Rattle.device_store.specs.Quantities.{is_limit, is_setpoint, is_current, direction_of, supports}
 use Rattle.device_store.specs.Zones.{id_of, rank_of, free_zone, is_joined, any_joined, any_up, held_of}
 use Rattle.device_holds.specs.Holds.{claim_of, goes_before, winner, Situation, in_failsafe, value_at, present, state_at}
@@ -28,7 +27,7 @@ pub record Wins (t q : ℕ) (zs : List Zone) : Type 0 where
 -- "smallest unexpired of all joined zones": power limits and current limits
 abbrev pub SmallestLimit : Situation → ℕ → ℕ → Type 0
 SmallestLimit s t q =
-    (v : ℕ) → value_at s t q ≡ Is v → Some t q s.zones (λ x. (held_of x q).value ≡ v) × Each t q s.zones (λ y. v ≤ (held_of y q).value)
+    (v : ℕ) → value_at s t q ≡ Some v → Some t q s.zones (λ x. (held_of x q).value ≡ v) × Each t q s.zones (λ y. v ≤ (held_of y q).value)
 
 -- "from the best rank that has one; equal rank, smaller id"
 abbrev pub NoBetter : Zone → Zone → Type 0
@@ -36,13 +35,13 @@ NoBetter x y = (rank_of x < rank_of y) ⊎ ((rank_of x ≡ rank_of y) × (id_of 
 
 abbrev pub BestSetpoint : Situation → ℕ → ℕ → Type 0
 BestSetpoint s t q =
-    (v : ℕ) → value_at s t q ≡ Is v → Some t q s.zones (λ x. ((held_of x q).value ≡ v) × Each t q s.zones (λ y. NoBetter x y))
+    (v : ℕ) → value_at s t q ≡ Some v → Some t q s.zones (λ x. ((held_of x q).value ≡ v) × Each t q s.zones (λ y. NoBetter x y))
 
 -- the first row: "some zone up"; absent exactly when no joined zone has an unexpired value
 pub record SomeUp (s : Situation) (t q : ℕ) : Type 0 where
   pub limit : is_setpoint q ≡ false → SmallestLimit s t q
   pub setpoint : is_setpoint q ≡ true → BestSetpoint s t q
-  pub absent : supports s.settings.directions (direction_of q) ≡ true → (value_at s t q ≡ Absent) ↔ Each t q s.zones (λ x. ⊥)
+  pub absent : supports s.settings.directions (direction_of q) ≡ true → (value_at s t q ≡ None) ↔ Each t q s.zones (λ x. ⊥)
 
 -- "the smallest of the failsafe limit and all unexpired limits of joined zones": some source holds it, and none is smaller
 pub record SmallestSource (s : Situation) (t q v : ℕ) : Type 0 where
@@ -53,15 +52,15 @@ pub record SmallestSource (s : Situation) (t q v : ℕ) : Type 0 where
 -- the second row: in a supported direction there is a limit; setpoints are absent; current limits hold as in the first row
 pub record Failsafe (s : Situation) (t : ℕ) : Type 0 where
   pub state : state_at s t ≡ FAILSAFE
-  pub limit : (q : ℕ) → supports s.settings.directions (direction_of q) ≡ true → is_limit q ≡ true → (v : ℕ) × (value_at s t q ≡ Is v) × SmallestSource s t q v
-  pub setpoint : (q : ℕ) → is_setpoint q ≡ true → value_at s t q ≡ Absent
+  pub limit : (q : ℕ) → supports s.settings.directions (direction_of q) ≡ true → is_limit q ≡ true → (v : ℕ) × (value_at s t q ≡ Some v) × SmallestSource s t q v
+  pub setpoint : (q : ℕ) → is_setpoint q ≡ true → value_at s t q ≡ None
   pub current : (q : ℕ) → is_current q ≡ true → SmallestLimit s t q
-  pub absent : (q : ℕ) → is_current q ≡ true → supports s.settings.directions (direction_of q) ≡ true → (value_at s t q ≡ Absent) ↔ Each t q s.zones (λ x. ⊥)
+  pub absent : (q : ℕ) → is_current q ≡ true → supports s.settings.directions (direction_of q) ≡ true → (value_at s t q ≡ None) ↔ Each t q s.zones (λ x. ⊥)
 
 -- the second and third rows: the failsafe holds below since + duration, and from that second on nothing does
 pub record NoneUp (s : Situation) (t : ℕ) : Type 0 where
   pub before : t < s.since + s.settings.duration → Failsafe s t
-  pub past : s.since + s.settings.duration ≤ t → (state_at s t ≡ FAILSAFE → ⊥) × ((q : ℕ) → value_at s t q ≡ Absent)
+  pub past : s.since + s.settings.duration ≤ t → (state_at s t ≡ FAILSAFE → ⊥) × ((q : ℕ) → value_at s t q ≡ None)
 
 -- "FAILSAFE in the second row; else OVERRIDE if set; else LIMITED if a limit is present; else CONTROLLED if a zone is up"; else AUTONOMOUS, which is 0
 abbrev pub StateOrder : Situation → ℕ → Type 0
@@ -78,8 +77,8 @@ StateOrder s t =
 pub record Table (s : Situation) (t : ℕ) : Type 0 where
   pub some_up : any_up s.zones ≡ true → (q : ℕ) → SomeUp s t q
   pub none_up : any_up s.zones ≡ false → any_joined s.zones ≡ true → NoneUp s t
-  pub none_joined : any_joined s.zones ≡ false → (q : ℕ) → value_at s t q ≡ Absent
-  pub unsupported : (q : ℕ) → supports s.settings.directions (direction_of q) ≡ false → value_at s t q ≡ Absent
+  pub none_joined : any_joined s.zones ≡ false → (q : ℕ) → value_at s t q ≡ None
+  pub unsupported : (q : ℕ) → supports s.settings.directions (direction_of q) ≡ false → value_at s t q ≡ None
   pub state : StateOrder s t
 
 -- two situations that differ in links, and in since when none is up, alone
@@ -95,7 +94,7 @@ abbrev pub LosingLinks : Type 0
 LosingLinks =
     (lost linked : Situation) → ButForLinks lost linked → any_up lost.zones ≡ false → any_up linked.zones ≡ true
     → (t : ℕ) → t < lost.since + lost.settings.duration
-    → (q v : ℕ) → is_setpoint q ≡ false → value_at linked t q ≡ Is v → (w : ℕ) × (value_at lost t q ≡ Is w) × (w ≤ v)
+    → (q v : ℕ) → is_setpoint q ≡ false → value_at linked t q ≡ Some v → (w : ℕ) × (value_at lost t q ≡ Some w) × (w ≤ v)
 
 -- two situations that differ in current limits and setpoints alone
 pub record ButForCurrents (a b : Situation) : Type 0 where

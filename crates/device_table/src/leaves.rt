@@ -12,15 +12,14 @@ use device_store::{
     CURRENTS, END, HELDS, LEADING_SETPOINTS, LIMITS, LOWEST_VALUES, SETPOINTS, VALUE_END, VALUES,
     supports,
 };
-use wire_messages::Amount;
 
 // A value at the edges: -1 where it is absent, or too large to be one.
-pub fn shown(a: Amount) -> i64
+pub fn shown(a: Option<u64>) -> i64
     ensures { result ≡ shown a }
 {
     match a {
-        Amount::Absent => -1,
-        Amount::Is(v) => if v < VALUE_END { v as i64 } else { -1 },
+        None => -1,
+        Some(v) => if v < VALUE_END { v as i64 } else { -1 },
     }
 }
 

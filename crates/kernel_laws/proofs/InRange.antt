@@ -1,4 +1,5 @@
 -- The response to a request that was read is one that can be written: its command is served, and every number is in range.
+use Rattle.std.specs.Prelude.{None, Some}
 use Prim.Native.Nat.{ℕ, ◌<◌}
 use mathlib.Core.Bool.{Bool, true, false, cond, not, ◌&&◌, ◌||◌}
 use mathlib.Core.Path.{◌≡◌, refl}
@@ -9,7 +10,7 @@ use lib.IntN.{pos, negsuc}
 use borrow.Author.Tests.{ltb-true, ltb-false, le-leb}
 use Rattle.wire_messages.specs.Numbers.{wire_number}
 use Rattle.refusals.specs.Refusals.{first_of}
-use Rattle.wire_messages.specs.declared.Amount.{Amount}
+use Rattle.wire_messages.specs.Options.{Amount}
 use Rattle.wire_messages.specs.declared.Command.{Command}
 use Rattle.wire_messages.specs.declared.Outcome.{Outcome}
 use Rattle.wire_messages.specs.declared.Request.{Request}
@@ -31,8 +32,8 @@ use Rattle.kernel.specs.Frame.{response_to}
 -- a value that is shown fits a response
 shown-fits : (a : Amount) → amount_up_to most_value (stated (shown a)) ≡ true
 unfolding shown
-shown-fits Amount.Absent = refl
-shown-fits (Amount.Is v) = go (ltb v value_end) refl
+shown-fits None = refl
+shown-fits (Some v) = go (ltb v value_end) refl
   where
     go : (b : Bool) → ltb v value_end ≡ b → amount_up_to most_value (stated (cond b (pos v) (negsuc 0))) ≡ true
     go true e = le-leb v most_value (let h = ltb-true v value_end e in omega arith)
@@ -47,7 +48,7 @@ reason-fits : (n : ℕ) (capped : Bool) → amount_up_to 4 (reason_of n capped) 
 unfolding reason_of
 reason-fits n capped = go (eqb n 11) (eqb n 12) (eqb n 13) (eqb n 14) (eqb n 0 && capped)
   where
-    go : (a b c d e : Bool) → amount_up_to 4 (cond a (Amount.Is 4) (cond b (Amount.Is 3) (cond c (Amount.Is 2) (cond d (Amount.Is 0) (cond e (Amount.Is 1) Amount.Absent))))) ≡ true
+    go : (a b c d e : Bool) → amount_up_to 4 (cond a (Some 4) (cond b (Some 3) (cond c (Some 2) (cond d (Some 0) (cond e (Some 1) None))))) ≡ true
     go true b c d e = refl
     go false true c d e = refl
     go false false true d e = refl

@@ -1,4 +1,5 @@
 -- Bytes added one after the other. Assumes nothing.
+use Rattle.std.specs.Prelude.{None, Some}
 use Prim.Native.Nat.{ℕ, ◌+◌, ◌≤◌, ◌<◌}
 use mathlib.Core.Path.{◌≡◌, refl, sym, ap, subst, ◌∙◌}
 use mathlib.Core.Bool.{Bool, cond}
@@ -15,7 +16,7 @@ use Rattle.wire_cbor.specs.Item.{Item, encode, encode_pairs, count_pairs}
 use Rattle.wire_cbor.specs.Scan.{key_head_of}
 use Rattle.wire_cbor.specs.declared.heads.KeyHead.{KeyHead}
 use Rattle.wire_messages.specs.declared.Field.{Field}
-use Rattle.wire_messages.specs.declared.Amount.{Amount}
+use Rattle.wire_messages.specs.Options.{Amount}
 use Rattle.wire_heads.proofs.Widths.{head-length, head-short}
 use Rattle.wire_bytes.proofs.PutLaws.{put_whole_lem, length-put}
 use Rattle.wire_fields.specs.Fields.{Fields, present, map_item, value_item, amount_item}
@@ -159,8 +160,8 @@ flat-value (Field.Value (negsuc n)) = tt
 
 pub flat-amount : (a : Amount) → Flat (amount_item a)
 unfolding amount_item
-flat-amount Amount.Absent = tt
-flat-amount (Amount.Is v) = tt
+flat-amount None = tt
+flat-amount (Some v) = tt
 
 -- what was put at the front of a buffer that has the room
 pub puts_fit : {s t a : List ℕ} {q n : ℕ} → n ≤ length s → Puts s 0 a n t q → Adds s 0 a n t q

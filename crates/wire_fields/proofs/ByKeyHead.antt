@@ -1,4 +1,5 @@
 -- Each kind of field, told by what is seen of it. Assumes nothing.
+use Rattle.std.specs.Prelude.{Some}
 use Prim.Native.Nat.{ℕ}
 use mathlib.Core.Path.{◌≡◌, refl, sym, ap, ◌∙◌}
 use mathlib.Core.Bool.{Bool, true, false, cond, not, ◌&&◌, ◌||◌}
@@ -10,7 +11,7 @@ use borrow.Author.Tests.{eqb-true, le-ltb}
 use Rattle.wire_cbor.specs.Item.{Item}
 use Rattle.wire_cbor.specs.Scan.{key_head_of, pairs_in}
 use Rattle.wire_cbor.specs.declared.heads.KeyHead.{KeyHead}
-use Rattle.wire_messages.specs.declared.Amount.{Amount}
+use Rattle.wire_messages.specs.Options.{Amount}
 use Rattle.wire_fields.specs.Fields.{number_up_to, truth, map_in, needed, optional, amount_in, only_true, success_in}
 use Rattle.wire_fields.specs.Ranges.{up_to_most}
 use Rattle.wire_fields.specs.KeyHeads.{found, Reads, UintReads, MapReads, number_seen, amount_of}
@@ -44,7 +45,7 @@ map_found g false x = refl
 amount-key_head : (most : ℕ) (o : Option Item) → amount_in most o ≡ found (eqb (key_head_of o).major 8 || uint_test most (key_head_of o)) (amount_of (key_head_of o))
 unfolding amount_in optional number_up_to key_head_of amount_of
 amount-key_head most none = refl
-amount-key_head most (some (Item.uint v)) = map_found Amount.Is (leb v most) v
+amount-key_head most (some (Item.uint v)) = map_found Some (leb v most) v
 amount-key_head most (some (Item.nint v)) = rw (le-ltb v 0 (omega arith)) refl
 amount-key_head most (some (Item.bytes b)) = refl
 amount-key_head most (some (Item.text b)) = refl

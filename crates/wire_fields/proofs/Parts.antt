@@ -1,4 +1,5 @@
 -- A message by its parts: what is seen in each place, and one reader after the other. Assumes nothing.
+use Rattle.std.specs.Prelude.{Some}
 use Prim.Native.Nat.{ℕ, ◌<◌}
 use mathlib.Core.Path.{◌≡◌, refl, sym, ap, ◌∙◌}
 use mathlib.Core.Bool.{Bool, true, false, ◌&&◌}
@@ -9,8 +10,8 @@ use Rattle.wire_cbor.specs.Item.{Item, Pairs}
 use Rattle.wire_cbor.specs.Find.{value_of}
 use Rattle.wire_cbor.specs.Scan.{KEYS, LEVELS, key_head_of, map_at, key_head_at}
 use Rattle.wire_cbor.proofs.Passes.{key_head_exact}
-use Rattle.wire_messages.specs.declared.Amount.{Amount}
-use Rattle.wire_messages.specs.declared.Aim.{Aim}
+use Rattle.wire_messages.specs.Options.{Amount}
+use Rattle.wire_messages.specs.Options.{Aim}
 use Rattle.wire_fields.specs.Fields.{number_up_to, optional, aim_in, amount_in}
 use Rattle.wire_fields.specs.KeyHeads.{found, aim_of, Shown}
 use Rattle.wire_fields.proofs.ByKeyHead.{map_found}
@@ -52,4 +53,4 @@ map-map f g h e none = refl
 pub aim_amount : (o : Option Item) → aim_in o ≡ map aim_of (amount_in 1 o)
 unfolding aim_in amount_in optional
 aim_amount none = refl
-aim_amount (some i) = map-map aim_of Amount.Is Aim.One (λ x. refl) (number_up_to 1 i)
+aim_amount (some i) = map-map aim_of Some Some (λ x. refl) (number_up_to 1 i)

@@ -1,4 +1,5 @@
 -- Every reader of numbers goes by a range. Assumes nothing.
+use Rattle.std.specs.Prelude.{Some}
 use Prim.Native.Nat.{ℕ, ◌^◌, ◌≤◌, ◌<◌}
 use mathlib.Core.Path.{◌≡◌, refl, sym, ap, ◌∙◌}
 use mathlib.Core.Bool.{Bool, true, false, cond, ◌&&◌, ◌||◌}
@@ -13,7 +14,7 @@ use Rattle.wire_cbor.specs.Item.{Item, is_some}
 use Rattle.wire_cbor.specs.Scan.{key_head_of}
 use Rattle.wire_cbor.specs.declared.heads.KeyHead.{KeyHead}
 use Rattle.wire_messages.specs.declared.Field.{Field}
-use Rattle.wire_messages.specs.declared.Amount.{Amount}
+use Rattle.wire_messages.specs.Options.{Amount}
 use Rattle.wire_fields.specs.Fields.{number_up_to, in_range, signed, optional, value_in, amount_in}
 use Rattle.wire_fields.specs.Ranges.{within, when_within, signed_bits, number_in, is_null, numeric}
 use Rattle.wire_fields.specs.KeyHeads.{found, Reads, Tells, field_of, amount_of}
@@ -113,7 +114,7 @@ unfolding amount_in optional number_up_to numeric number_in within amount_of key
 amounts_by_range most none = refl
 amounts_by_range most (some (Item.uint n)) = go (leb n most)
   where
-    go : (b : Bool) → Option.map Amount.Is (cond b (some n) none) ≡ found (is_some (cond b (some (pos n)) none) || false) (Amount.Is n)
+    go : (b : Bool) → Option.map Some (cond b (some n) none) ≡ found (is_some (cond b (some (pos n)) none) || false) (Some n)
     go true = refl
     go false = refl
 amounts_by_range most (some (Item.nint n)) = rw (none-below_zero n) refl

@@ -1,12 +1,12 @@
 -- The fields of a map: what stands under a key, read as a number, a truth or a map, and the items that are written for them.
 -- `none` is refusal 3: "a needed key is missing, or a known key has a wrong type or range". Assumes nothing: these are definitions.
-use Rattle.std.specs.Prelude.{ℕ, ◌^◌, ◌-◌, Bool, true, false, cond, List, [], ◌∷◌, ltb, leb, eqb, ℤ, pos, negsuc}
+use Rattle.std.specs.Prelude.{ℕ, ◌^◌, ◌-◌, Bool, true, false, cond, List, [], ◌∷◌, ltb, leb, eqb, ℤ, pos, negsuc, None, Some}
 use Rattle.std.proofs.Math.Option
 use Rattle.std.proofs.Math.Option.{Option, some, none, bind}
 use Rattle.wire_cbor.specs.Item.{Item, Pairs}
 use Rattle.wire_messages.specs.declared.Field.{Field}
-use Rattle.wire_messages.specs.declared.Amount.{Amount}
-use Rattle.wire_messages.specs.declared.Aim.{Aim}
+use Rattle.wire_messages.specs.Options.{Amount}
+use Rattle.wire_messages.specs.Options.{Aim}
 
 -- THE KINDS OF VALUE
 -- an unsigned number, at most `most`
@@ -78,11 +78,11 @@ value_in null o = optional Field.Absent (λ f. f) (signed null) o
 
 -- "an optional direction (key 1, 0 or 1)"
 unfoldable pub aim_in : Option Item → Option Aim
-aim_in o = optional Aim.Both Aim.One (number_up_to 1) o
+aim_in o = optional None Some (number_up_to 1) o
 
 -- a value of a response, left out when absent
 unfoldable pub amount_in : ℕ → Option Item → Option Amount
-amount_in most o = optional Amount.Absent Amount.Is (number_up_to most) o
+amount_in most o = optional None Some (number_up_to most) o
 
 -- "a false where true is shown" is refused
 abbrev pub only_true : Bool → Option Bool
@@ -106,12 +106,12 @@ value_item Field.Null = some (Item.simple 22)
 value_item (Field.Value z) = some (int_item z)
 
 unfoldable pub aim_item : Aim → Option Item
-aim_item Aim.Both = none
-aim_item (Aim.One d) = some (Item.uint d)
+aim_item None = none
+aim_item (Some d) = some (Item.uint d)
 
 unfoldable pub amount_item : Amount → Option Item
-amount_item Amount.Absent = none
-amount_item (Amount.Is v) = some (Item.uint v)
+amount_item None = none
+amount_item (Some v) = some (Item.uint v)
 
 -- A MAP AS A LIST OF FIELDS: each key with its item, or with none
 abbrev pub Fields : Type 0

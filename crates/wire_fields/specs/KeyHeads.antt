@@ -1,11 +1,11 @@
 -- What the readers make of a field, told by what is seen of it. Assumes nothing: these are definitions.
-use Rattle.std.specs.Prelude.{ℕ, ◌≡◌, Bool, true, false, cond, ◌&&◌, List, ltb, leb, eqb}
+use Rattle.std.specs.Prelude.{ℕ, ◌≡◌, Bool, true, false, cond, ◌&&◌, List, ltb, leb, eqb, None, Some}
 use Rattle.std.proofs.Math.Option.{Option, some, none}
 use Rattle.wire_cbor.specs.Item.{Item, Pairs}
 use Rattle.wire_cbor.specs.Scan.{LEVELS, key_head_of, pairs_in, map_at, key_heads_along, words_of}
 use Rattle.wire_cbor.specs.declared.heads.KeyHead.{KeyHead}
-use Rattle.wire_messages.specs.declared.Amount.{Amount}
-use Rattle.wire_messages.specs.declared.Aim.{Aim}
+use Rattle.wire_messages.specs.Options.{Amount}
+use Rattle.wire_messages.specs.Options.{Aim}
 unfoldable pub use Rattle.wire_fields.specs.Values.{field_of, amount_of}
 use Rattle.wire_fields.specs.Fields.{number_up_to, map_in, needed, amount_in}
 use Rattle.wire_fields.specs.declared.ranges.Range.{Range}
@@ -37,8 +37,8 @@ unfoldable pub MapReads : KeyHead → Bool → Type 0
 MapReads k ok = (o : Option Item) → k ≡ key_head_of o → needed map_in o ≡ found ok (pairs_in o)
 
 abbrev pub aim_of : Amount → Aim
-aim_of Amount.Absent = Aim.Both
-aim_of (Amount.Is d) = Aim.One d
+aim_of None = None
+aim_of (Some d) = Some d
 
 -- ALL OF THEM
 -- those under the small keys of the maps along a path, from ps on

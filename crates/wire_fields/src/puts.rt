@@ -7,7 +7,7 @@ ghost use Rattle.wire_fields.specs.Fields.{truth_item, value_item, amount_item};
 ghost use Rattle.wire_fields.specs.Puts.{PutsField, pair_bytes, field_bytes, key_head_bytes, pair_pieces, field_pieces, key_head_pieces, pairs_of};
 
 use wire_cbor::KeyHead;
-use wire_messages::{Amount, Field};
+use wire_messages::Field;
 
 // A key, and the head of its value.
 fn put_pair(out: &mut [u8], at: usize, key: u64, major: u64, arg: u64) -> usize
@@ -53,12 +53,12 @@ pub fn put_key_head(out: &mut [u8], at: usize, key: u64, k: KeyHead) -> usize
 }
 
 // An unsigned number as it is to be seen, or nothing.
-pub fn amount_key_head(a: Amount) -> KeyHead
+pub fn amount_key_head(a: Option<u64>) -> KeyHead
     ensures { result ≡ key_head_of (amount_item a) }
 {
     match a {
-        Amount::Absent => KeyHead { major: 8, arg: 8 },
-        Amount::Is(v) => KeyHead { major: 0, arg: v },
+        None => KeyHead { major: 8, arg: 8 },
+        Some(v) => KeyHead { major: 0, arg: v },
     }
 }
 
@@ -85,7 +85,7 @@ pub fn field_key_head(f: Field) -> KeyHead
 }
 
 // An unsigned number, or nothing.
-pub fn put_amount(out: &mut [u8], at: usize, key: u64, a: Amount) -> usize
+pub fn put_amount(out: &mut [u8], at: usize, key: u64, a: Option<u64>) -> usize
     ensures { PutsField out.old at (field_pieces key (amount_item a)) (field_bytes key (amount_item a)) out.new result }
 {
     put_key_head(out, at, key, amount_key_head(a))
@@ -110,11 +110,11 @@ pub fn count_value(f: Field) -> u64
 }
 
 // The same of an amount.
-pub fn count_amount(a: Amount) -> u64
+pub fn count_amount(a: Option<u64>) -> u64
     ensures { result ≡ pairs_of (amount_item a) }
 {
     match a {
-        Amount::Absent => 0,
-        Amount::Is(_) => 1,
+        None => 0,
+        Some(_) => 1,
     }
 }

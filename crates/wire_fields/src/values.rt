@@ -3,19 +3,19 @@ ghost use Rattle.std.specs.Prelude.{◌≡◌};
 ghost use Rattle.wire_fields.specs.Values.{amount_of, field_of};
 
 use wire_cbor::KeyHead;
-use wire_messages::{Amount, Field};
+use wire_messages::Field;
 
 // Numbers of 64 signed bits are below it.
 const LIMIT: u64 = 9223372036854775808;
 
 // The number that is there, or none.
-pub fn amount_of(k: KeyHead) -> Amount
+pub fn amount_of(k: KeyHead) -> Option<u64>
     ensures { result ≡ amount_of k }
 {
     if k.major == 0 {
-        return Amount::Is(k.arg);
+        return Some(k.arg);
     }
-    Amount::Absent
+    None
 }
 
 // The signed number that is there, null, or nothing: n is n in major type 0 and -1 - n in major type 1.

@@ -1,4 +1,5 @@
 -- Each kind of field, read and written again. Assumes nothing.
+use Rattle.std.specs.Prelude.{None, Some}
 use Prim.Native.Nat.{ℕ, ◌^◌, ◌≤◌}
 use mathlib.Core.Path.{◌≡◌, refl, ap, ◌∙◌}
 use mathlib.Core.Bool.{Bool, true, false, cond}
@@ -10,8 +11,8 @@ use lib.IntN.{ℤ, pos, negsuc}
 use borrow.Author.Tests.{eqb-true, le-leb, le-ltb, leb-true, ltb-true}
 use Rattle.wire_cbor.specs.Item.{Item, Pairs}
 use Rattle.wire_messages.specs.declared.Field.{Field}
-use Rattle.wire_messages.specs.declared.Aim.{Aim}
-use Rattle.wire_messages.specs.declared.Amount.{Amount}
+use Rattle.wire_messages.specs.Options.{Aim}
+use Rattle.wire_messages.specs.Options.{Amount}
 use Rattle.wire_fields.specs.Fields.{number_up_to, truth, signed, map_in, needed, optional, value_in, aim_in, amount_in, success_in, only_true, truth_item, value_item, aim_item, amount_item}
 use Rattle.wire_requests.specs.WrittenRequests.{aim_wide}
 use Rattle.wire_responses.specs.WrittenResponses.{amount_up_to}
@@ -114,11 +115,11 @@ pub aim_again : (o : Option Item) (a : Aim) → aim_in o ≡ some a → (o ≡ a
 unfolding aim_in optional aim_item
 aim_again none a e = go a cc
   where
-    go : (a : Aim) → Aim.Both ≡ a → (none ≡ aim_item a) × (aim_wide a ≡ false)
-    go Aim.Both x = (refl, refl)
-    go (Aim.One d) x = absurd (let z : ◌≡◌ {A = ℕ} 0 1 = cc in omega arith)
+    go : (a : Aim) → None ≡ a → (none ≡ aim_item a) × (aim_wide a ≡ false)
+    go None x = (refl, refl)
+    go (Some d) x = absurd (let z : ◌≡◌ {A = ℕ} 0 1 = cc in omega arith)
 aim_again (some i) a e =
-    let p = map-part Aim.One (number_up_to 1 i) a e in
+    let p = map-part Some (number_up_to 1 i) a e in
     let u = up_to 1 i p.0 p.1 in
     rw (← p.2) (ap some u.0, le-ltb 1 p.0 u.1)
 
@@ -126,11 +127,11 @@ pub amount-again : (most : ℕ) (o : Option Item) (a : Amount) → amount_in mos
 unfolding amount_in optional amount_item
 amount-again most none a e = go a cc
   where
-    go : (a : Amount) → Amount.Absent ≡ a → (none ≡ amount_item a) × (amount_up_to most a ≡ true)
-    go Amount.Absent x = (refl, refl)
-    go (Amount.Is d) x = absurd (let z : ◌≡◌ {A = ℕ} 0 1 = cc in omega arith)
+    go : (a : Amount) → None ≡ a → (none ≡ amount_item a) × (amount_up_to most a ≡ true)
+    go None x = (refl, refl)
+    go (Some d) x = absurd (let z : ◌≡◌ {A = ℕ} 0 1 = cc in omega arith)
 amount-again most (some i) a e =
-    let p = map-part Amount.Is (number_up_to most i) a e in
+    let p = map-part Some (number_up_to most i) a e in
     let u = up_to most i p.0 p.1 in
     rw (← p.2) (ap some u.0, le-leb p.0 most u.1)
 

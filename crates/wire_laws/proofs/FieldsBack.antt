@@ -1,4 +1,5 @@
 -- Each kind of field, written and read back. Assumes nothing.
+use Rattle.std.specs.Prelude.{None, Some}
 use Prim.Native.Nat.{ℕ, ◌+◌, ◌^◌, ◌≤◌, ◌<◌}
 use mathlib.Core.Path.{◌≡◌, refl}
 use mathlib.Core.Bool.{Bool, true, false}
@@ -11,8 +12,8 @@ use Rattle.wire_heads.specs.Head.{head_bytes}
 use Rattle.wire_cbor.specs.Item.{Item, Ok, encode}
 use Rattle.wire_heads.proofs.Widths.{head-length, head-short}
 use Rattle.wire_messages.specs.declared.Field.{Field}
-use Rattle.wire_messages.specs.declared.Aim.{Aim}
-use Rattle.wire_messages.specs.declared.Amount.{Amount}
+use Rattle.wire_messages.specs.Options.{Aim}
+use Rattle.wire_messages.specs.Options.{Amount}
 use Rattle.wire_fields.specs.Fields.{number_up_to, truth, signed, needed, optional, value_in, aim_in, amount_in, success_in, truth_item, value_item, aim_item, amount_item}
 use Rattle.wire_requests.specs.WrittenRequests.{aim_wide}
 use Rattle.wire_responses.specs.WrittenResponses.{amount_up_to}
@@ -35,13 +36,13 @@ success_back = refl
 
 pub aim_back : (a : Aim) → aim_wide a ≡ false → aim_in (aim_item a) ≡ some a
 unfolding aim_in aim_item optional number_up_to
-aim_back Aim.Both h = refl
-aim_back (Aim.One d) h = rw (le-leb d 1 (ltb-false 1 d h))
+aim_back None h = refl
+aim_back (Some d) h = rw (le-leb d 1 (ltb-false 1 d h))
 
 pub amount-back : (most : ℕ) (a : Amount) → amount_up_to most a ≡ true → amount_in most (amount_item a) ≡ some a
 unfolding amount_in amount_item optional number_up_to
-amount-back most Amount.Absent h = refl
-amount-back most (Amount.Is v) h = rw h
+amount-back most None h = refl
+amount-back most (Some v) h = rw h
 
 -- null only where it is allowed
 abbrev pub Allowed : Bool → Field → Type 0
@@ -68,13 +69,13 @@ ok_truth false d = (omega arith, omega arith)
 
 pub ok_aim : (a : Aim) (d : ℕ) → aim_wide a ≡ false → OkField (aim_item a) d
 unfolding aim_item Ok
-ok_aim Aim.Both d h = tt
-ok_aim (Aim.One n) d h = omega (arith, ltb-false 1 n h)
+ok_aim None d h = tt
+ok_aim (Some n) d h = omega (arith, ltb-false 1 n h)
 
 pub ok_amount : (most : ℕ) (a : Amount) (d : ℕ) → most < 2 ^ 64 → amount_up_to most a ≡ true → OkField (amount_item a) d
 unfolding amount_item Ok
-ok_amount most Amount.Absent d g h = tt
-ok_amount most (Amount.Is v) d g h = omega (arith, leb-true v most h)
+ok_amount most None d g h = tt
+ok_amount most (Some v) d g h = omega (arith, leb-true v most h)
 
 pub ok_value : (f : Field) (d : ℕ) → Field64 f → OkField (value_item f) d
 unfolding value_item Ok
@@ -98,13 +99,13 @@ short_truth k false = rw length-append (pair_short k 7 20)
 
 pub short_aim : (k : ℕ) (a : Aim) → length (field_bytes k (aim_item a)) ≤ 18
 unfolding aim_item field_bytes
-short_aim k Aim.Both = omega arith
-short_aim k (Aim.One d) = short_uint k d
+short_aim k None = omega arith
+short_aim k (Some d) = short_uint k d
 
 pub short_amount : (k : ℕ) (a : Amount) → length (field_bytes k (amount_item a)) ≤ 18
 unfolding amount_item field_bytes
-short_amount k Amount.Absent = omega arith
-short_amount k (Amount.Is v) = short_uint k v
+short_amount k None = omega arith
+short_amount k (Some v) = short_uint k v
 
 pub short_value : (k : ℕ) (f : Field) → length (field_bytes k (value_item f)) ≤ 18
 unfolding value_item field_bytes encode

@@ -1,4 +1,5 @@
 -- The longest frames: each field has at most so many bytes, by the width of its number. Assumes nothing.
+use Rattle.std.specs.Prelude.{None, Some}
 use Prim.Native.Nat.{ℕ, ◌+◌, ◌≤◌, ◌<◌}
 use mathlib.Core.Path.{◌≡◌, refl, sym, ap, ◌∙◌}
 use mathlib.Core.Bool.{Bool, true, false, cond}
@@ -15,8 +16,8 @@ use Rattle.wire_heads.specs.Head.{info_of, width_of, head_len, head_bytes}
 use Rattle.wire_cbor.specs.Item.{Item, encode, encode_pairs, count_pairs}
 use Rattle.wire_heads.proofs.Widths.{by_width, head-length, head-short}
 use Rattle.wire_messages.specs.declared.Field.{Field}
-use Rattle.wire_messages.specs.declared.Amount.{Amount}
-use Rattle.wire_messages.specs.declared.Aim.{Aim}
+use Rattle.wire_messages.specs.Options.{Amount}
+use Rattle.wire_messages.specs.Options.{Aim}
 use Rattle.wire_messages.specs.declared.LimitResult.{LimitResult}
 use Rattle.wire_messages.specs.declared.SetpointResult.{SetpointResult}
 use Rattle.wire_messages.specs.declared.CurrentLimits.{CurrentLimits}
@@ -103,23 +104,23 @@ module _ (k : ℕ) (low : k < 24) where
 
   duration_long : (a : Amount) → amount_up_to most32 a ≡ true → length (field_bytes k (amount_item a)) ≤ 6
   unfolding amount_item
-  duration_long Amount.Absent h = omega (arith, none-long)
-  duration_long (Amount.Is d) h = uint_long d 5 (len_5 d (omega (arith, leb-true d most32 h)))
+  duration_long None h = omega (arith, none-long)
+  duration_long (Some d) h = uint_long d 5 (len_5 d (omega (arith, leb-true d most32 h)))
 
   aim_long : (a : Aim) → aim_wide a ≡ false → length (field_bytes k (aim_item a)) ≤ 2
   unfolding aim_item
-  aim_long Aim.Both h = omega (arith, none-long)
-  aim_long (Aim.One d) h = uint_long d 1 (len_1 d (omega (arith, ltb-false 1 d h)))
+  aim_long None h = omega (arith, none-long)
+  aim_long (Some d) h = uint_long d 1 (len_1 d (omega (arith, ltb-false 1 d h)))
 
   amount-long : (a : Amount) → length (field_bytes k (amount_item a)) ≤ 10
   unfolding amount_item
-  amount-long Amount.Absent = omega (arith, none-long)
-  amount-long (Amount.Is v) = uint_long v 9 (head-short v)
+  amount-long None = omega (arith, none-long)
+  amount-long (Some v) = uint_long v 9 (head-short v)
 
   reason-long : (a : Amount) → amount_up_to 4 a ≡ true → length (field_bytes k (amount_item a)) ≤ 2
   unfolding amount_item
-  reason-long Amount.Absent h = omega (arith, none-long)
-  reason-long (Amount.Is v) h = uint_long v 1 (len_1 v (omega (arith, leb-true v 4 h)))
+  reason-long None h = omega (arith, none-long)
+  reason-long (Some v) h = uint_long v 1 (len_1 v (omega (arith, leb-true v 4 h)))
 
   below_long : (fs : Fields) (n : ℕ) → length fs ≤ 23 → length (encode_pairs (present fs)) ≤ n → length (field_bytes k (some (Item.map (present fs)))) ≤ 2 + n
   unfolding field_bytes
@@ -280,7 +281,7 @@ response_reached = (
   record {
     id = 4294967295;
     status = 0;
-    outcome = Outcome.Current (record { a = Amount.Is 9223372036854775807; b = Amount.Is 9223372036854775807; c = Amount.Is 9223372036854775807 });
+    outcome = Outcome.Current (record { a = Some 9223372036854775807; b = Some 9223372036854775807; c = Some 9223372036854775807 });
   },
   refl,
   refl,

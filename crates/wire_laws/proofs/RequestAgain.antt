@@ -1,4 +1,5 @@
 -- A request that was read can be written, and is the same bytes. Assumes nothing.
+use Rattle.std.specs.Prelude.{None, Some}
 use Prim.Native.Nat.{ℕ, ◌+◌, ◌≤◌}
 use mathlib.Core.Path.{◌≡◌, refl, sym, ap, subst, ◌∙◌}
 use mathlib.Core.Bool.{Bool, true, false, cond, ◌&&◌, ◌||◌}
@@ -13,8 +14,8 @@ use Rattle.wire_cbor.specs.Find.{value_of}
 use Rattle.wire_messages.specs.Numbers.{wire_number}
 use Rattle.refusals.specs.Refusals.{first_of}
 use Rattle.wire_messages.specs.declared.Field.{Field}
-use Rattle.wire_messages.specs.declared.Aim.{Aim}
-use Rattle.wire_messages.specs.declared.Amount.{Amount}
+use Rattle.wire_messages.specs.Options.{Aim}
+use Rattle.wire_messages.specs.Options.{Amount}
 use Rattle.wire_messages.specs.declared.Phases.{Phases}
 use Rattle.wire_messages.specs.declared.CurrentLimits.{CurrentLimits}
 use Rattle.wire_messages.specs.declared.Command.{Command}
@@ -102,19 +103,19 @@ module _ (null : Bool) (ps : Pairs) where
 -- a duration that is not a written zero is the one written again
 duration_again : (a : Amount) → (amount_item a ≡ some (Item.uint 0) → ⊥) → duration_amount (duration_of a) ≡ a
 unfolding amount_item
-duration_again Amount.Absent n = refl
-duration_again (Amount.Is d) n = rw (ne_eqb d 0 (λ z. n (ap (λ (k : ℕ). some (Item.uint k)) z)))
+duration_again None n = refl
+duration_again (Some d) n = rw (ne_eqb d 0 (λ z. n (ap (λ (k : ℕ). some (Item.uint k)) z)))
 
 duration_small : (a : Amount) → amount_up_to most32 a ≡ true → duration_of a ≤ most32
-duration_small Amount.Absent h = omega arith
-duration_small (Amount.Is d) h = leb-true d most32 h
+duration_small None h = omega arith
+duration_small (Some d) h = leb-true d most32 h
 
 not_wide : (a : Amount) (k : ℕ) → amount_up_to most32 a ≡ true → k ≤ 255 → (ltb most32 (duration_of a) || ltb 255 k) ≡ false
 not_wide a k h g = rw (le-ltb most32 (duration_of a) (duration_small a h), le-ltb 255 k g)
 
 not-wide_setpoint : (a : Amount) (k : ℕ) → amount_up_to most32 a ≡ true → k ≤ 255 → (duration_wide a || ltb 255 k) ≡ false
-not-wide_setpoint Amount.Absent k h g = rw (le-ltb 255 k g)
-not-wide_setpoint (Amount.Is d) k h g = rw (le-ltb most32 d (leb-true d most32 h), le-ltb 255 k g)
+not-wide_setpoint None k h g = rw (le-ltb 255 k g)
+not-wide_setpoint (Some d) k h g = rw (le-ltb most32 d (leb-true d most32 h), le-ltb 255 k g)
 
 target_64 : (f : Field) → Field64 f → Target64 (target_of f)
 target_64 Field.Absent h = tt

@@ -1,4 +1,5 @@
 -- A request that is written reads back equal. Assumes nothing.
+use Rattle.std.specs.Prelude.{None, Some}
 use Prim.Native.Nat.{ℕ, suc, ◌^◌, ◌≤◌, ◌<◌}
 use mathlib.Core.Path.{◌≡◌, refl, sym, ap, ◌∙◌}
 use mathlib.Core.Bool.{Bool, true, false, cond, ◌&&◌, ◌||◌}
@@ -13,8 +14,8 @@ use Rattle.wire_heads.proofs.Widths.{head-length, head-short}
 use Rattle.wire_messages.specs.Numbers.{wire_number}
 use Rattle.refusals.specs.Refusals.{first_of}
 use Rattle.wire_messages.specs.declared.Field.{Field}
-use Rattle.wire_messages.specs.declared.Target.{Target}
-use Rattle.wire_messages.specs.declared.Amount.{Amount}
+use Rattle.wire_messages.specs.Options.{Target}
+use Rattle.wire_messages.specs.Options.{Amount}
 use Rattle.wire_messages.specs.declared.Limits.{Limits}
 use Rattle.wire_messages.specs.declared.Setpoints.{Setpoints}
 use Rattle.wire_messages.specs.declared.CurrentLimits.{CurrentLimits}
@@ -74,14 +75,14 @@ module _ (s : Setting) where
 pub duration_range : (d : ℕ) → d ≤ most32 → amount_up_to most32 (duration_amount d) ≡ true
 duration_range d h = go (eqb d 0)
   where
-    go : (b : Bool) → amount_up_to most32 (cond b Amount.Absent (Amount.Is d)) ≡ true
+    go : (b : Bool) → amount_up_to most32 (cond b None (Some d)) ≡ true
     go true = refl
     go false = le-leb d most32 h
 
 same-duration : (d : ℕ) → duration_of (duration_amount d) ≡ d
 same-duration d = go (eqb d 0) refl
   where
-    go : (b : Bool) → eqb d 0 ≡ b → duration_of (cond b Amount.Absent (Amount.Is d)) ≡ d
+    go : (b : Bool) → eqb d 0 ≡ b → duration_of (cond b None (Some d)) ≡ d
     go true e = sym (eqb-true d 0 e)
     go false e = refl
 
@@ -90,16 +91,16 @@ unfolding limits_from setting_of_limits
 same-limits l = rw (same-duration l.duration)
 
 allowed-target : (t : Target) → Allowed false (target_field t)
-allowed-target Target.Absent = tt
-allowed-target (Target.Value z) = tt
+allowed-target None = tt
+allowed-target (Some z) = tt
 
 pub field-64 : (t : Target) → Target64 t → Field64 (target_field t)
-field-64 Target.Absent h = tt
-field-64 (Target.Value z) h = h
+field-64 None h = tt
+field-64 (Some z) h = h
 
 same_target : (t : Target) → target_of (target_field t) ≡ t
-same_target Target.Absent = refl
-same_target (Target.Value z) = refl
+same_target None = refl
+same_target (Some z) = refl
 
 same-setpoints : (l : Setpoints) → setpoints_from (setting_of_setpoints l) ≡ l
 unfolding setpoints_from setting_of_setpoints
@@ -115,8 +116,8 @@ pub wide_parts : (d k : ℕ) → (ltb most32 d || ltb 255 k) ≡ false → (d �
 wide_parts d k h = (ltb-false most32 d (or_left _ _ h), ltb-false 255 k (or_right (ltb most32 d) _ h))
 
 duration_in : (a : Amount) → duration_wide a ≡ false → amount_up_to most32 a ≡ true
-duration_in Amount.Absent h = refl
-duration_in (Amount.Is d) h = le-leb d most32 (ltb-false most32 d h)
+duration_in None h = refl
+duration_in (Some d) h = le-leb d most32 (ltb-false most32 d h)
 
 pub wide_setpoints : (a : Amount) (k : ℕ) → (duration_wide a || ltb 255 k) ≡ false → (amount_up_to most32 a ≡ true) × (k ≤ 255)
 wide_setpoints a k h = (duration_in a (or_left _ _ h), ltb-false 255 k (or_right (duration_wide a) _ h))

@@ -11,7 +11,7 @@ use borrow.Author.Tests.{leb-true, eqb-true, eqb-false, le-leb, eq-eqb}
 use Rattle.wire_cbor.specs.Item.{Item, Pairs, payload_of, Ok, OkPairs, levels}
 use Rattle.wire_cbor.specs.Find.{value_of}
 use Rattle.refusals.specs.Refusals.{first_of}
-use Rattle.wire_messages.specs.declared.Amount.{Amount}
+use Rattle.wire_messages.specs.Options.{Amount}
 use Rattle.wire_messages.specs.declared.LimitResult.{LimitResult}
 use Rattle.wire_messages.specs.declared.SetpointResult.{SetpointResult}
 use Rattle.wire_messages.specs.declared.CurrentResult.{CurrentResult}

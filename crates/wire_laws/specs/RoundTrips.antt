@@ -1,12 +1,12 @@
 -- What is proved of reading and writing, each stated once. The proof of RequestReadsBack is request_reads_back, in proofs/, and so for the others.
 -- Assumes nothing: these are statements.
-use Rattle.std.specs.Prelude.{ℕ, ◌^◌, ◌≤◌, ◌<◌, ◌≡◌, Bool, true, false, cond, ◌&&◌, ◌||◌, ◌↔◌, List, length, take, drop, leb, eqb, ℤ, pos, negsuc}
+use Rattle.std.specs.Prelude.{ℕ, ◌^◌, ◌≤◌, ◌<◌, ◌≡◌, Bool, true, false, cond, ◌&&◌, ◌||◌, ◌↔◌, List, length, take, drop, leb, eqb, ℤ, pos, negsuc, None, Some}
 use Rattle.std.proofs.Math.Option.{some, none}
 use Rattle.wire_bytes.specs.Bytes.{Bytes}
 use Rattle.wire_cbor.specs.Item.{Item, Pairs, payload_of}
 use Rattle.wire_cbor.specs.Find.{value_of}
 use Rattle.wire_messages.specs.declared.Field.{Field}
-use Rattle.wire_messages.specs.declared.Target.{Target}
+use Rattle.wire_messages.specs.Options.{Target}
 use Rattle.wire_messages.specs.declared.Phases.{Phases}
 use Rattle.wire_messages.specs.declared.Command.{Command}
 use Rattle.wire_messages.specs.declared.Request.{Request}
@@ -45,8 +45,8 @@ Field64 Field.Null = Unit {0}
 Field64 (Field.Value z) = Signed64 z
 
 abbrev pub Target64 : Target → Type 0
-Target64 Target.Absent = Unit {0}
-Target64 (Target.Value z) = Signed64 z
+Target64 None = Unit {0}
+Target64 (Some z) = Signed64 z
 
 abbrev pub Phases64 : Phases → Type 0
 Phases64 p = Field64 p.a × Field64 p.b × Field64 p.c

@@ -59,13 +59,6 @@ pub enum Field {
     Value(i64),
 }
 
-// A setpoint field: the same, without null.
-#[derive(Clone, Copy)]
-pub enum Target {
-    Absent,
-    Value(i64),
-}
-
 // The parameters of SetLimit. An omitted duration is 0.
 #[derive(Clone, Copy)]
 pub struct Limits {
@@ -78,9 +71,9 @@ pub struct Limits {
 // The parameters of SetSetpoint. Its duration is as it stands on the wire: an omitted one is not 0.
 #[derive(Clone, Copy)]
 pub struct Setpoints {
-    pub consumption: Target,
-    pub production: Target,
-    pub duration: Amount,
+    pub consumption: Option<i64>,
+    pub production: Option<i64>,
+    pub duration: Option<u64>,
     pub cause: u64,
 }
 
@@ -101,22 +94,15 @@ pub struct CurrentLimits {
     pub cause: u64,
 }
 
-// What a clear names: one direction, or none and so both.
-#[derive(Clone, Copy)]
-pub enum Aim {
-    Both,
-    One(u64),
-}
-
 // A command with its parameters, or the number of one that is not served.
 #[derive(Clone, Copy)]
 pub enum Command {
     SetLimit(Limits),
-    ClearLimit(Aim),
+    ClearLimit(Option<u64>),
     SetSetpoint(Setpoints),
-    ClearSetpoint(Aim),
+    ClearSetpoint(Option<u64>),
     SetCurrentLimits(CurrentLimits),
-    ClearCurrentLimits(Aim),
+    ClearCurrentLimits(Option<u64>),
     Unserved(u64),
 }
 
@@ -128,36 +114,29 @@ pub struct Request {
     pub command: Command,
 }
 
-// A value of a response, left out when absent.
-#[derive(Clone, Copy)]
-pub enum Amount {
-    Absent,
-    Is(u64),
-}
-
 // The result of SetLimit: the effective limits, and why it was refused or capped.
 #[derive(Clone, Copy)]
 pub struct LimitResult {
     pub applied: bool,
     pub state: u64,
-    pub consumption: Amount,
-    pub production: Amount,
-    pub reason: Amount,
+    pub consumption: Option<u64>,
+    pub production: Option<u64>,
+    pub reason: Option<u64>,
 }
 
 // The result of SetSetpoint: the effective setpoints.
 #[derive(Clone, Copy)]
 pub struct SetpointResult {
-    pub consumption: Amount,
-    pub production: Amount,
+    pub consumption: Option<u64>,
+    pub production: Option<u64>,
 }
 
 // The result of SetCurrentLimits: the effective currents of its direction, for each phase.
 #[derive(Clone, Copy)]
 pub struct CurrentResult {
-    pub a: Amount,
-    pub b: Amount,
-    pub c: Amount,
+    pub a: Option<u64>,
+    pub b: Option<u64>,
+    pub c: Option<u64>,
 }
 
 // The result that stands in a response, if one does.

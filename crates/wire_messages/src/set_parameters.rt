@@ -3,34 +3,34 @@ ghost use Rattle.std.specs.Prelude.{◌≡◌};
 ghost use Rattle.wire_messages.specs.Shapes.{duration_of, target_of, limits_from, setpoints_from};
 ghost use Rattle.wire_messages.specs.Shapes.{duration_amount, target_field, setting_of_limits, setting_of_setpoints};
 
-use crate::{Amount, Field, Limits, Setpoints, Target};
+use crate::{Field, Limits, Setpoints};
 
 // The values, and apart from them the duration as it stands on the wire: what an omitted one means is the command's to say.
 #[derive(Clone, Copy)]
 pub struct Setting {
     pub consumption: Field,
     pub production: Field,
-    pub duration: Amount,
+    pub duration: Option<u64>,
     pub cause: u64,
 }
 
 // An omitted duration of limits is 0.
-pub fn duration_of(a: Amount) -> u64
+pub fn duration_of(a: Option<u64>) -> u64
     ensures { result ≡ duration_of a }
 {
     match a {
-        Amount::Absent => 0,
-        Amount::Is(d) => d,
+        None => 0,
+        Some(d) => d,
     }
 }
 
-fn target_of(f: Field) -> Target
+fn target_of(f: Field) -> Option<i64>
     ensures { result ≡ target_of f }
 {
     match f {
-        Field::Absent => Target::Absent,
-        Field::Null => Target::Absent,
-        Field::Value(v) => Target::Value(v),
+        Field::Absent => None,
+        Field::Null => None,
+        Field::Value(v) => Some(v),
     }
 }
 
@@ -67,22 +67,22 @@ pub fn setpoints_from(s: Setting) -> Setpoints
 }
 
 // A duration of 0 is omitted, of limits and current limits.
-pub fn duration_amount(d: u64) -> Amount
+pub fn duration_amount(d: u64) -> Option<u64>
     ensures { result ≡ duration_amount d }
 {
     if d == 0 {
-        return Amount::Absent;
+        return None;
     }
-    Amount::Is(d)
+    Some(d)
 }
 
 // A setpoint field as a limit field: absent or a value, never null.
-pub fn target_field(t: Target) -> Field
+pub fn target_field(t: Option<i64>) -> Field
     ensures { result ≡ target_field t }
 {
     match t {
-        Target::Absent => Field::Absent,
-        Target::Value(v) => Field::Value(v),
+        None => Field::Absent,
+        Some(v) => Field::Value(v),
     }
 }
 

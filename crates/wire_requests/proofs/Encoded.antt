@@ -7,7 +7,7 @@ use native.Mathlib.Omega.{arith}
 use Rattle.wire_heads.specs.Head.{head_bytes}
 use Rattle.wire_cbor.specs.Item.{Item, encode, encode_pairs, count_pairs}
 use Rattle.wire_messages.specs.Numbers.{wire_number}
-use Rattle.wire_messages.specs.declared.Amount.{Amount}
+use Rattle.wire_messages.specs.Options.{Amount}
 use Rattle.wire_messages.specs.declared.CurrentLimits.{CurrentLimits}
 use Rattle.wire_messages.specs.declared.Request.{Request}
 use Rattle.wire_fields.specs.Fields.{present, value_item, amount_item}

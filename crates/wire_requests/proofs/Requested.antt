@@ -12,8 +12,8 @@ use Rattle.wire_cbor.specs.Item.{Item, Pairs, payload_of, is_some}
 use Rattle.wire_cbor.specs.Find.{value_of}
 use Rattle.wire_cbor.specs.Scan.{KEYS, LEVELS, key_head_of, pairs_in, followed, map_at, key_heads_of, words_of, key_head_at}
 use Rattle.wire_cbor.specs.declared.heads.KeyHead.{KeyHead}
-use Rattle.wire_messages.specs.declared.Aim.{Aim}
-use Rattle.wire_messages.specs.declared.Amount.{Amount}
+use Rattle.wire_messages.specs.Options.{Aim}
+use Rattle.wire_messages.specs.Options.{Amount}
 use Rattle.wire_messages.specs.declared.Limits.{Limits}
 use Rattle.wire_messages.specs.declared.Setpoints.{Setpoints}
 use Rattle.wire_messages.specs.declared.Command.{Command}

@@ -4,7 +4,7 @@ use Rattle.std.proofs.Math.Option.{Option, some, none, map}
 use Rattle.wire_cbor.specs.Item.{Pairs}
 use Rattle.wire_cbor.specs.Find.{value_of}
 use Rattle.wire_cbor.specs.Scan.{STEP, pairs_in, map_at, key_head_at}
-use Rattle.wire_messages.specs.declared.Aim.{Aim}
+use Rattle.wire_messages.specs.Options.{Aim}
 use Rattle.wire_messages.specs.declared.Command.{Command}
 use Rattle.wire_messages.specs.declared.CurrentLimits.{CurrentLimits}
 use Rattle.wire_fields.specs.Fields.{aim_in}

@@ -1,11 +1,11 @@
 -- Requests: the item written for one, and what is refused. Assumes nothing: these are definitions.
-use Rattle.std.specs.Prelude.{ℕ, Bool, true, false, not, ◌&&◌, ◌||◌, [], ◌∷◌, ltb}
+use Rattle.std.specs.Prelude.{ℕ, Bool, true, false, not, ◌&&◌, ◌||◌, [], ◌∷◌, ltb, None, Some}
 use Rattle.std.proofs.Math.Option.{some}
 use Rattle.wire_cbor.specs.Item.{Item}
 use Rattle.refusals.specs.Refusals.{first_of, BAD_MESSAGE, NOT_SERVED}
 use Rattle.wire_messages.specs.Numbers.{wire_number, served_at}
-use Rattle.wire_messages.specs.declared.Aim.{Aim}
-use Rattle.wire_messages.specs.declared.Amount.{Amount}
+use Rattle.wire_messages.specs.Options.{Aim}
+use Rattle.wire_messages.specs.Options.{Amount}
 use Rattle.wire_messages.specs.declared.Command.{Command}
 use Rattle.wire_messages.specs.declared.Request.{Request}
 use Rattle.wire_fields.specs.Fields.{most32, aim_item, Fields, present}
@@ -30,13 +30,13 @@ unfoldable pub request_item : Request → Item
 request_item r = Item.map (present (request_fields r))
 
 abbrev pub aim_wide : Aim → Bool
-aim_wide Aim.Both = false
-aim_wide (Aim.One d) = ltb 1 d
+aim_wide None = false
+aim_wide (Some d) = ltb 1 d
 
 -- a duration that 32 bits do not hold; an omitted one is none
 abbrev pub duration_wide : Amount → Bool
-duration_wide Amount.Absent = false
-duration_wide (Amount.Is d) = ltb most32 d
+duration_wide None = false
+duration_wide (Some d) = ltb most32 d
 
 -- a number of the command that the wire does not hold
 unfoldable pub command_wide : Command → Bool

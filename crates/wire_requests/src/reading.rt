@@ -10,8 +10,8 @@ use refusals::{BAD_CBOR, BAD_LENGTH, BAD_MESSAGE};
 use wire_cbor::{KeyHead, KeyHeads, key_head_of};
 use wire_fields::{MOST32, all4, all5, amount_of, both, is_map, is_uint, read_phases, read_value};
 use wire_messages::{
-    Aim, Amount, Command, CurrentLimits, Request, Setting, duration_of, is_command, is_served,
-    limits_from, setpoints_from,
+    Command, CurrentLimits, Request, Setting, duration_of, is_command, is_served, limits_from,
+    setpoints_from,
 };
 use wire_prefix::{PREFIX, is_framed};
 
@@ -129,12 +129,12 @@ fn read_current_limits(heads: &KeyHeads) -> CurrentSet
     CurrentSet { ok, limits }
 }
 
-fn aim_of(a: Amount) -> Aim
+fn aim_of(a: Option<u64>) -> Option<u64>
     ensures { result ≡ aim_of a }
 {
     match a {
-        Amount::Absent => Aim::Both,
-        Amount::Is(d) => Aim::One(d),
+        None => None,
+        Some(d) => Some(d),
     }
 }
 

@@ -16,18 +16,18 @@ use wire_fields::{
     put_map, put_phases, put_uint, put_value,
 };
 use wire_messages::{
-    Aim, Amount, Command, CurrentLimits, Phases, Request, Setpoints, Setting, duration_amount,
-    is_served, setting_of_limits, setting_of_setpoints,
+    Command, CurrentLimits, Phases, Request, Setpoints, Setting, duration_amount, is_served,
+    setting_of_limits, setting_of_setpoints,
 };
 use wire_output::{Written, refused, write_frame};
 
 // A direction as an amount.
-fn aim_amount(a: Aim) -> Amount
+fn aim_amount(a: Option<u64>) -> Option<u64>
     ensures { amount_item result ≡ aim_item a }
 {
     match a {
-        Aim::Both => Amount::Absent,
-        Aim::One(d) => Amount::Is(d),
+        None => None,
+        Some(d) => Some(d),
     }
 }
 
@@ -127,21 +127,21 @@ fn put_request(out: &mut [u8], r: Request) -> usize
     put_command(out, f, command)
 }
 
-fn aim_wide(a: Aim) -> bool
+fn aim_wide(a: Option<u64>) -> bool
     ensures { result ≡ aim_wide a }
 {
     match a {
-        Aim::Both => false,
-        Aim::One(d) => 1 < d,
+        None => false,
+        Some(d) => 1 < d,
     }
 }
 
-fn duration_wide(a: Amount) -> bool
+fn duration_wide(a: Option<u64>) -> bool
     ensures { result ≡ duration_wide a }
 {
     match a {
-        Amount::Absent => false,
-        Amount::Is(d) => MOST32 < d,
+        None => false,
+        Some(d) => MOST32 < d,
     }
 }
 

@@ -11,7 +11,7 @@ use Rattle.wire_cbor.specs.Item.{Item, Pairs, payload_of, is_some}
 use Rattle.wire_cbor.specs.Find.{value_of}
 use Rattle.wire_cbor.specs.Scan.{key_head_of, pairs_in, followed, map_at, key_heads_of, words_of, key_head_at}
 use Rattle.wire_cbor.specs.declared.heads.KeyHead.{KeyHead}
-use Rattle.wire_messages.specs.declared.Amount.{Amount}
+use Rattle.wire_messages.specs.Options.{Amount}
 use Rattle.wire_messages.specs.declared.Outcome.{Outcome}
 use Rattle.wire_messages.specs.declared.Response.{Response}
 use Rattle.wire_prefix.specs.Prefix.{framed, payload_in}

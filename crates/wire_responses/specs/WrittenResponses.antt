@@ -1,10 +1,10 @@
 -- Responses: the item written for one, and what is refused. Assumes nothing: these are definitions.
-use Rattle.std.specs.Prelude.{ℕ, Bool, true, false, cond, not, ◌&&◌, ◌||◌, [], ◌∷◌, leb, eqb}
+use Rattle.std.specs.Prelude.{ℕ, Bool, true, false, cond, not, ◌&&◌, ◌||◌, [], ◌∷◌, leb, eqb, None, Some}
 use Rattle.std.proofs.Math.Option.{Option, some, none}
 use Rattle.wire_cbor.specs.Item.{Item}
 use Rattle.wire_messages.specs.Numbers.{served_command}
 use Rattle.refusals.specs.Refusals.{first_of, BAD_MESSAGE, NOT_SERVED}
-use Rattle.wire_messages.specs.declared.Amount.{Amount}
+use Rattle.wire_messages.specs.Options.{Amount}
 use Rattle.wire_messages.specs.declared.LimitResult.{LimitResult}
 use Rattle.wire_messages.specs.declared.SetpointResult.{SetpointResult}
 use Rattle.wire_messages.specs.declared.CurrentResult.{CurrentResult}
@@ -44,8 +44,8 @@ unfoldable pub response_item : Response → Item
 response_item r = Item.map (present (response_fields r))
 
 abbrev pub amount_up_to : ℕ → Amount → Bool
-amount_up_to most Amount.Absent = true
-amount_up_to most (Amount.Is v) = leb v most
+amount_up_to most None = true
+amount_up_to most (Some v) = leb v most
 
 unfoldable pub limit_in_range : LimitResult → Bool
 limit_in_range l =

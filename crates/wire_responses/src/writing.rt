@@ -16,7 +16,7 @@ use wire_fields::{
     put_amount, put_map, put_phases, put_truth, put_uint,
 };
 use wire_messages::{
-    Amount, CurrentResult, LimitResult, Outcome, Response, SetpointResult, has_result, is_command,
+    CurrentResult, LimitResult, Outcome, Response, SetpointResult, has_result, is_command,
     is_status,
 };
 use wire_output::{Written, refused, write_frame};
@@ -116,12 +116,12 @@ fn put_response(out: &mut [u8], r: Response) -> usize
     put_outcome(out, c, outcome)
 }
 
-fn amount_up_to(most: u64, a: Amount) -> bool
+fn amount_up_to(most: u64, a: Option<u64>) -> bool
     ensures { result ≡ amount_up_to most a }
 {
     match a {
-        Amount::Absent => true,
-        Amount::Is(v) => v <= most,
+        None => true,
+        Some(v) => v <= most,
     }
 }
 
