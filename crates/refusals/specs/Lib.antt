@@ -1,3 +1,4 @@
+pub mod Answers
 pub mod Reasons
 pub mod Refusals
 pub mod States

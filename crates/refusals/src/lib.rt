@@ -2,60 +2,46 @@
 // 0 is a call that is accepted. The C header's CEKARUM_* are the same numbers.
 #![tactic(auto)]
 
-// REFUSALS
-// prefix or payload length wrong
-pub const BAD_LENGTH: u64 = 1;
+mod refusal; // refusal.rt: why a call is refused, by name
 
-// payload is not the strict CBOR
-pub const BAD_CBOR: u64 = 2;
+pub use refusal::{Refusal, number_in};
 
-// payload is not a map, a needed key is missing, or a known key has a wrong type or range
-pub const BAD_MESSAGE: u64 = 3;
+// REFUSALS by their numbers
+pub const BAD_LENGTH: u64 = Refusal::BadLength as u64;
 
-// endpoint, feature or command is not served
-pub const NOT_SERVED: u64 = 4;
+pub const BAD_CBOR: u64 = Refusal::BadCbor as u64;
 
-// time out of order or past the end
-pub const BAD_TIME: u64 = 5;
+pub const BAD_MESSAGE: u64 = Refusal::BadMessage as u64;
 
-// join: id outside 1 to 255, or rank outside 1 to 3
-pub const BAD_ZONE: u64 = 6;
+pub const NOT_SERVED: u64 = Refusal::NotServed as u64;
 
-// join of a joined id; link already as told; clearing an override that is not set
-pub const ALREADY: u64 = 7;
+pub const BAD_TIME: u64 = Refusal::BadTime as u64;
 
-// join with eight zones joined
-pub const FULL: u64 = 8;
+pub const BAD_ZONE: u64 = Refusal::BadZone as u64;
 
-// zone not joined
-pub const NOT_JOINED: u64 = 9;
+pub const ALREADY: u64 = Refusal::Already as u64;
 
-// command from a zone whose link is down
-pub const LINK_DOWN: u64 = 10;
+pub const FULL: u64 = Refusal::Full as u64;
 
-// limits, setpoints or current limits not accepted, or a named direction not supported
-pub const NOT_SUPPORTED: u64 = 11;
+pub const NOT_JOINED: u64 = Refusal::NotJoined as u64;
 
-// SetLimit or SetCurrentLimits while an override is set
-pub const OVERRIDDEN: u64 = 12;
+pub const LINK_DOWN: u64 = Refusal::LinkDown as u64;
 
-// a Set command with a negative value or naming nothing, or a phase from the phase count up
-pub const BAD_VALUE: u64 = 13;
+pub const NOT_SUPPORTED: u64 = Refusal::NotSupported as u64;
 
-// a consumption limit below the minimum, 0 aside
-pub const BELOW_MINIMUM: u64 = 14;
+pub const OVERRIDDEN: u64 = Refusal::Overridden as u64;
 
-// nothing else is refused, and the complete output is longer than the lent buffer
-pub const NO_SPACE: u64 = 15;
+pub const BAD_VALUE: u64 = Refusal::BadValue as u64;
 
-// bad settings, or conformance inputs out of range
-pub const BAD_SETTINGS: u64 = 16;
+pub const BELOW_MINIMUM: u64 = Refusal::BelowMinimum as u64;
 
-// attribute list not strictly ascending
-pub const NOT_ASCENDING: u64 = 17;
+pub const NO_SPACE: u64 = Refusal::NoSpace as u64;
 
-// override reason and direction do not go together
-pub const BAD_OVERRIDE: u64 = 18;
+pub const BAD_SETTINGS: u64 = Refusal::BadSettings as u64;
+
+pub const NOT_ASCENDING: u64 = Refusal::NotAscending as u64;
+
+pub const BAD_OVERRIDE: u64 = Refusal::BadOverride as u64;
 
 // CONTROL STATES, as they are shown beside the values
 pub const AUTONOMOUS: i64 = 0;
