@@ -40,7 +40,7 @@ pub const COMMANDS: u64 = CLEAR_CURRENT_LIMITS;
 pub fn is_command(c: u64) -> bool
     ensures { result ≡ served_command c }
 {
-    1 <= c && c <= COMMANDS
+    (SET_LIMIT..=COMMANDS).contains(&c)
 }
 
 // Whether it is the served endpoint and feature.

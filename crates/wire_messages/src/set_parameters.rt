@@ -18,18 +18,14 @@ pub struct Setting {
 pub fn duration_of(a: Option<u64>) -> u64
     ensures { result ≡ duration_of a }
 {
-    match a {
-        None => 0,
-        Some(d) => d,
-    }
+    a.unwrap_or(0)
 }
 
 fn target_of(f: Field) -> Option<i64>
     ensures { result ≡ target_of f }
 {
     match f {
-        Field::Absent => None,
-        Field::Null => None,
+        Field::Absent | Field::Null => None,
         Field::Value(v) => Some(v),
     }
 }
@@ -39,13 +35,10 @@ fn target_of(f: Field) -> Option<i64>
 pub fn limits_from(s: Setting) -> Limits
     ensures { result ≡ limits_from s }
 {
-    let c = s.consumption;
-    let p = s.production;
-    let d = s.duration;
     Limits {
-        consumption: c,
-        production: p,
-        duration: duration_of(d),
+        consumption: s.consumption,
+        production: s.production,
+        duration: duration_of(s.duration),
         cause: s.cause,
     }
 }
@@ -55,13 +48,10 @@ pub fn limits_from(s: Setting) -> Limits
 pub fn setpoints_from(s: Setting) -> Setpoints
     ensures { result ≡ setpoints_from s }
 {
-    let c = s.consumption;
-    let p = s.production;
-    let d = s.duration;
     Setpoints {
-        consumption: target_of(c),
-        production: target_of(p),
-        duration: d,
+        consumption: target_of(s.consumption),
+        production: target_of(s.production),
+        duration: s.duration,
         cause: s.cause,
     }
 }
@@ -70,20 +60,14 @@ pub fn setpoints_from(s: Setting) -> Setpoints
 pub fn duration_amount(d: u64) -> Option<u64>
     ensures { result ≡ duration_amount d }
 {
-    if d == 0 {
-        return None;
-    }
-    Some(d)
+    (d != 0).then_some(d)
 }
 
 // A setpoint field as a limit field: absent or a value, never null.
 pub fn target_field(t: Option<i64>) -> Field
     ensures { result ≡ target_field t }
 {
-    match t {
-        None => Field::Absent,
-        Some(v) => Field::Value(v),
-    }
+    t.map_or(Field::Absent, Field::Value)
 }
 
 // The parameters of SetLimit.
@@ -91,11 +75,9 @@ pub fn target_field(t: Option<i64>) -> Field
 pub fn setting_of_limits(l: Limits) -> Setting
     ensures { result ≡ setting_of_limits l }
 {
-    let c = l.consumption;
-    let p = l.production;
     Setting {
-        consumption: c,
-        production: p,
+        consumption: l.consumption,
+        production: l.production,
         duration: duration_amount(l.duration),
         cause: l.cause,
     }
@@ -106,13 +88,10 @@ pub fn setting_of_limits(l: Limits) -> Setting
 pub fn setting_of_setpoints(l: Setpoints) -> Setting
     ensures { result ≡ setting_of_setpoints l }
 {
-    let c = l.consumption;
-    let p = l.production;
-    let lasts = l.duration;
     Setting {
-        consumption: target_field(c),
-        production: target_field(p),
-        duration: lasts,
+        consumption: target_field(l.consumption),
+        production: target_field(l.production),
+        duration: l.duration,
         cause: l.cause,
     }
 }

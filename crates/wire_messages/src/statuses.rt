@@ -10,16 +10,7 @@ use refusals::{BAD_TIME, BELOW_MINIMUM, NOT_JOINED, NOT_SERVED, NOT_SUPPORTED};
 pub fn is_status(n: u64) -> bool
     ensures { result ≡ is_status n }
 {
-    if n == 0 {
-        return true;
-    }
-    if n == NOT_SERVED {
-        return true;
-    }
-    if n == BAD_TIME {
-        return true;
-    }
-    NOT_JOINED <= n && n <= BELOW_MINIMUM
+    matches!(n, 0 | NOT_SERVED | BAD_TIME | NOT_JOINED..=BELOW_MINIMUM)
 }
 
 // Whether a command's result stands at a status.
@@ -27,11 +18,5 @@ pub fn is_status(n: u64) -> bool
 pub fn has_result(command: u64, status: u64) -> bool
     ensures { result ≡ stands command status }
 {
-    if status == 0 {
-        return true;
-    }
-    if command == SET_LIMIT {
-        return NOT_SUPPORTED <= status && status <= BELOW_MINIMUM;
-    }
-    false
+    status == 0 || command == SET_LIMIT && (NOT_SUPPORTED..=BELOW_MINIMUM).contains(&status)
 }
