@@ -48,12 +48,17 @@ function end_of(p, t,    c, r) {
     return t > 1 ? "ptr align " t " " p : "ptr " p
 }
 
+# A line up to the parameters of the function in it, whose name stands in quotes where it has brackets of its own.
+function up_to_parameters(l) {
+    if (l ~ /@"/) match(l, /^[^@]*@"[^"]*"\(/); else match(l, /^[^(]*\(/)
+    return substr(l, 1, RLENGTH)
+}
 # The parameters of a function, or what a call hands over: `ptr noundef %a0`, `i64 3`, as words in part.
 function parts(l) {
-    sub(/^[^(]*\(/, "", l); sub(/\)[^)]*$/, "", l)
+    l = substr(l, length(up_to_parameters(l)) + 1); sub(/\)[^)]*$/, "", l)
     return l == "" ? 0 : split(l, part, /, /)
 }
-function function_name(l) { sub(/^[^@]*@"?/, "", l); sub(/"?\(.*$/, "", l); return l }
+function function_name(l) { l = up_to_parameters(l); sub(/^[^@]*@"?/, "", l); sub(/"?\($/, "", l); return l }
 
 /^define / {
     if ($0 !~ / #0 \{$/ || $0 ~ /align|noalias/) refuse("a function of another form: " $0)
@@ -90,8 +95,8 @@ function function_name(l) { sub(/^[^@]*@"?/, "", l); sub(/"?\(.*$/, "", l); retu
 / = load |^  store / { # each number lies where its width wants it, and two that are read at once where the wider one does
     a = $0; sub(/^.*, align /, "", a); sub(/,.*$/, "", a)
     t = $0
-    if (sub(/^  store /, "", t)) sub(/ [^ ]+, ptr .*$/, "", t)
-    else { sub(/^.* = load /, "", t); sub(/, ptr .*$/, "", t) }
+    if (sub(/^  store /, "", t)) sub(/ [^ ]+, ptr %[^,]+, align .*$/, "", t)
+    else { sub(/^.* = load /, "", t); sub(/, ptr %[^,]+, align .*$/, "", t) }
     if (/^  store i(16|32|64) [^ ]+, ptr %[ar][0-9]+, align 1$/) line[NR] = $0 # the tag of an enum, over all bytes before its first field
     else if (a + 0 == width(t) || is_export && /^  %r[0-9]+ = load (ptr|i64), ptr %r[0-9]+, align 1$/) line[NR] = $0
     else refuse("a number that is not aligned as its width: " $0)
@@ -116,6 +121,10 @@ function function_name(l) { sub(/^[^@]*@"?/, "", l); sub(/"?\(.*$/, "", l); retu
     line[NR] = $0
     next
 }
+# a pointer that a value of two holds, as an optional reference: like one that is read, nothing is known of it
+/^  %r[0-9]+ = extractvalue \{ [^{}]+ \} %r[0-9]+, [01]$/ { line[NR] = $0; next }
+/^  %r[0-9]+ = insertvalue \{ [^{}]+ \} (%r[0-9]+|undef|poison), [a-z0-9]+ [^ ]+, [01]$/ { line[NR] = $0; next }
+/^  ret \{ [^{}]+ \} %r[0-9]+$/ { line[NR] = $0; next }
 is_export && /^  %r[0-9]+ = icmp eq ptr %a[0-9]+, null$/ { line[NR] = $0; next } # of a slice, which an export puts together
 /(^|[^a-z])ptr([^a-z]|$)/ { refuse("a pointer in a line of another form: " $0) }
 { line[NR] = $0 }
@@ -129,7 +138,7 @@ END {
         if (l ~ /^define /) {
             name = function_name(l)
             count = parts(l)
-            front = l; sub(/\(.*$/, "(", front)
+            front = up_to_parameters(l)
             lent = l ~ /^define internal / ? "ptr " : "ptr noalias "
             for (k = 1; k <= count; k++) {
                 sub(/^ptr /, lent (needs[name, k] > 1 ? "align " needs[name, k] " " : ""), part[k])
