@@ -4,12 +4,11 @@ use mathlib.Core.Path.{◌≡◌, refl, sym, ap, ◌∙◌}
 use mathlib.Core.Bool.{Bool, true, false}
 use mathlib.Core.List.{List, []}
 use native.Mathlib.Nat.{min-eq_left}
-use native.Mathlib.Numerals.{add-one}
 use native.Mathlib.Omega.{arith}
-use lib.ListN.{length, take, set, get_or, length-set}
-use lib.Seq.{paste, paste-zero, paste-suc}
-use lib.Dec.{leb, ltb}
-use borrow.Author.Tests.{ltb-true, ltb-false, lt-ltb, le-ltb}
+use lib.ListN.{length, take}
+use lib.Seq.{paste, paste-zero}
+use lib.Dec.{leb, ltb, eqb}
+use borrow.Author.Tests.{ltb-true, ltb-false, eqb-true, eqb-false, lt-ltb, le-ltb}
 use Rattle.wire_bytes.specs.Bytes.{put_whole, put}
 use Rattle.wire_bytes.proofs.PutLaws.{put_whole_lem, copied, taken_length}
 use Rattle.wire_prefix.specs.Prefix.{bad_end}
@@ -97,26 +96,6 @@ module _ (room scrap : List ℕ) (h n : ℕ) (l : h + n ≤ length room) (m : n 
       (put_whole_lem room (take n scrap) h (omega (arith, taken_length room scrap h n n least))).0
       ∙ sym (copied room scrap h n n least (paste room h scrap n) l refl)
 
--- the first i of n bytes are copied
-pub record Copied (room : List ℕ) (at : ℕ) (scrap : List ℕ) (n : ℕ) (now : List ℕ) (i : ℕ) : Type 0 where
-  pub list : now ≡ paste room at scrap i
-  pub len : length now ≡ length room
-  pub few : i ≤ n
-
-module _ (room : List ℕ) (at : ℕ) (scrap : List ℕ) (n : ℕ) (l : at + n ≤ length room) (m : n ≤ length scrap) where
-  pub copied_none : Copied room at scrap n room 0
-  copied_none = record { list = paste-zero room at scrap; len = refl; few = omega arith }
-
-  pub copied_one : (now : List ℕ) (i : ℕ) → Copied room at scrap n now i → i < n → Copied room at scrap n (set now (at + i) (get_or scrap i 0)) (i + 1)
-  copied_one now i d b = record {
-    list = rw (d.list, add-one i) (paste-suc room at scrap i 0 (omega arith) (omega arith));
-    len = length-set now (at + i) (get_or scrap i 0) ∙ d.len;
-    few = omega arith;
-  }
-
-  pub copied_all : (now : List ℕ) (i : ℕ) → Copied room at scrap n now i → n ≤ i → now ≡ paste room at scrap n
-  copied_all now i d b = let e : i ≡ n = omega (arith, d.few) in rw (← e) d.list
-
 -- what a call takes fits, and is put behind the bytes in the room; at a refusal it is nothing
 module _ (r : Record) (room scrap : List ℕ) where
   record Took (d : Done) : Type 0 where
@@ -145,7 +124,7 @@ module _ (r : Record) (room scrap : List ℕ) where
           took_some (end_for r room scrap) (min (length scrap) (end_for r room scrap - r.have)) (f.1, f.2)
           (at_taken r room scrap l eb (end_for r room scrap) refl ec _ refl)
 
-  -- a decision that takes nothing leaves the room
+  -- what is decided is what is copied, and where nothing is taken the room stays
   module _ (x : Decision) (d : (x.answer ≡ (received r room scrap).answer) × (x.after ≡ (received r room scrap).after)) where
     same_taken : x.answer.taken ≡ (received r room scrap).answer.taken
     same_taken = ap (λ (a : Answer). a.taken) d.0
@@ -153,15 +132,23 @@ module _ (r : Record) (room scrap : List ℕ) where
     put-says : put_whole room r.have (take x.answer.taken scrap) ≡ (received r room scrap).room
     put-says = ap (λ (n : ℕ). put_whole room r.have (take n scrap)) same_taken ∙ took.put_is
 
-    pub stepped_none : x.answer.taken ≡ 0 → Does (received r room scrap) x.answer x.after room
-    stepped_none z =
-        (d.0, d.1, sym (ap (λ (n : ℕ). put_whole room r.have (take n scrap)) z ∙ put-empty room r.have) ∙ put-says)
+    taken_room : (x.answer.taken ≡ 0 → ⊥) → (r.have + x.answer.taken ≤ length room) × (x.answer.taken ≤ length scrap)
+    taken_room z = rw same_taken (took.fits-room (λ q. z (same_taken ∙ q)))
 
-    module _ (z : x.answer.taken ≡ 0 → ⊥) where
-      pub taken_room : (r.have + x.answer.taken ≤ length room) × (x.answer.taken ≤ length scrap)
-      taken_room = rw same_taken (took.fits-room (λ q. z (same_taken ∙ q)))
+    pub one_taken : (i : ℕ) → i < x.answer.taken → (r.have + i < length room) × (i < length scrap)
+    one_taken i l = let f = taken_room (λ z. omega arith) in (omega (arith, f.0), omega (arith, f.1))
 
-      pub stepped_some : (t : List ℕ) → t ≡ paste room r.have scrap x.answer.taken → Does (received r room scrap) x.answer x.after t
-      stepped_some t e =
-          let f = taken_room in
-          (d.0, d.1, e ∙ sym (put-paste room scrap r.have x.answer.taken f.0 f.1) ∙ put-says)
+    copied-says : paste room r.have scrap x.answer.taken ≡ (received r room scrap).room
+    copied-says = go (eqb x.answer.taken 0) refl
+      where
+        go : (b : Bool) → eqb x.answer.taken 0 ≡ b → paste room r.have scrap x.answer.taken ≡ (received r room scrap).room
+        go true e =
+            let z = eqb-true x.answer.taken 0 e in
+            ap (paste room r.have scrap) z ∙ sym (paste-zero room r.have scrap)
+            ∙ sym (ap (λ (n : ℕ). put_whole room r.have (take n scrap)) z ∙ put-empty room r.have) ∙ put-says
+        go false e =
+            let f = taken_room (eqb-false x.answer.taken 0 e) in
+            sym (put-paste room scrap r.have x.answer.taken f.0 f.1) ∙ put-says
+
+    pub stepped : (t : List ℕ) → t ≡ paste room r.have scrap x.answer.taken → Does (received r room scrap) x.answer x.after t
+    stepped t e = (d.0, d.1, e ∙ copied-says)

@@ -30,6 +30,7 @@ pub struct Decision {
 }
 
 // Whether these are counts that a call leaves, and none that closed.
+#[tactic(auto, unfolding(crate::specs::Receive::is_open))]
 pub fn is_open(r: Record) -> bool
     ensures { result ≡ is_open r }
 {
@@ -39,16 +40,11 @@ pub fn is_open(r: Record) -> bool
     if r.need == 0 {
         return r.have < PREFIX;
     }
-    if r.have < PREFIX {
-        return false;
-    }
-    if r.need <= r.have {
-        return false;
-    }
-    r.need <= FRAME
+    PREFIX <= r.have && r.have < r.need && r.need <= FRAME
 }
 
 // The record at `have` bytes of a frame that ends at `end`; as at the start where it is whole.
+#[tactic(auto, unfolding(crate::specs::Receive::record_at))]
 pub fn record_at(have: usize, end: usize) -> Record
     ensures { result ≡ record_at have end }
 {
@@ -59,28 +55,19 @@ pub fn record_at(have: usize, end: usize) -> Record
             closed: 0,
         };
     }
-    if have < PREFIX {
-        return Record {
-            have: have,
-            need: 0,
-            closed: 0,
-        };
-    }
     Record {
-        have: have,
-        need: end,
+        have,
+        need: if have < PREFIX { 0 } else { end },
         closed: 0,
     }
 }
 
 // The length of a frame that is whole, and 0 of one that is not.
+#[tactic(auto, unfolding(crate::specs::Receive::length_at))]
 pub fn length_at(have: usize, end: usize) -> usize
     ensures { result ≡ length_at have end }
 {
-    if have == end {
-        return end;
-    }
-    0
+    if have == end { end } else { 0 }
 }
 
 // Refuses with a number: nothing is taken, nothing is given out.
@@ -90,10 +77,10 @@ pub fn refuse(number: u64, after: Record) -> Decision
 {
     Decision {
         answer: Answer {
-            number: number,
+            number,
             taken: 0,
             length: 0,
         },
-        after: after,
+        after,
     }
 }

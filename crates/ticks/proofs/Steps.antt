@@ -1,15 +1,9 @@
--- A reading by its tests, and over words. Assumes nothing.
-use Rattle.std.proofs.Common.{◌≡◌, ℕ, ◌+◌, ◌/◌, ◌%◌, ◌^◌, ◌<◌, ◌≤◌, true, false, List, pos, refl, ap, ◌∙◌, arith, w64, to_z, le-ltb, lt-ltb, eq-eqb, ne_eqb}
-use lib.Seq.{sets}
+-- A reading by its tests, and the words at a refusal. Assumes nothing.
+use Rattle.std.proofs.Common.{◌≡◌, ℕ, ◌+◌, ◌/◌, ◌%◌, ◌^◌, ◌<◌, ◌≤◌, true, false, List, refl, le-ltb, lt-ltb, ne_eqb}
 use Rattle.ticks.specs.declared.front.Front.{Front}
 use Rattle.ticks.specs.declared.front.Reading.{Reading}
 use Rattle.ticks.specs.Ticks.{END, step_of, refused, accepted, moved, reading_of}
-use Rattle.ticks.specs.Words.{front_in, front_words, kept, answer, reading_in, words_left}
-
--- the number that added to the last wraps to the tick is the step
-pub step_is : (last tick s : ℕ) → last < 2 ^ 32 → s < 2 ^ 32 → (s + last) % 2 ^ 32 ≡ tick → s ≡ step_of last tick
-unfolding step_of
-step_is last tick s l k e = omega arith
+use Rattle.ticks.specs.Words.{kept}
 
 module _ (f : Front) (tick : ℕ) where
   pub at_first : f.begun ≡ false → accepted tick 0 0 ≡ reading_of f tick
@@ -34,23 +28,7 @@ module _ (f : Front) (tick : ℕ) where
       unfolding moved
       at_good p = rw (le-ltb END (f.seconds + (f.remainder + s) / 1000) p) at at_moved
 
--- the seconds fit
-pub told : (s : ℕ) → s ≤ END → to_z w64 s ≡ pos s
-told s l = rw (lt-ltb s (2 ^ 63) (omega arith))
-
--- the words that are kept
-module _ (ws : List ℕ) (r : Reading) where
-  pub kept_new : r.number ≡ 0 → sets ws 0 (front_words r.front) ≡ kept ws r
-  unfolding kept
-  kept_new e = rw (eq-eqb r.number 0 e) refl
-
-  pub kept-old : (r.number ≡ 0 → ⊥) → ws ≡ kept ws r
-  unfolding kept
-  kept-old e = rw (ne_eqb r.number 0 e) refl
-
--- a reading over words is the reading over the front that they say
-pub worded : (ws us : List ℕ) (tick : ℕ) (f : Front) (r : Reading) → f ≡ front_in ws → r ≡ reading_of f (tick % 2 ^ 32) → us ≡ kept ws r
-    → (answer r ≡ answer (reading_in ws tick)) × (us ≡ words_left ws tick)
-worded ws us tick f r e d u =
-    let a : r ≡ reading_in ws tick = d ∙ ap (λ (g : Front). reading_of g (tick % 2 ^ 32)) e in
-    (ap answer a, u ∙ ap (λ (z : Reading). kept ws z) a)
+-- at a refusal the words stay
+pub kept-old : (ws : List ℕ) (r : Reading) → (r.number ≡ 0 → ⊥) → ws ≡ kept ws r
+unfolding kept
+kept-old ws r e = rw (ne_eqb r.number 0 e) refl

@@ -63,31 +63,28 @@ fn accept(tick: u32, seconds: u64, remainder: u32) -> Reading
         front: Front {
             begun: true,
             last: tick,
-            seconds: seconds,
-            remainder: remainder,
+            seconds,
+            remainder,
         },
     }
 }
 
 // Takes a reading, on every content of the front. The difference of two readings wraps, as the counter does.
-#[tactic(auto, using(crate::proofs::Steps::step_is), unfolding(crate::specs::Ticks::reading_of, crate::specs::Ticks::moved))]
+#[tactic(auto, unfolding(crate::specs::Ticks::reading_of, crate::specs::Ticks::moved, crate::specs::Ticks::step_of))]
 pub fn read_tick(f: Front, tick: u32) -> Reading
     ensures { result ≡ reading_of f tick }
 {
-    if f.begun {
-        let step = std::num::wrapping_sub_u32(tick, f.last);
-        if step >= BACK {
-            return refuse(f);
-        }
-        if f.seconds > END {
-            return refuse(f);
-        }
-        let passed = f.remainder as u64 + step as u64;
-        let seconds = f.seconds + passed / 1000;
-        if seconds > END {
-            return refuse(f);
-        }
-        return accept(tick, seconds, (passed % 1000) as u32);
+    if !f.begun {
+        return accept(tick, 0, 0);
     }
-    accept(tick, 0, 0)
+    let step = tick.wrapping_sub(f.last);
+    if step >= BACK || f.seconds > END {
+        return refuse(f);
+    }
+    let passed = u64::from(f.remainder) + u64::from(step);
+    let seconds = f.seconds + passed / 1000;
+    if seconds > END {
+        return refuse(f);
+    }
+    accept(tick, seconds, (passed % 1000) as u32)
 }

@@ -36,10 +36,7 @@ fn front_in(words: &[u64; FRONT]) -> Front
 fn put_front(words: &mut [u64; FRONT], f: Front)
     ensures { words.new ≡ sets words.old 0 (front_words f) }
 {
-    words[0] = 1;
-    words[1] = f.last as u64;
-    words[2] = f.seconds;
-    words[3] = f.remainder as u64;
+    *words = [1, u64::from(f.last), f.seconds, u64::from(f.remainder)];
 }
 
 // Stores the front of an accepted reading.
@@ -48,7 +45,7 @@ fn keep_front(words: &mut [u64; FRONT], r: Reading)
     ensures { words.new ≡ kept words.old r }
 {
     if r.number == 0 {
-        return put_front(words, r.front);
+        put_front(words, r.front);
     }
 }
 

@@ -8,7 +8,7 @@ use native.Mathlib.Nat.{add-zero, add-suc, mul_comm, pow-suc, div-one, div-div-e
 use native.Mathlib.Numerals.{add-one}
 use native.Mathlib.Omega.{arith}
 use lib.ListN.{length, set, take, drop, length-append, length-take}
-use lib.Seq.{sets, sets-eq, length-sets, length-take-le, drop_at, paste, take_all, take-length}
+use lib.Seq.{sets, set_comm, sets-eq, length-sets, length-take-le, drop_at, paste, take_all, take-length}
 use lib.Dec.{leb}
 use borrow.Author.Tests.{le-leb, lt-leb, leb-true, leb-false}
 use Rattle.wire_bytes.specs.Bytes.{bytes_of, put, put_whole, past_whole}
@@ -61,6 +61,24 @@ put_one s p v = refl
 pub put_two : (s : List ℕ) (p v : ℕ) → set (set s p (v / 256 % 256)) (p + 1) (v % 256) ≡ put s p (bytes_of 2 v)
 unfolding put bytes_of
 put_two s p v = ap (λ (k : ℕ). set (set s p (v / 256 % 256)) k (v % 256)) (add-one p)
+
+-- a store behind a run of stores may come first
+set_first : (a s : List ℕ) (p k x : ℕ) → p + length a ≤ k → sets (set s k x) p a ≡ set (sets s p a) k x
+set_first [] s p k x h = refl
+set_first (y ∷ a) s p k x h =
+    ap (λ (l : List ℕ). sets l (suc p) a) (set_comm s k p x y (λ e. omega arith))
+    ∙ set_first a (set s p y) (suc p) k x (omega arith)
+
+-- the last of a run stored first, and then the others
+pub put-last : (s a : List ℕ) (p w x : ℕ) → length a ≡ w → put (set s (p + w) x) p a ≡ put s p (a ++ (x ∷ []))
+unfolding put
+put-last s a p w x e =
+    set_first a s p (p + w) x (omega arith) ∙ ap (λ (k : ℕ). set (sets s p a) (p + k) x) (sym e) ∙ sym (sets-append a (x ∷ []) s p)
+
+-- a number's last byte stored first, and then the others
+pub put_last-byte : (s : List ℕ) (p i j v : ℕ) → i ≡ suc j → put (set s (p + j) (v % 256)) p (bytes_of j (v / 256)) ≡ put s p (bytes_of i v)
+unfolding bytes_of
+put_last-byte s p i j v e = rw e (put-last s (bytes_of j (v / 256)) p j (v % 256) (bytes-length j (v / 256)))
 
 pub has_room : (p n len : ℕ) (b : Bool) → b ≡ leb (p + n) len → b ≡ true → p + n ≤ len
 has_room p n len b e y = leb-true (p + n) len (sym e ∙ y)

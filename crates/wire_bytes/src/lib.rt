@@ -8,4 +8,4 @@ mod room; // room.rt: whether bytes fit
 
 pub use numbers::{byte_at, get_u16, get_u32, get_u64};
 pub use puts::{put_byte, put_bytes, put_u16, put_u32, put_u64};
-pub use room::{has_room, smaller};
+pub use room::has_room;

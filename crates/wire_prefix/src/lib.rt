@@ -12,6 +12,7 @@ pub const PAYLOAD: usize = 2048;
 pub const FRAME: usize = PREFIX + PAYLOAD;
 
 // Whether the prefix says how many bytes follow it, and they are 1 to 2,048.
+#[tactic(auto, unfolding(crate::specs::Prefix::framed))]
 pub fn is_framed(frame: &[u8]) -> bool
     ensures { result ≡ framed frame.now }
 {
@@ -19,10 +20,7 @@ pub fn is_framed(frame: &[u8]) -> bool
         return false;
     }
     let n = frame.len() - PREFIX;
-    if PAYLOAD < n {
-        return false;
-    }
-    wire_bytes::get_u32(frame, 0) == n as u64
+    n <= PAYLOAD && wire_bytes::get_u32(frame, 0) == n as u64
 }
 
 // Whether no frame ends there: its payload would have no byte, or more than 2,048.
@@ -30,8 +28,5 @@ pub fn is_framed(frame: &[u8]) -> bool
 pub fn is_bad_end(end: usize) -> bool
     ensures { result ≡ bad_end end }
 {
-    if end <= PREFIX {
-        return true;
-    }
-    FRAME < end
+    end <= PREFIX || FRAME < end
 }

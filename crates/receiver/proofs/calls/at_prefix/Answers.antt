@@ -29,6 +29,6 @@ returns c =
     let end = c.end_of-end.ensures ∙ end-new c.args.r c.args.room.now c.args.scrap.now c.requires.2 in
     let good = via c.is_bad_end.ensures c.if-is_bad_end.false in
     let both =
-    decides_accepted c.args.r c.args.room.now c.args.scrap.now _ _ _ (at_taken c.args.r c.args.room.now c.args.scrap.now c.requires.1 c.requires.0 _ end good _ c.smaller-n.ensures)
+    decides_accepted c.args.r c.args.room.now c.args.scrap.now _ _ _ (at_taken c.args.r c.args.room.now c.args.scrap.now c.requires.1 c.requires.0 _ end good _ c.min-n.ensures)
     (c.accept.ensures.answer_value, c.accept.ensures.after_value) in
     record { answer_value = both.0; after_value = both.1 }

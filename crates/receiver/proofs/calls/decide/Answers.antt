@@ -29,7 +29,7 @@ returns c =
     let shows = via c.is_open.ensures c.if-not-is_open.false in
     let k = known-good c.args.r c.args.room.now c.args.scrap.now shows c.if-r-eq0.false in
     let all = at_taken c.args.r c.args.room.now c.args.scrap.now c.if-room-lt-FRAME.false shows _ (end_known c.args.r c.args.room.now c.args.scrap.now c.if-r-eq0.false) k.1 _
-    c.smaller-n.ensures in
+    c.min-n.ensures in
     let both =
     decides_accepted c.args.r c.args.room.now c.args.scrap.now _ _ _ all (c.accept.ensures.answer_value, c.accept.ensures.after_value) in
     record { answer_value = both.0; after_value = both.1 }

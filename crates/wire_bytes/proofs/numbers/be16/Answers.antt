@@ -1,9 +1,0 @@
--- Two bytes are one number: halves of one byte each.
-use Rattle.wire_bytes.proofs.NumberLaws.{number-one, number-halves}
-use Prim.Native.Nat.{◌+◌}
-use Rattle.wire_bytes.proofs.numbers.be16.Goals as goal
-
-pub returns : goal.returns
-returns c =
-    number-halves c.args.s.now c.args.at 1 _ _ (number-one c.args.s.now c.args.at)
-    (number-one c.args.s.now (c.args.at + 1))

@@ -1,6 +1,0 @@
--- Two halves of four bytes, one behind the other.
-use Rattle.wire_bytes.proofs.PutLaws.{put-halves}
-use Rattle.wire_bytes.proofs.puts.put64.Goals as goal
-
-pub returns : goal.returns
-returns c = put-halves c.args.out.now _ _ c.args.at 4 c.args.v c.put32.ensures c.put32-2.ensures
