@@ -4,9 +4,8 @@ ghost use Rattle.std.proofs.Math.Option.{some, map};
 ghost use Rattle.measurement_reader.specs.Walk.{place_or, number_by, cell_at, next_at};
 
 use measurement_table::Place;
-use wire_cbor::{End, KeyHead};
+use wire_cbor::KeyHead;
 use wire_fields::{Range, is_in};
-use wire_heads::Head;
 
 // The mark of a cell that is refused; it is never stored.
 pub(crate) const REFUSED: u64 = 3;
@@ -39,8 +38,8 @@ pub(crate) fn cell_at(s: &[u8], range: Range, there: bool, at: usize) -> Place
 {
     if there {
         return match wire_heads::read_head(s, at) {
-            Head::Bad => NOT_READ,
-            Head::Is(major, n, _) => number_of(range, major, n),
+            None => NOT_READ,
+            Some(head) => number_of(range, head.major, head.arg),
         };
     }
     Place { mark: 0, size: 0 }
@@ -51,10 +50,7 @@ pub(crate) fn next_at(s: &[u8], depth: u64, there: bool, at: usize) -> usize
     ensures { result ≡ next_at s.now depth there at }
 {
     if there {
-        return match wire_cbor::check_item(s, at, depth) {
-            End::Bad => 0,
-            End::At(e) => e,
-        };
+        return wire_cbor::check_item(s, at, depth).unwrap_or(0);
     }
     at
 }

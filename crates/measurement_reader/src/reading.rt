@@ -7,7 +7,6 @@ ghost use Rattle.measurement_reader.specs.Walk.{Filled, payload_at};
 
 use crate::walk::rows_into;
 use measurement_table::{WORDS, Words};
-use wire_heads::Head;
 
 const LONGEST: usize = 2048;
 
@@ -34,12 +33,12 @@ fn payload_into(s: &[u8], words: &mut Words) -> bool
     ensures { Filled (payload_at s.now (head_at s.now 0)) 0 words.old result words.new }
 {
     match wire_heads::read_head(s, 0) {
-        Head::Bad => false,
-        Head::Is(major, n, next) => {
-            if major != 5 {
+        None => false,
+        Some(head) => {
+            if head.major != 5 {
                 return false;
             }
-            rows_into(s, next, n, words)
+            rows_into(s, head.next, head.arg, words)
         }
     }
 }

@@ -10,7 +10,6 @@ ghost use Rattle.measurement_reader.specs.Walk.{Filled, cells_at, phases_from, r
 use crate::cells::{REFUSED, cell_at, next_at};
 use measurement_table::{Place, ROWS, Row, Words, put_place, range_of, row_at};
 use wire_fields::Range;
-use wire_heads::Head;
 
 // How many levels the value of a phase may have; the value of an attribute has one more.
 const INNER: u64 = 6;
@@ -72,15 +71,15 @@ fn phases_into(
     ensures { Filled (phases_from s.now 6 range width (head_at s.now at)) (2 * place) words.old result words.new }
 {
     match wire_heads::read_head(s, at) {
-        Head::Bad => false,
-        Head::Is(major, n, next) => {
-            if major != 5 {
+        None => false,
+        Some(head) => {
+            if head.major != 5 {
                 return false;
             }
-            if n == 0 {
+            if head.arg == 0 {
                 return false;
             }
-            cells_into(s, next, n, range, width, place, words)
+            cells_into(s, head.next, head.arg, range, width, place, words)
         }
     }
 }

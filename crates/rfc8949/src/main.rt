@@ -179,8 +179,14 @@ fn show_simple<W: Write>(output: &mut W, v: u64) -> io::Result<()> {
 // Shows what the head at `at` says, and gives the position of the next head.
 fn show_head<W: Write>(output: &mut W, s: &[u8], at: usize) -> io::Result<usize> {
     match wire_heads::read_head(s, at) {
-        Head::Bad => Ok(s.len()),
-        Head::Is(major, v, next) => {
+        None => Ok(s.len()),
+        Some(
+            Head {
+                major,
+                arg: v,
+                next,
+            },
+        ) => {
             if major < 2 {
                 show_int(output, major, v)?;
                 return Ok(next);
@@ -224,8 +230,14 @@ fn show_heads<W: Write>(output: &mut W, s: &[u8]) -> io::Result<()> {
 
 fn show_key<W: Write>(output: &mut W, s: &[u8], key: u64) -> io::Result<()> {
     match wire_heads::read_head(s, 0) {
-        Head::Bad => Ok(()),
-        Head::Is(major, n, next) => {
+        None => Ok(()),
+        Some(
+            Head {
+                major,
+                arg: n,
+                next,
+            },
+        ) => {
             if major == 5 {
                 let stop = wire_cbor::seek(s, next, n, key, wire_cbor::DEPTH - 1);
                 show_found(output, stop, key)?;

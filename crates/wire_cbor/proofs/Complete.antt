@@ -6,24 +6,23 @@ use native.Mathlib.Omega.{arith}
 use lib.ListN.{length, drop, length-append}
 use lib.Seq.{take-append_seam}
 use borrow.Author.Tests.{le-leb}
-use Rattle.wire_heads.specs.Head.{head_bytes, head_at, Within}
+use Rattle.wire_heads.specs.Head.{head_is, head_bytes, head_at, Within}
 use Rattle.wire_cbor.specs.Item.{Item, Items, Pairs, Got, got, bad, items_at, pairs_at, from_head, item_at, encode, encode_items, encode_pairs, count, count_pairs, Ok, OkItems, OkPairs}
 use Rattle.wire_heads.specs.Key.{key_at}
 use Rattle.wire_cbor.specs.Encodings.{ItemReadsBack}
-use Rattle.wire_heads.specs.declared.reading.Head.{Head}
 use Rattle.wire_bytes.proofs.NumberLaws.{past, room}
 use Rattle.wire_heads.proofs.Widths.{head-length}
 use Rattle.wire_heads.proofs.HeadLaws.{head-reads_back}
 
-alone : (s t : List ℕ) (p m v : ℕ) → Within m v → v < 2 ^ 64 → drop p s ≡ head_bytes m v ++ t → head_at s p ≡ Head.Is m v (p + length (head_bytes m v))
-alone s t p m v ok small e = head-reads_back s t p m v ok small e ∙ ap (λ (n : ℕ). Head.Is m v (p + n)) (sym (head-length m v))
+alone : (s t : List ℕ) (p m v : ℕ) → Within m v → v < 2 ^ 64 → drop p s ≡ head_bytes m v ++ t → head_at s p ≡ head_is m v (p + length (head_bytes m v))
+alone s t p m v ok small e = head-reads_back s t p m v ok small e ∙ ap (λ (n : ℕ). head_is m v (p + n)) (sym (head-length m v))
 
 -- the head of a longer run of bytes, and what is behind it
 module _ (s bs t : List ℕ) (p m v : ℕ) (ok : Within m v) (small : v < 2 ^ 64) (e : drop p s ≡ (head_bytes m v ++ bs) ++ t) where
   e' : drop p s ≡ head_bytes m v ++ (bs ++ t)
   e' = e ∙ append_assoc (head_bytes m v) bs t
 
-  first : head_at s p ≡ Head.Is m v (p + length (head_bytes m v))
+  first : head_at s p ≡ head_is m v (p + length (head_bytes m v))
   first = alone s (bs ++ t) p m v ok small e'
 
   behind : drop (p + length (head_bytes m v)) s ≡ bs ++ t

@@ -10,22 +10,21 @@ use lib.ListN.{length, take, drop, length-append}
 use lib.Dec.{leb, eqb}
 use borrow.Author.Tests.{ne_eqb, lt-leb}
 use Rattle.wire_bytes.specs.Bytes.{Bytes}
-use Rattle.wire_heads.specs.Head.{head_bytes, head_at}
+use Rattle.std.specs.Prelude.{Some, None}
+use Rattle.wire_heads.specs.Head.{HeadRead, head_is, head_bytes, head_at}
 use Rattle.wire_cbor.specs.Item.{Item, Items, Pairs, Got, got, bad, and_then, items_at, pairs_at, string_at, from_head}
-use Rattle.wire_cbor.specs.Item.{item_at, rest_at, end_of, past_of, levels, payload_of, is_some, encode, encode_items, encode_pairs, count, count_pairs}
-use Rattle.wire_heads.specs.Key.{key_at}
+use Rattle.wire_cbor.specs.Item.{item_at, rest_at, EndRead, end_of, levels, payload_of, is_some, encode, encode_items, encode_pairs, count, count_pairs}
+use Rattle.wire_heads.specs.Key.{KeyRead, key_is, key_at}
 use Rattle.wire_heads.specs.declared.reading.Head.{Head}
-use Rattle.wire_heads.specs.declared.keys.Key.{Key}
-use Rattle.wire_cbor.specs.declared.items.End.{End}
 use Rattle.wire_bytes.proofs.Order.{below, one_more}
 use Rattle.wire_heads.proofs.Widths.{head-length, len_positive}
 use Rattle.wire_heads.proofs.HeadLaws.{head-found}
 use Rattle.wire_cbor.proofs.Sound.{Sound, item_sound, key_found, allowed-rest}
 
 -- what only wraps a value ends where it ended
-past_wrap : {X Y : Type 0} (g : Got X) (k : X → Y) → past_of (and_then g (λ x e. got (k x) e)) ≡ past_of g
-past_wrap (got x q) k = refl
-past_wrap bad k = refl
+end_wrap : {X Y : Type 0} (g : Got X) (k : X → Y) → end_of (and_then g (λ x e. got (k x) e)) ≡ end_of g
+end_wrap (got x q) k = refl
+end_wrap bad k = refl
 
 -- an item has a byte at least
 head-long : (m v : ℕ) (bs : List ℕ) → 1 ≤ length (head_bytes m v ++ bs)
@@ -47,32 +46,16 @@ module _ (s : List ℕ) (ok : Bytes s) (p : ℕ) where
   unfolding Sound
   item_ends d e i h = let y = item_sound s ok d p e i h in (omega (arith, y.0.len, encode_long i), y.0.fits)
 
-  pub head-ends : (m v e : ℕ) (r : Head) → r ≡ head_at s p → r ≡ Head.Is m v e → (p < e) × (e ≤ length s)
+  pub head-ends : (m v e : ℕ) (r : HeadRead) → r ≡ head_at s p → r ≡ head_is m v e → (p < e) × (e ≤ length s)
   head-ends m v e r h w =
       let f = head-found s ok p m v e (sym h ∙ w) in
       (omega (arith, f.stands.len, head-length m v, len_positive v), f.stands.fits)
 
-  pub key_ends : (lo k e : ℕ) (r : Key) → r ≡ key_at s lo p → r ≡ Key.Is k e → (p < e) × (e ≤ length s)
+  pub key_ends : (lo k e : ℕ) (r : KeyRead) → r ≡ key_at s lo p → r ≡ key_is k e → (p < e) × (e ≤ length s)
   key_ends lo k e r h w = head-ends 0 k e (head_at s p) refl (key_found s lo p k e (sym h ∙ w)).0
 
-  -- so that an item that ends at 0 is bad
-  module _ (d r : ℕ) (h : r ≡ past_of (item_at s d p)) where
-    pub item_bad : r ≡ 0 → item_at s d p ≡ bad
-    item_bad z = go (item_at s d p) refl h
-      where
-        go : (g : Got Item) → item_at s d p ≡ g → r ≡ past_of g → item_at s d p ≡ bad
-        go (got i e) w y = absurd (omega (arith, (item_ends d e i w).0))
-        go bad w y = w
-
-    pub item_got : (r ≡ 0 → ⊥) → (i : Item) × (item_at s d p ≡ got i r)
-    item_got nz = go (item_at s d p) refl h
-      where
-        go : (g : Got Item) → item_at s d p ≡ g → r ≡ past_of g → (i : Item) × (item_at s d p ≡ got i r)
-        go (got i e) w y = (i, w ∙ ap (got i) (sym y))
-        go bad w y = absurd (nz y)
-
 -- the subset has no head of another major type
-pub head-rest : (s : List ℕ) → Bytes s → (p m v e : ℕ) (r : Head) → r ≡ head_at s p → r ≡ Head.Is m v e → (m ≡ 7 → ⊥) → m ≤ 5
+pub head-rest : (s : List ℕ) → Bytes s → (p m v e : ℕ) (r : HeadRead) → r ≡ head_at s p → r ≡ head_is m v e → (m ≡ 7 → ⊥) → m ≤ 5
 head-rest s ok p m v e r h w n7 = ⊎_elim
     (λ (lt : m < 6). omega arith)
     (λ (ge : 6 ≤ m). absurd (n7 (allowed-rest m v (head-found s ok p m v e (sym h ∙ w)).within (lt-leb m 5 (omega arith))).0))
@@ -80,18 +63,18 @@ head-rest s ok p m v e r h w n7 = ⊎_elim
 
 -- an array, item by item
 module _ (f : ℕ → Got Item) (p n : ℕ) where
-  pub items_none : n ≡ 0 → p ≡ past_of (items_at f n p)
+  pub items_none : n ≡ 0 → Some p ≡ end_of (items_at f n p)
   unfolding items_at
   items_none z = rw z
 
   module _ (nz : n ≡ 0 → ⊥) where
-    pub items_bad : f p ≡ bad → 0 ≡ past_of (items_at f n p)
+    pub items_bad : f p ≡ bad → None ≡ end_of (items_at f n p)
     unfolding items_at
     items_bad w = rw (one_more n nz, w)
 
-    pub items_next : (i : Item) (e : ℕ) → f p ≡ got i e → past_of (items_at f (n - 1) e) ≡ past_of (items_at f n p)
+    pub items_next : (i : Item) (e : ℕ) → f p ≡ got i e → end_of (items_at f (n - 1) e) ≡ end_of (items_at f n p)
     unfolding items_at
-    items_next i e w = sym (ap (λ (k : ℕ). past_of (items_at f k p)) (one_more n nz) ∙ rw w (past_wrap (items_at f (n - 1) e) (Items.more i)))
+    items_next i e w = sym (ap (λ (k : ℕ). end_of (items_at f k p)) (one_more n nz) ∙ rw w (end_wrap (items_at f (n - 1) e) (Items.more i)))
 
 -- a map, pair by pair
 module _ (s : List ℕ) (f : ℕ → Got Item) (lo p n : ℕ) where
@@ -99,12 +82,12 @@ module _ (s : List ℕ) (f : ℕ → Got Item) (lo p n : ℕ) where
   unfolding pairs_at
   pairs-none z = rw z
 
-  module _ (nz : n ≡ 0 → ⊥) (h : Key) (e : h ≡ key_at s lo p) where
-    pub pairs-key : h ≡ Key.Bad → bad ≡ pairs_at s f n lo p
+  module _ (nz : n ≡ 0 → ⊥) (h : KeyRead) (e : h ≡ key_at s lo p) where
+    pub pairs-key : h ≡ None → bad ≡ pairs_at s f n lo p
     unfolding pairs_at
     pairs-key w = rw (one_more n nz, sym e ∙ w)
 
-    module _ (k q : ℕ) (w : h ≡ Key.Is k q) where
+    module _ (k q : ℕ) (w : h ≡ key_is k q) where
       pub pairs-bad : f q ≡ bad → bad ≡ pairs_at s f n lo p
       unfolding pairs_at
       pairs-bad b = rw (one_more n nz, sym e ∙ w, b)
@@ -113,37 +96,37 @@ module _ (s : List ℕ) (f : ℕ → Got Item) (lo p n : ℕ) where
       unfolding pairs_at
       pairs-more i e' b = ap (λ (j : ℕ). pairs_at s f j lo p) (one_more n nz) ∙ rw (sym e ∙ w, b)
 
-      pub pairs_next : (i : Item) (e' : ℕ) → f q ≡ got i e' → past_of (pairs_at s f (n - 1) (k + 1) e') ≡ past_of (pairs_at s f n lo p)
-      pairs_next i e' b = sym (ap past_of (pairs-more i e' b) ∙ past_wrap (pairs_at s f (n - 1) (k + 1) e') (Pairs.pair k i))
+      pub pairs_next : (i : Item) (e' : ℕ) → f q ≡ got i e' → end_of (pairs_at s f (n - 1) (k + 1) e') ≡ end_of (pairs_at s f n lo p)
+      pairs_next i e' b = sym (ap end_of (pairs-more i e' b) ∙ end_wrap (pairs_at s f (n - 1) (k + 1) e') (Pairs.pair k i))
 
-flat : (a b c : Item) (q : ℕ) (x y : Bool) → q ≡ past_of (cond x (got a q) (cond y (got b q) (got c q)))
+flat : (a b c : Item) (q : ℕ) (x y : Bool) → Some q ≡ end_of (cond x (got a q) (cond y (got b q) (got c q)))
 flat a b c q true y = refl
 flat a b c q false true = refl
 flat a b c q false false = refl
 
-string_past : (s : List ℕ) (g : List ℕ → Item) (v q : ℕ) → past_of (string_at s g v q) ≡ cond (leb v (length s - q)) (q + v) 0
-string_past s g v q = go (leb v (length s - q))
+string_end : (s : List ℕ) (g : List ℕ → Item) (v q : ℕ) → end_of (string_at s g v q) ≡ cond (leb v (length s - q)) (Some (q + v)) None
+string_end s g v q = go (leb v (length s - q))
   where
-    go : (b : Bool) → past_of (cond b (got (g (take v (drop q s))) (q + v)) bad) ≡ cond b (q + v) 0
+    go : (b : Bool) → end_of (cond b (got (g (take v (drop q s))) (q + v)) bad) ≡ cond b (Some (q + v)) None
     go true = refl
     go false = refl
 
 -- an item, by its head
-pub by_head : (s : List ℕ) (d p : ℕ) (h : Head) → h ≡ head_at s p → rest_at s d h ≡ item_at s d p
+pub by_head : (s : List ℕ) (d p : ℕ) (h : HeadRead) → h ≡ head_at s p → rest_at s d h ≡ item_at s d p
 unfolding item_at
 by_head s zero p h e = ap (rest_at s 0) e
 by_head s (suc d) p h e = ap (rest_at s (suc d)) e
 
-pub item_rest : (s : List ℕ) (d p : ℕ) (h : Head) → h ≡ head_at s p → (m v q : ℕ) → h ≡ Head.Is m v q → (r : ℕ) → r ≡ past_of (rest_at s d (Head.Is m v q)) → r ≡ past_of (item_at s d p)
-item_rest s d p h e m v q w r g = g ∙ ap past_of (by_head s d p (Head.Is m v q) (sym w ∙ e))
+pub item_rest : (s : List ℕ) (d p : ℕ) (h : HeadRead) → h ≡ head_at s p → (x : Head) → h ≡ Some x → (r : EndRead) → r ≡ end_of (rest_at s d (Some x)) → r ≡ end_of (item_at s d p)
+item_rest s d p h e x w r g = g ∙ ap end_of (by_head s d p (Some x) (sym w ∙ e))
 
-pub item_no_head : (s : List ℕ) (d p : ℕ) (h : Head) → h ≡ head_at s p → h ≡ Head.Bad → bad ≡ item_at s d p
+pub item_no_head : (s : List ℕ) (d p : ℕ) (h : HeadRead) → h ≡ head_at s p → h ≡ None → bad ≡ item_at s d p
 unfolding from_head
 item_no_head s d p h e w = ap (rest_at s d) (sym w) ∙ by_head s d p h e
 
 -- what is behind a head
 module _ (s : List ℕ) (m v q d : ℕ) where
-  pub rest_flat : (2 ≤ m → m ≤ 5 → ⊥) → q ≡ past_of (rest_at s d (Head.Is m v q))
+  pub rest_flat : (2 ≤ m → m ≤ 5 → ⊥) → Some q ≡ end_of (rest_at s d (head_is m v q))
   unfolding from_head
   rest_flat out =
       let other : (k : ℕ) → 2 ≤ k → k ≤ 5 → eqb m k ≡ false = λ k g l. ne_eqb m k (λ z. out (omega arith) (omega arith)) in
@@ -154,15 +137,15 @@ module _ (s : List ℕ) (m v q d : ℕ) where
         other 5 (omega arith) (omega arith),
       ) (flat (Item.uint v) (Item.nint v) (Item.simple v) q (eqb m 0) (eqb m 1))
 
-  pub rest_string : 2 ≤ m → m < 4 → (r : ℕ) → r ≡ cond (leb v (length s - q)) (q + v) 0 → r ≡ past_of (rest_at s d (Head.Is m v q))
+  pub rest_string : 2 ≤ m → m < 4 → (r : EndRead) → r ≡ cond (leb v (length s - q)) (Some (q + v)) None → r ≡ end_of (rest_at s d (head_is m v q))
   unfolding from_head
   rest_string g l r h = h ∙ ⊎_elim
-      (λ (b : m < 3). let z : m ≡ 2 = omega arith in rw z (sym (string_past s Item.bytes v q)))
-      (λ (t : 3 ≤ m). let z : m ≡ 3 = omega arith in rw z (sym (string_past s Item.text v q)))
+      (λ (b : m < 3). let z : m ≡ 2 = omega arith in rw z (sym (string_end s Item.bytes v q)))
+      (λ (t : 3 ≤ m). let z : m ≡ 3 = omega arith in rw z (sym (string_end s Item.text v q)))
       (below m 3)
 
   module _ (g : 4 ≤ m) (l : m ≤ 5) where
-    pub rest_deep : d ≡ 0 → 0 ≡ past_of (rest_at s d (Head.Is m v q))
+    pub rest_deep : d ≡ 0 → None ≡ end_of (rest_at s d (head_is m v q))
     unfolding from_head
     rest_deep z = rw z (⊎_elim
         (λ (b : m < 5). let w : m ≡ 4 = omega arith in rw w)
@@ -170,41 +153,34 @@ module _ (s : List ℕ) (m v q d : ℕ) where
         (below m 5))
 
     module _ (nz : d ≡ 0 → ⊥) where
-      pub rest_array : m ≡ 4 → (r : ℕ) → r ≡ past_of (items_at (item_at s (d - 1)) v q) → r ≡ past_of (rest_at s d (Head.Is m v q))
+      pub rest_array : m ≡ 4 → (r : EndRead) → r ≡ end_of (items_at (item_at s (d - 1)) v q) → r ≡ end_of (rest_at s d (head_is m v q))
       unfolding from_head
-      rest_array z r h = h ∙ sym (ap (λ (k : ℕ). past_of (rest_at s k (Head.Is m v q))) (one_more d nz) ∙ rw z (past_wrap (items_at (item_at s (d - 1)) v q) Item.array))
+      rest_array z r h = h ∙ sym (ap (λ (k : ℕ). end_of (rest_at s k (head_is m v q))) (one_more d nz) ∙ rw z (end_wrap (items_at (item_at s (d - 1)) v q) Item.array))
 
-      pub rest_map : m ≡ 5 → rest_at s d (Head.Is m v q) ≡ and_then (pairs_at s (item_at s (d - 1)) v 0 q) (λ xs e'. got (Item.map xs) e')
+      pub rest_map : m ≡ 5 → rest_at s d (head_is m v q) ≡ and_then (pairs_at s (item_at s (d - 1)) v 0 q) (λ xs e'. got (Item.map xs) e')
       unfolding from_head
-      rest_map z = ap (λ (k : ℕ). rest_at s k (Head.Is m v q)) (one_more d nz) ∙ rw z
+      rest_map z = ap (λ (k : ℕ). rest_at s k (head_is m v q)) (one_more d nz) ∙ rw z
 
-      pub rest_pairs : m ≡ 5 → (r : ℕ) → r ≡ past_of (pairs_at s (item_at s (d - 1)) v 0 q) → r ≡ past_of (rest_at s d (Head.Is m v q))
-      rest_pairs z r h = h ∙ sym (ap past_of (rest_map z) ∙ past_wrap (pairs_at s (item_at s (d - 1)) v 0 q) Item.map)
+      pub rest_pairs : m ≡ 5 → (r : EndRead) → r ≡ end_of (pairs_at s (item_at s (d - 1)) v 0 q) → r ≡ end_of (rest_at s d (head_is m v q))
+      rest_pairs z r h = h ∙ sym (ap end_of (rest_map z) ∙ end_wrap (pairs_at s (item_at s (d - 1)) v 0 q) Item.map)
 
--- the end as an answer
-module _ (s : List ℕ) (d p r : ℕ) where
-  pub end-bad : item_at s d p ≡ bad → End.Bad ≡ end_of (item_at s d p)
-  end-bad w = rw w
-
-  pub end-at : (i : Item) → item_at s d p ≡ got i r → End.At r ≡ end_of (item_at s d p)
-  end-at i w = rw w
-
+-- what a reader read, by its end
 module _ {X : Type 0} where
-  pub ended : (g : Got X) (e : ℕ) → End.At e ≡ end_of g → (x : X) × (g ≡ got x e)
+  pub ended : (g : Got X) (e : ℕ) → Some e ≡ end_of g → (x : X) × (g ≡ got x e)
   ended (got x q) e h = (x, cc)
   ended bad e h = absurd (let z : ◌≡◌ {A = ℕ} 0 1 = cc in omega arith)
 
-  pub refused : (g : Got X) → End.Bad ≡ end_of g → g ≡ bad
+  pub refused : (g : Got X) → None ≡ end_of g → g ≡ bad
   refused (got x q) h = absurd (let z : ◌≡◌ {A = ℕ} 0 1 = cc in omega arith)
   refused bad h = refl
 
 -- the whole of a list
-module _ (s : List ℕ) (r : End) (h : r ≡ end_of (item_at s levels 0)) where
-  pub whole-bad : r ≡ End.Bad → false ≡ is_some (payload_of s)
+module _ (s : List ℕ) (r : EndRead) (h : r ≡ end_of (item_at s levels 0)) where
+  pub whole-bad : r ≡ None → false ≡ is_some (payload_of s)
   unfolding payload_of
   whole-bad w = rw (refused (item_at s levels 0) (sym w ∙ h))
 
-  pub whole-ends : (e : ℕ) → r ≡ End.At e → eqb e (length s) ≡ is_some (payload_of s)
+  pub whole-ends : (e : ℕ) → r ≡ Some e → eqb e (length s) ≡ is_some (payload_of s)
   unfolding payload_of
   whole-ends e w = let x = ended (item_at s levels 0) e (sym w ∙ h) in rw x.1 (go x.0 (eqb e (length s)))
     where

@@ -8,18 +8,18 @@ use mathlib.Core.Option.{some, none}
 use native.Mathlib.Omega.{arith}
 use lib.ListN.{length}
 use lib.Dec.{eqb, ltb}
-use borrow.Author.Tests.{lt-ltb, le-ltb, ltb-true, eq-eqb, eqb-true}
+use borrow.Author.Tests.{lt-ltb, le-ltb, ltb-true, eq-eqb, ne_eqb, eqb-true}
 use Rattle.wire_bytes.specs.Bytes.{Bytes}
-use Rattle.wire_heads.specs.Head.{head_at}
-use Rattle.wire_cbor.specs.Item.{Item, Pairs, Got, got, bad, pairs_at, item_at, past_of, levels, payload_of, is_some, Ok}
-use Rattle.wire_heads.specs.Key.{key_at}
+use Rattle.std.specs.Prelude.{Some, None}
+use Rattle.wire_heads.specs.Head.{HeadRead, head_is, head_at}
+use Rattle.wire_cbor.specs.Item.{Item, Pairs, Got, got, bad, pairs_at, item_at, EndRead, end_of, levels, payload_of, is_some, Ok}
+use Rattle.wire_heads.specs.Key.{KeyRead, key_is, key_at}
 use Rattle.wire_cbor.specs.Scan.{KEYS, LEVELS, STEP, head, key_head_of, pairs_in, key_heads_of, words_of}
 use Rattle.wire_cbor.specs.Pass.{blank, note_at, noted, note_head, note_key, note_from, Left}
-use Rattle.wire_heads.specs.declared.reading.Head.{Head}
-use Rattle.wire_heads.specs.declared.keys.Key.{Key}
 use Rattle.wire_bytes.proofs.Order.{below, one_more}
+use Rattle.wire_heads.proofs.HeadLaws.{head_parts}
 use Rattle.wire_cbor.proofs.Sound.{then_inv, key_found, Sound, item_sound}
-use Rattle.wire_cbor.proofs.ItemSteps.{pairs-none, pairs-more, pairs_next, by_head, rest_map, item_bad, item_got}
+use Rattle.wire_cbor.proofs.ItemSteps.{pairs-none, pairs-more, pairs_next, by_head, rest_map, ended, refused}
 use Rattle.wire_cbor.proofs.Seen.{major_of, arg_of, read_head_of, pairs-step}
 use Rattle.wire_cbor.proofs.Passes.{within, pass-exact}
 
@@ -84,31 +84,30 @@ noted-large g s f (suc n) lo p e ps l h le =
     ap (noted g l) t.whole ∙ noted-big g l t.key t.item t.rest (omega arith) ∙ noted-large g s f n (t.key + 1) t.next e t.rest l t.behind (omega arith)
 
 -- how a walk over pairs ends: the position past them, and the words
-abbrev pub Ends : (List ℕ → ℕ → Item → List ℕ) → Got Pairs → List ℕ → ℕ → List ℕ → Type 0
-Ends g ps l r m = (r ≡ past_of ps) × Left ps (noted g l) m
+abbrev pub Ends : (List ℕ → ℕ → Item → List ℕ) → Got Pairs → List ℕ → EndRead → List ℕ → Type 0
+Ends g ps l r m = (r ≡ end_of ps) × Left ps (noted g l) m
 
 -- the rest of a walk ends as the whole does
 abbrev pub Onward : (List ℕ → ℕ → Item → List ℕ) → Got Pairs → List ℕ → Got Pairs → List ℕ → Type 0
-Onward g ps l qs l₀ = (r : ℕ) (m : List ℕ) → Ends g ps l r m → Ends g qs l₀ r m
+Onward g ps l qs l₀ = (r : EndRead) (m : List ℕ) → Ends g ps l r m → Ends g qs l₀ r m
 
 module _ (g : List ℕ → ℕ → Item → List ℕ) (s : List ℕ) (f : ℕ → Got Item) (lo p n : ℕ) (l : List ℕ) where
-  pub ends-none : n ≡ 0 → Ends g (pairs_at s f n lo p) l p l
+  pub ends-none : n ≡ 0 → Ends g (pairs_at s f n lo p) l (Some p) l
   unfolding noted
-  ends-none z = subst (λ (ps : Got Pairs). Ends g ps l p l) (pairs-none s f lo p n z) (refl, refl)
+  ends-none z = subst (λ (ps : Got Pairs). Ends g ps l (Some p) l) (pairs-none s f lo p n z) (refl, refl)
 
-  pub ends-bad : bad ≡ pairs_at s f n lo p → (m : List ℕ) → Ends g (pairs_at s f n lo p) l 0 m
-  ends-bad e m = subst (λ (ps : Got Pairs). Ends g ps l 0 m) e (refl, tt)
+  pub ends-bad : bad ≡ pairs_at s f n lo p → (m : List ℕ) → Ends g (pairs_at s f n lo p) l None m
+  ends-bad e m = subst (λ (ps : Got Pairs). Ends g ps l None m) e (refl, tt)
 
-  module _ (nz : n ≡ 0 → ⊥) (h : Key) (e : h ≡ key_at s lo p) (k q : ℕ) (w : h ≡ Key.Is k q) where
-    pub ends-large : KEYS ≤ k → (r : ℕ) → r ≡ past_of (pairs_at s f n lo p) → Ends g (pairs_at s f n lo p) l r l
+  module _ (nz : n ≡ 0 → ⊥) (h : KeyRead) (e : h ≡ key_at s lo p) (k q : ℕ) (w : h ≡ key_is k q) where
+    pub ends-large : KEYS ≤ k → (r : EndRead) → r ≡ end_of (pairs_at s f n lo p) → Ends g (pairs_at s f n lo p) l r l
     unfolding noted
     ends-large large r x = (
       x,
       left_by_lem (pairs_at s f n lo p) (noted g l) l (λ ps e' y.
           let t = pairs-step s f (n - 1) lo p e' ps (ap (λ (j : ℕ). pairs_at s f j lo p) (sym (one_more n nz)) ∙ y) in
-          let a = t.head in
           let b = (key_found s lo p k q (sym e ∙ w)).0 in
-          let c : t.key ≡ k = cc in
+          let c = (head_parts 0 t.key t.at 0 k q (sym t.head ∙ b)).1 in
           sym (ap (noted g l) t.whole ∙ noted-big g l t.key t.item t.rest (omega arith) ∙ noted-large g s f (n - 1) (t.key + 1) t.next e' t.rest l t.behind (omega arith))),
     )
 
@@ -123,15 +122,15 @@ module _ (g : List ℕ → ℕ → Item → List ℕ) (s : List ℕ) (f : ℕ �
     )
 
 -- a value, by its head
-module _ (s : List ℕ) (ok : Bytes s) (d p : ℕ) (h : Head) (e : h ≡ head_at s p) (m v q : ℕ) (w : h ≡ Head.Is m v q) where
+module _ (s : List ℕ) (ok : Bytes s) (d p : ℕ) (h : HeadRead) (e : h ≡ head_at s p) (m v q : ℕ) (w : h ≡ head_is m v q) where
   own : (i : Item) (e' : ℕ) → item_at s d p ≡ got i e' → (m ≡ major_of i) × (v ≡ arg_of i)
-  own i e' g = let a = read_head_of s ok d p e' i g in (cc, cc)
+  own i e' g = let parts = head_parts m v q (major_of i) (arg_of i) _ (sym w ∙ e ∙ read_head_of s ok d p e' i g) in (parts.0, parts.1)
 
   -- a map's pairs
   module _ (z : m ≡ 5) (nz : d ≡ 0 → ⊥) where
     map-pairs : (i : Item) (e' : ℕ) → item_at s d p ≡ got i e' → (ps : Pairs) × (j : ℕ) × (pairs_at s (item_at s (d - 1)) v 0 q ≡ got ps j) × (i ≡ Item.map ps)
     map-pairs i e' g =
-        let u = then_inv (pairs_at s (item_at s (d - 1)) v 0 q) _ i e' (sym (rest_map s m v q d (omega arith) (omega arith) nz z) ∙ by_head s d p (Head.Is m v q) (sym w ∙ e) ∙ g) in
+        let u = then_inv (pairs_at s (item_at s (d - 1)) v 0 q) _ i e' (sym (rest_map s m v q d (omega arith) (omega arith) nz z) ∙ by_head s d p (head_is m v q) (sym w ∙ e) ∙ g) in
         let c : i ≡ Item.map u.0 = cc in
         (u.0, u.1, u.2, c)
 
@@ -185,26 +184,24 @@ module _ (s : List ℕ) (ok : Bytes s) (d p : ℕ) (h : Head) (e : h ≡ head_at
         left_is (pairs_at s (item_at s (d - 1)) v 0 q) (noted g l) l' y a.0 a.1 a.2 ∙ ap (λ (j : List ℕ). noted g j a.0) c ∙ ap (λ (j : Item). noted g l₀ (pairs_in (some j))) (sym a.3))
 
 -- the whole of a payload
-module _ (s : List ℕ) (ok : Bytes s) (u e : ℕ) (b : Bool) (x : e ≡ past_of (item_at s levels 0)) (t : b ≡ cond (eqb e 0) false (eqb e (length s))) where
-  pub scan_taken : b ≡ true → (m : List ℕ) → Left (item_at s levels 0) (λ i. noted (note_from u 0) blank (pairs_in (some i))) m → (b ≡ is_some (payload_of s)) × (m ≡ words_of (key_heads_of u (payload_of s)))
+module _ (s : List ℕ) (ok : Bytes s) (u : ℕ) (r : EndRead) (x : r ≡ end_of (item_at s levels 0)) where
+  pub scan_taken : (e : ℕ) → r ≡ Some e → e ≡ length s → (m : List ℕ) → Left (item_at s levels 0) (λ i. noted (note_from u 0) blank (pairs_in (some i))) m
+      → (true ≡ is_some (payload_of s)) × (m ≡ words_of (key_heads_of u (payload_of s)))
   unfolding payload_of key_heads_of Sound
-  scan_taken is m y = go (eqb e 0) (eqb e (length s)) refl refl (sym t ∙ is)
-    where
-      go : (p q : Bool) → eqb e 0 ≡ p → eqb e (length s) ≡ q → cond p false q ≡ true → (b ≡ is_some (payload_of s)) × (m ≡ words_of (key_heads_of u (payload_of s)))
-      go false true hp hq r =
-          let g = item_got s ok 0 levels e x (λ z. let a = eq-eqb e 0 z in let c : ◌≡◌ {A = ℕ} 0 1 = cc in omega arith) in
-          let o = within g.0 levels (item_sound s ok levels 0 e g.0 g.1).1 in
-          rw (g.1, hq) (is, left_is (item_at s levels 0) (λ i. noted (note_from u 0) blank (pairs_in (some i))) m y g.0 e g.1 ∙ pass-exact u o.0 0 (pairs_in (some g.0)) o.1)
-      go false false hp hq r = absurd (let z : ◌≡◌ {A = ℕ} 0 1 = cc in omega arith)
-      go true q hp hq r = absurd (let z : ◌≡◌ {A = ℕ} 0 1 = cc in omega arith)
+  scan_taken e is all m y =
+      let g = ended (item_at s levels 0) e (sym is ∙ x) in
+      let o = within g.0 levels (item_sound s ok levels 0 e g.0 g.1).1 in
+      rw (g.1, eq-eqb e (length s) all) (refl, left_is (item_at s levels 0) (λ i. noted (note_from u 0) blank (pairs_in (some i))) m y g.0 e g.1 ∙ pass-exact u o.0 0 (pairs_in (some g.0)) o.1)
 
-  pub scan_refused : b ≡ false → (m : List ℕ) → m ≡ blank → (b ≡ is_some (payload_of s)) × (m ≡ words_of (key_heads_of u (payload_of s)))
-  unfolding payload_of key_heads_of Ok noted
-  scan_refused is m w = rw (go (eqb e 0) (eqb e (length s)) refl refl (sym t ∙ is)) (is, w ∙ pass-exact u 0 0 Pairs.empty tt)
-    where
-      go : (p q : Bool) → eqb e 0 ≡ p → eqb e (length s) ≡ q → cond p false q ≡ false → payload_of s ≡ none
-      go true q hp hq r = rw (item_bad s ok 0 levels e x (eqb-true e 0 hp))
-      go false false hp hq r =
-          let g = item_got s ok 0 levels e x (λ z. let a = eq-eqb e 0 z in let c : ◌≡◌ {A = ℕ} 0 1 = cc in omega arith) in
-          rw (g.1, hq)
-      go false true hp hq r = absurd (let z : ◌≡◌ {A = ℕ} 0 1 = cc in omega arith)
+  -- the same words for all that is refused
+  refusal : payload_of s ≡ none → (m : List ℕ) → m ≡ blank → (false ≡ is_some (payload_of s)) × (m ≡ words_of (key_heads_of u (payload_of s)))
+  unfolding key_heads_of Ok noted
+  refusal e m w = rw e (refl, w ∙ pass-exact u 0 0 Pairs.empty tt)
+
+  pub scan_refused : r ≡ None → (m : List ℕ) → m ≡ blank → (false ≡ is_some (payload_of s)) × (m ≡ words_of (key_heads_of u (payload_of s)))
+  unfolding payload_of
+  scan_refused is = refusal (rw (refused (item_at s levels 0) (sym is ∙ x)))
+
+  pub scan_longer : (e : ℕ) → r ≡ Some e → (e ≡ length s → ⊥) → (m : List ℕ) → m ≡ blank → (false ≡ is_some (payload_of s)) × (m ≡ words_of (key_heads_of u (payload_of s)))
+  unfolding payload_of
+  scan_longer e is ne = let g = ended (item_at s levels 0) e (sym is ∙ x) in refusal (rw (g.1, ne_eqb e (length s) ne))

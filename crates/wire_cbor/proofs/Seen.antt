@@ -7,11 +7,10 @@ use native.Mathlib.Omega.{arith}
 use lib.ListN.{length, drop}
 use borrow.Author.Tests.{le-leb, eq-eqb, ne_eqb}
 use Rattle.wire_bytes.specs.Bytes.{Bytes}
-use Rattle.wire_heads.specs.Head.{head_bytes, head_at, head_len}
+use Rattle.wire_heads.specs.Head.{head_is, head_bytes, head_at, head_len}
 use Rattle.wire_cbor.specs.Item.{Item, Pairs, Got, got, pairs_at, item_at, encode, encode_items, encode_pairs, count, count_pairs, Ok, OkPairs}
 use Rattle.wire_heads.specs.Key.{key_at}
 use Rattle.wire_cbor.specs.Find.{value_of}
-use Rattle.wire_heads.specs.declared.reading.Head.{Head}
 use Rattle.wire_heads.proofs.HeadLaws.{head-reads_back}
 use Rattle.wire_cbor.proofs.Sound.{Sound, item_sound, then_inv, keyed-inv, key_found}
 
@@ -35,7 +34,7 @@ arg_of (Item.map ps) = count_pairs ps
 arg_of (Item.simple v) = v
 
 -- where an item's encoding stands, its head is read
-pub item_head : (s t : List ℕ) (d p : ℕ) (i : Item) → Ok i d → drop p s ≡ encode i ++ t → head_at s p ≡ Head.Is (major_of i) (arg_of i) (p + head_len (arg_of i))
+pub item_head : (s t : List ℕ) (d p : ℕ) (i : Item) → Ok i d → drop p s ≡ encode i ++ t → head_at s p ≡ head_is (major_of i) (arg_of i) (p + head_len (arg_of i))
 unfolding encode Ok
 item_head s t d p (Item.uint v) ok e = head-reads_back s t p 0 v refl ok e
 item_head s t d p (Item.nint v) ok e = head-reads_back s t p 1 v refl ok e
@@ -48,7 +47,7 @@ item_head s t (suc d) p (Item.map xs) ok e = head-reads_back s (encode_pairs xs 
 item_head s t d p (Item.simple v) ok e = let small : v < 2 ^ 64 = omega (arith, ok.1) in head-reads_back s t p 7 v (simp (le-leb 20 v ok.0, le-leb v 22 ok.1)) small e
 
 -- an item that was read, by its head
-pub read_head_of : (s : List ℕ) → Bytes s → (d p e : ℕ) (i : Item) → item_at s d p ≡ got i e → head_at s p ≡ Head.Is (major_of i) (arg_of i) (p + head_len (arg_of i))
+pub read_head_of : (s : List ℕ) → Bytes s → (d p e : ℕ) (i : Item) → item_at s d p ≡ got i e → head_at s p ≡ head_is (major_of i) (arg_of i) (p + head_len (arg_of i))
 unfolding Sound
 read_head_of s ok d p e i h = let x = item_sound s ok d p e i h in item_head s (drop e s) d p i x.1 x.0.bytes
 
@@ -67,7 +66,7 @@ pub record Step (s : List ℕ) (f : ℕ → Got Item) (n lo p : ℕ) (all : Pair
   pub item : Item
   pub next : ℕ
   pub rest : Pairs
-  pub head : head_at s p ≡ Head.Is 0 key at
+  pub head : head_at s p ≡ head_is 0 key at
   pub order : lo ≤ key
   pub value : f at ≡ got item next
   pub behind : pairs_at s f n (key + 1) next ≡ got rest end

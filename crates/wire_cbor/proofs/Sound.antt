@@ -10,14 +10,14 @@ use lib.Seq.{drop-drop, get_or-take, get_or-drop}
 use lib.Dec.{leb, eqb}
 use borrow.Author.Tests.{leb-true, eqb-true, eqb-false, lt-leb}
 use Rattle.wire_bytes.specs.Bytes.{Bytes, Stands}
-use Rattle.wire_heads.specs.Head.{head_bytes, head_at, Within}
+use Rattle.wire_heads.specs.Head.{HeadRead, head_is, head_bytes, head_at, Within}
+use Rattle.std.specs.Prelude.{Some, None}
 use Rattle.wire_cbor.specs.Item.{Item, Items, Pairs, Got, got, bad, and_then, keyed, items_at, pairs_at, from_head, item_at, encode, encode_items, encode_pairs, count, count_pairs, Ok, OkItems, OkPairs}
-use Rattle.wire_heads.specs.Key.{key_of, key_at}
-use Rattle.wire_heads.specs.declared.reading.Head.{Head}
-use Rattle.wire_heads.specs.declared.keys.Key.{Key}
+use Rattle.wire_heads.specs.Key.{KeyRead, key_is, key_of, key_at}
 use Rattle.wire_bytes.proofs.Order.{below}
 use Rattle.wire_bytes.proofs.NumberLaws.{zero-past}
 use Rattle.wire_heads.proofs.HeadLaws.{HeadFound, head-found}
+use Rattle.wire_heads.proofs.KeySteps.{key_parts}
 
 -- one run of bytes behind the other
 pub join : (s a b : List ℕ) (p q e : ℕ) → Stands s p a q → Stands s q b e → Stands s p (a ++ b) e
@@ -43,25 +43,24 @@ module _ {X Y : Type 0} where
   then_inv (got x q) k y e h = (x, q, refl, h)
   then_inv bad k y e h = absurd (let z : ◌≡◌ {A = ℕ} 0 1 = cc in omega arith)
 
-pub keyed-inv : {X : Type 0} (h : Key) (k : ℕ → ℕ → Got X) (y : X) (e : ℕ) → keyed h k ≡ got y e → (key : ℕ) × (q : ℕ) × (h ≡ Key.Is key q) × (k key q ≡ got y e)
-keyed-inv (Key.Is v q) k y e h = (v, q, refl, h)
-keyed-inv Key.Bad k y e h = absurd (let z : ◌≡◌ {A = ℕ} 0 1 = cc in omega arith)
+pub keyed-inv : {X : Type 0} (h : KeyRead) (k : ℕ → ℕ → Got X) (y : X) (e : ℕ) → keyed h k ≡ got y e → (key : ℕ) × (q : ℕ) × (h ≡ key_is key q) × (k key q ≡ got y e)
+keyed-inv (Some x) k y e h = (x.key, x.next, refl, h)
+keyed-inv None k y e h = absurd (let z : ◌≡◌ {A = ℕ} 0 1 = cc in omega arith)
 
 -- a key that was read
-key-of : (lo k q : ℕ) (h : Head) → key_of lo h ≡ Key.Is k q → (h ≡ Head.Is 0 k q) × (lo ≤ k)
-key-of lo k q (Head.Is m v e) = go (eqb m 0) (leb lo v) refl refl
+key-of : (lo k q : ℕ) (h : HeadRead) → key_of lo h ≡ key_is k q → (h ≡ head_is 0 k q) × (lo ≤ k)
+key-of lo k q (Some x) = go (eqb x.major 0) (leb lo x.arg) refl refl
   where
-    go : (a b : Bool) → eqb m 0 ≡ a → leb lo v ≡ b → cond a (cond b (Key.Is v e) Key.Bad) Key.Bad ≡ Key.Is k q → (Head.Is m v e ≡ Head.Is 0 k q) × (lo ≤ k)
+    go : (a b : Bool) → eqb x.major 0 ≡ a → leb lo x.arg ≡ b → cond a (cond b (key_is x.arg x.next) None) None ≡ key_is k q → (head_is x.major x.arg x.next ≡ head_is 0 k q) × (lo ≤ k)
     go true true ha hb h =
-        let x : v ≡ k = cc in
-        let y : e ≡ q = cc in
-        let z = eqb-true m 0 ha in
-        (cc, omega (arith, leb-true lo v hb))
+        let p = key_parts x.arg x.next k q h in
+        let z = eqb-true x.major 0 ha in
+        (rw (z, p.0, p.1), omega (arith, leb-true lo x.arg hb))
     go true false ha hb h = absurd (let z : ◌≡◌ {A = ℕ} 0 1 = cc in omega arith)
     go false b ha hb h = absurd (let z : ◌≡◌ {A = ℕ} 0 1 = cc in omega arith)
-key-of lo k q Head.Bad = λ h. absurd (let z : ◌≡◌ {A = ℕ} 0 1 = cc in omega arith)
+key-of lo k q None = λ h. absurd (let z : ◌≡◌ {A = ℕ} 0 1 = cc in omega arith)
 
-pub key_found : (s : List ℕ) (lo p k q : ℕ) → key_at s lo p ≡ Key.Is k q → (head_at s p ≡ Head.Is 0 k q) × (lo ≤ k)
+pub key_found : (s : List ℕ) (lo p k q : ℕ) → key_at s lo p ≡ key_is k q → (head_at s p ≡ head_is 0 k q) × (lo ≤ k)
 unfolding key_at
 key_found s lo p k q h = key-of lo k q (head_at s p) h
 
@@ -133,9 +132,9 @@ module _ (s : List ℕ) (ok : Bytes s) (D : ℕ) (is : ℕ → ℕ → Got Items
     (his : (n p e : ℕ) (xs : Items) → p ≤ length s → is n p ≡ got xs e → Stands s p (encode_items xs) e × (count xs ≡ n) × (n < 2 ^ 64 → Ok (Item.array xs) D))
     (hps : (n p e : ℕ) (xs : Pairs) → p ≤ length s → ps n p ≡ got xs e → Stands s p (encode_pairs xs) e × (count_pairs xs ≡ n) × (n < 2 ^ 64 → Ok (Item.map xs) D))
   where
-    from-sound : (p e : ℕ) (i : Item) (h : Head) → head_at s p ≡ h → from_head s is ps h ≡ got i e → Stands s p (encode i) e × Ok i D
+    from-is : (p e : ℕ) (i : Item) (m v q : ℕ) → head_at s p ≡ head_is m v q → from_head s is ps (head_is m v q) ≡ got i e → Stands s p (encode i) e × Ok i D
     unfolding from_head encode Ok
-    from-sound p e i (Head.Is m v q) hh = go (eqb m 0) (eqb m 1) (eqb m 2) (eqb m 3) (eqb m 4) (eqb m 5) (leb v (length s - q)) refl refl refl refl refl refl refl
+    from-is p e i m v q hh = go (eqb m 0) (eqb m 1) (eqb m 2) (eqb m 3) (eqb m 4) (eqb m 5) (leb v (length s - q)) refl refl refl refl refl refl refl
       where
         Holds : Item → ℕ → Type 0
         Holds x j = Stands s p (encode x) j × Ok x D
@@ -189,7 +188,11 @@ module _ (s : List ℕ) (ok : Bytes s) (D : ℕ) (is : ℕ → ℕ → Got Items
         go false false false false false false t ha hb hc hd' hf hg ht w =
             let r = allowed-rest m v hd.within (lt-leb m 5 (omega (arith, eqb-false m 0 ha, eqb-false m 1 hb, eqb-false m 2 hc, eqb-false m 3 hd', eqb-false m 4 hf, eqb-false m 5 hg))) in
             got_is Holds _ _ _ _ w (hs 7 r.0, (r.1, r.2))
-    from-sound p e i Head.Bad hh = λ w. absurd (let z : ◌≡◌ {A = ℕ} 0 1 = cc in omega arith)
+
+    from-sound : (p e : ℕ) (i : Item) (h : HeadRead) → head_at s p ≡ h → from_head s is ps h ≡ got i e → Stands s p (encode i) e × Ok i D
+    unfolding from_head
+    from-sound p e i (Some x) hh = from-is p e i x.major x.arg x.next hh
+    from-sound p e i None hh = λ w. absurd (let z : ◌≡◌ {A = ℕ} 0 1 = cc in omega arith)
 
 pub item_sound : (s : List ℕ) → Bytes s → (d : ℕ) → Sound s d (item_at s d)
 unfolding Sound item_at Ok

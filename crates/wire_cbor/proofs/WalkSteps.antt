@@ -4,34 +4,34 @@ use mathlib.Core.Path.{◌≡◌, sym, ap, ◌∙◌}
 use mathlib.Core.Bool.{true, false}
 use mathlib.Core.List.{List}
 use borrow.Author.Tests.{lt-ltb, le-ltb, eq-eqb, ne_eqb}
-use Rattle.wire_cbor.specs.Item.{item_at, end_of}
-use Rattle.wire_heads.specs.Key.{key_at}
+use Rattle.std.specs.Prelude.{Some, None}
+use Rattle.wire_cbor.specs.Item.{EndRead, item_at, end_of}
+use Rattle.wire_heads.specs.Key.{KeyRead, key_at}
 use Rattle.wire_cbor.specs.Find.{passed, step_at, stopped, onward, seek_at}
 use Rattle.wire_heads.specs.declared.keys.Key.{Key}
-use Rattle.wire_cbor.specs.declared.items.End.{End}
 use Rattle.wire_cbor.specs.declared.pairs.Step.{Step}
 use Rattle.wire_bytes.proofs.Order.{one_more}
 
 -- a look at a pair
-module _ (s : List ℕ) (d key p : ℕ) (h : Key) (e : h ≡ key_at s 0 p) where
-  pub no-pair : h ≡ Key.Bad → Step.Halt ≡ step_at s d key p
+module _ (s : List ℕ) (d key p : ℕ) (h : KeyRead) (e : h ≡ key_at s 0 p) where
+  pub no-pair : h ≡ None → Step.Halt ≡ step_at s d key p
   unfolding step_at
   no-pair w = rw (sym e ∙ w)
 
-  module _ (k q : ℕ) (w : h ≡ Key.Is k q) where
-    pub pair_there : k ≡ key → Step.There q ≡ step_at s d key p
+  module _ (x : Key) (w : h ≡ Some x) where
+    pub pair_there : x.key ≡ key → Step.There x.next ≡ step_at s d key p
     unfolding step_at
-    pair_there z = rw (sym e ∙ w, eq-eqb k key z)
+    pair_there z = rw (sym e ∙ w, eq-eqb x.key key z)
 
-    module _ (ne : k ≡ key → ⊥) where
-      pub pair_larger : key < k → Step.Halt ≡ step_at s d key p
+    module _ (ne : x.key ≡ key → ⊥) where
+      pub pair_larger : key < x.key → Step.Halt ≡ step_at s d key p
       unfolding step_at
-      pair_larger lt = rw (sym e ∙ w, ne_eqb k key ne, lt-ltb key k lt)
+      pair_larger lt = rw (sym e ∙ w, ne_eqb x.key key ne, lt-ltb key x.key lt)
 
-      module _ (le : k ≤ key) (r : End) (v : r ≡ end_of (item_at s d q)) where
+      module _ (le : x.key ≤ key) (r : EndRead) (v : r ≡ end_of (item_at s d x.next)) where
         pub pair_smaller : passed r ≡ step_at s d key p
         unfolding step_at
-        pair_smaller = rw (sym e ∙ w, ne_eqb k key ne, le-ltb key k le, v)
+        pair_smaller = rw (sym e ∙ w, ne_eqb x.key key ne, le-ltb key x.key le, v)
 
 -- the walk, pair by pair
 module _ (s : List ℕ) (d key p n : ℕ) where

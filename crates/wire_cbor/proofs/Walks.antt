@@ -6,13 +6,11 @@ use mathlib.Core.List.{List}
 use mathlib.Core.Option.{some, none}
 use native.Mathlib.Omega.{arith}
 use borrow.Author.Tests.{le-leb, lt-ltb, le-ltb, eq-eqb, ne_eqb}
-use Rattle.wire_heads.specs.Head.{head_at, head_len}
+use Rattle.wire_heads.specs.Head.{head_is, head_at, head_len}
 use Rattle.wire_cbor.specs.Item.{Item, Pairs, Got, got, pairs_at, from_head, item_at, count_pairs}
-use Rattle.wire_heads.specs.Key.{key_at}
+use Rattle.wire_heads.specs.Key.{key_is, key_at}
 use Rattle.wire_cbor.specs.Find.{value_of, step_at, seek_at}
 use Rattle.wire_cbor.specs.Encodings.{Sought, WalkStarts, SeekExact}
-use Rattle.wire_heads.specs.declared.reading.Head.{Head}
-use Rattle.wire_heads.specs.declared.keys.Key.{Key}
 use Rattle.wire_bytes.proofs.Order.{below}
 use Rattle.wire_cbor.proofs.Sound.{then_inv}
 use Rattle.wire_cbor.proofs.Seen.{read_head_of, value_here, value_there, pairs-step}
@@ -26,7 +24,7 @@ walk-starts s ok d p e ps h =
     let m : u.0 ≡ ps = cc in
     (count_pairs ps, q, hd, record { rest = u.0; end = u.1; reads = u.2; same = λ k le. ap (λ (x : Pairs). value_of x k) m })
 
-key_again : (s : List ℕ) (lo p k q : ℕ) → head_at s p ≡ Head.Is 0 k q → lo ≤ k → key_at s lo p ≡ Key.Is k q
+key_again : (s : List ℕ) (lo p k q : ℕ) → head_at s p ≡ head_is 0 k q → lo ≤ k → key_at s lo p ≡ key_is k q
 unfolding key_at
 key_again s lo p k q h le = rw (h, le-leb lo k le)
 

@@ -3,10 +3,9 @@
 use Rattle.std.specs.Prelude.{ℕ, suc, ◌+◌, ◌^◌, ◌≤◌, ◌<◌, ◌≡◌, true, false, ◌↔◌, List, ◌++◌, length, drop}
 use Rattle.std.proofs.Math.Option.{Option, some, none}
 use Rattle.wire_bytes.specs.Bytes.{Bytes, Stands, put_whole}
-use Rattle.wire_heads.specs.Head.{head_bytes, head_at, head_len, Within}
+use Rattle.wire_heads.specs.Head.{head_is, head_bytes, head_at, head_len, Within}
 use Rattle.wire_cbor.specs.Item.{Item, Pairs, got, item_at, pairs_at, encode, Ok, OkPairs, levels, payload_of}
 use Rattle.wire_cbor.specs.Find.{value_of, seek_at}
-use Rattle.wire_heads.specs.declared.reading.Head.{Head}
 use Rattle.wire_cbor.specs.declared.pairs.Stop.{Stop}
 
 -- an item whose encoding stands in a list is read there
@@ -43,7 +42,7 @@ Sought s d all key none w = (w.there ≡ false) × Walking s d all (key + 1) w.a
 
 -- a walk starts behind the head of a map
 abbrev pub WalkStarts : Type 0
-WalkStarts = (s : List ℕ) → Bytes s → (d p e : ℕ) (ps : Pairs) → item_at s (suc d) p ≡ got (Item.map ps) e → (n : ℕ) × (q : ℕ) × (head_at s p ≡ Head.Is 5 n q) × Walking s d ps 0 q n
+WalkStarts = (s : List ℕ) → Bytes s → (d p e : ℕ) (ps : Pairs) → item_at s (suc d) p ≡ got (Item.map ps) e → (n : ℕ) × (q : ℕ) × (head_at s p ≡ head_is 5 n q) × Walking s d ps 0 q n
 
 -- a walk to a key finds exactly what the map holds under it, and goes on with the keys above
 abbrev pub SeekExact : Type 0
@@ -55,7 +54,7 @@ SameValues = (ps qs : Pairs) (lo lo' d : ℕ) → OkPairs ps lo d → OkPairs qs
 
 -- a head that is written reads back
 abbrev pub HeadWritten : Type 0
-HeadWritten = (s : List ℕ) (p m v : ℕ) → Within m v → v < 2 ^ 64 → p + head_len v ≤ length s → head_at (put_whole s p (head_bytes m v)) p ≡ Head.Is m v (p + head_len v)
+HeadWritten = (s : List ℕ) (p m v : ℕ) → Within m v → v < 2 ^ 64 → p + head_len v ≤ length s → head_at (put_whole s p (head_bytes m v)) p ≡ head_is m v (p + head_len v)
 
 -- an item that is written reads back
 abbrev pub ItemWritten : Type 0

@@ -1,10 +1,9 @@
 -- The value under a key of a map, and the walk that finds it. Assumes nothing: these are definitions.
 use Rattle.std.specs.Prelude.{ℕ, zero, suc, Bool, true, false, cond, List, ltb, eqb}
+use Rattle.std.specs.Prelude.{Some, None}
 use Rattle.std.proofs.Math.Option.{Option, some, none}
-use Rattle.wire_cbor.specs.Item.{Item, Pairs, item_at, end_of}
-use Rattle.wire_heads.specs.Key.{key_at}
-use Rattle.wire_heads.specs.declared.keys.Key.{Key}
-use Rattle.wire_cbor.specs.declared.items.End.{End}
+use Rattle.wire_cbor.specs.Item.{Item, Pairs, EndRead, item_at, end_of}
+use Rattle.wire_heads.specs.Key.{KeyRead, key_at}
 use Rattle.wire_cbor.specs.declared.pairs.Step.{Step}
 use Rattle.wire_cbor.specs.declared.pairs.Stop.{Stop}
 
@@ -14,13 +13,13 @@ value_of Pairs.empty k = none
 value_of (Pairs.pair j i ps) k = cond (eqb j k) (some i) (value_of ps k)
 
 -- a smaller key is passed, an equal one found; at a larger one and at a pair that cannot be read the walk halts
-abbrev pub passed : End → Step
-passed (End.At e) = Step.Past e
-passed End.Bad = Step.Halt
+abbrev pub passed : EndRead → Step
+passed (Some e) = Step.Past e
+passed None = Step.Halt
 
-abbrev pub step_of : ℕ → (ℕ → End) → Key → Step
-step_of key ends (Key.Is k q) = cond (eqb k key) (Step.There q) (cond (ltb key k) Step.Halt (passed (ends q)))
-step_of key ends Key.Bad = Step.Halt
+abbrev pub step_of : ℕ → (ℕ → EndRead) → KeyRead → Step
+step_of key ends (Some k) = cond (eqb k.key key) (Step.There k.next) (cond (ltb key k.key) Step.Halt (passed (ends k.next)))
+step_of key ends None = Step.Halt
 
 -- a look at the pair at p, whose value has at most d levels
 unfoldable pub step_at : List ℕ → ℕ → ℕ → ℕ → Step

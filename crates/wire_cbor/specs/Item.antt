@@ -1,12 +1,10 @@
 -- Items of the strict subset as trees, their one encoding, which are well formed, and the decoder. Assumes nothing: these are definitions.
 use Rattle.std.specs.Prelude.{ℕ, zero, suc, ◌+◌, ◌-◌, ◌^◌, ◌≤◌, ◌<◌, Bool, true, false, cond, List, [], ◌++◌, length, take, drop, leb, eqb}
+use Rattle.std.specs.Prelude.{Option as Maybe, Some, None}
 use Rattle.std.proofs.Math.Option.{Option, some, none as nothing}
 use Rattle.wire_bytes.specs.Bytes.{Bytes}
-use Rattle.wire_heads.specs.Head.{head_bytes, head_at}
-use Rattle.wire_heads.specs.Key.{key_at}
-use Rattle.wire_heads.specs.declared.reading.Head.{Head}
-use Rattle.wire_heads.specs.declared.keys.Key.{Key}
-use Rattle.wire_cbor.specs.declared.items.End.{End}
+use Rattle.wire_heads.specs.Head.{HeadRead, head_bytes, head_at}
+use Rattle.wire_heads.specs.Key.{KeyRead, key_at}
 
 mutual
   pub data Item : Type 0 where
@@ -90,9 +88,9 @@ unfoldable pub items_at : (ℕ → Got Item) → ℕ → ℕ → Got Items
 items_at f zero p = got none p
 items_at f (suc n) p = and_then (f p) (λ i e. and_then (items_at f n e) (λ is e'. got (more i is) e'))
 
-abbrev pub keyed : {X : Type 0} → Key → (ℕ → ℕ → Got X) → Got X
-keyed (Key.Is k e) f = f k e
-keyed Key.Bad f = bad
+abbrev pub keyed : {X : Type 0} → KeyRead → (ℕ → ℕ → Got X) → Got X
+keyed (Some k) f = f k.key k.next
+keyed None f = bad
 
 -- n pairs at p, the first key not below lo and each next key above the one before, each value read by f
 unfoldable pub pairs_at : List ℕ → (ℕ → Got Item) → ℕ → ℕ → ℕ → Got Pairs
@@ -105,16 +103,16 @@ abbrev pub string_at : List ℕ → (List ℕ → Item) → ℕ → ℕ → Got 
 string_at s g v p = cond (leb v (length s - p)) (got (g (take v (drop p s))) (p + v)) bad
 
 -- the item whose head is given, its items and pairs read by is and ps
-unfoldable pub from_head : List ℕ → (ℕ → ℕ → Got Items) → (ℕ → ℕ → Got Pairs) → Head → Got Item
-from_head s is ps (Head.Is m v e) =
-    cond (eqb m 0) (got (uint v) e)
-    (cond (eqb m 1) (got (nint v) e)
-    (cond (eqb m 2) (string_at s bytes v e)
-    (cond (eqb m 3) (string_at s text v e)
-    (cond (eqb m 4) (and_then (is v e) (λ xs e'. got (array xs) e'))
-    (cond (eqb m 5) (and_then (ps v e) (λ xs e'. got (map xs) e'))
-    (got (simple v) e))))))
-from_head s is ps Head.Bad = bad
+unfoldable pub from_head : List ℕ → (ℕ → ℕ → Got Items) → (ℕ → ℕ → Got Pairs) → HeadRead → Got Item
+from_head s is ps (Some h) =
+    cond (eqb h.major 0) (got (uint h.arg) h.next)
+    (cond (eqb h.major 1) (got (nint h.arg) h.next)
+    (cond (eqb h.major 2) (string_at s bytes h.arg h.next)
+    (cond (eqb h.major 3) (string_at s text h.arg h.next)
+    (cond (eqb h.major 4) (and_then (is h.arg h.next) (λ xs e'. got (array xs) e'))
+    (cond (eqb h.major 5) (and_then (ps h.arg h.next) (λ xs e'. got (map xs) e'))
+    (got (simple h.arg) h.next))))))
+from_head s is ps None = bad
 
 -- the item at p, with at most d arrays and maps within each other
 unfoldable pub item_at : List ℕ → ℕ → ℕ → Got Item
@@ -131,13 +129,16 @@ pairs_within s zero n q = bad
 pairs_within s (suc d) n q = pairs_at s (item_at s d) n 0 q
 
 -- the item of d levels whose head is given
-abbrev pub rest_at : List ℕ → ℕ → Head → Got Item
+abbrev pub rest_at : List ℕ → ℕ → HeadRead → Got Item
 rest_at s d h = from_head s (items_within s d) (pairs_within s d) h
 
--- where a reader stopped
-abbrev pub end_of : {X : Type 0} → Got X → End
-end_of (got x e) = End.At e
-end_of bad = End.Bad
+-- where a reader stopped, where what it read is good
+abbrev pub EndRead : Type 0
+EndRead = Maybe ℕ
+
+abbrev pub end_of : {X : Type 0} → Got X → EndRead
+end_of (got x e) = Some e
+end_of bad = None
 
 -- the same as a number; 0 where it is bad, as nothing that is read ends at 0
 abbrev pub past_of : {X : Type 0} → Got X → ℕ

@@ -1,12 +1,12 @@
 // One pass over a payload, which checks it and keeps the heads under its small keys and under those of the maps along a path.
 ghost use Rattle.std.specs.Prelude.{◌≡◌, ◌+◌, ◌%◌, ◌<◌, cond, false, ltb, eqb};
 ghost use Rattle.std.proofs.Math.Option.{some};
-ghost use Rattle.wire_cbor.specs.Item.{item_at, pairs_at, past_of, levels, payload_of, is_some};
+ghost use Rattle.wire_cbor.specs.Item.{item_at, pairs_at, end_of, levels, payload_of, is_some};
 ghost use Rattle.wire_cbor.specs.Scan.{KEYS, LEVELS, KEY_HEADS, STEP, head, key_head_at, pairs_in, key_heads_of, words_of};
 ghost use Rattle.wire_cbor.specs.Pass.{Left, note_at, noted, note_from, blank};
 
 use crate::items::{DEPTH, past_pairs, past_rest};
-use wire_heads::{Head, Key, read_head, read_key};
+use wire_heads::{read_head, read_key};
 
 // The small keys are 0 to 5.
 pub const KEYS: usize = 6;
@@ -72,13 +72,7 @@ fn note(heads: &mut KeyHeads, k: usize, major: u64, arg: u64)
 fn opens(key: u64, path: u64, level: usize, major: u64) -> bool
     ensures { result ≡ cond (eqb key (path % STEP)) (cond (ltb (level + 1) LEVELS) (eqb major 5) false) false }
 {
-    if key != path % STEP {
-        return false;
-    }
-    if DEEPEST <= level {
-        return false;
-    }
-    major == 5
+    key == path % STEP && level < DEEPEST && major == 5
 }
 
 // The position past the value at `at` of a small key, as `past_item` says it; the heads of the map that a path leads to, too.
@@ -91,30 +85,34 @@ fn scan_value(
     path: u64,
     level: usize,
     heads: &mut KeyHeads,
-) -> usize
+) -> Option<usize>
     requires { (key < KEYS) × (level < LEVELS) }
-    ensures value { result ≡ past_of (item_at s.now depth at) }
+    ensures value { result ≡ end_of (item_at s.now depth at) }
     ensures left { Left (item_at s.now depth at) (note_from path level heads.old key) heads.new }
 {
-    match read_head(s, at) {
-        Head::Bad => 0,
-        Head::Is(major, arg, next) => {
-            note(heads, level * KEYS + key as usize, major, arg);
-            if opens(key, path, level, major) {
-                if depth == 0 {
-                    return 0;
-                }
-                return scan_map(s, next, arg, depth - 1, path / STEP, level + 1, heads);
-            }
-            if major < 2 {
-                return next;
-            }
-            if major == 7 {
-                return next;
-            }
-            past_rest(s, major, arg, next, depth)
+    let head = read_head(s, at)?;
+    note(heads, level * KEYS + key as usize, head.major, head.arg);
+    if opens(key, path, level, head.major) {
+        if depth == 0 {
+            return None;
         }
+        return scan_map(
+            s,
+            head.next,
+            head.arg,
+            depth - 1,
+            path / STEP,
+            level + 1,
+            heads,
+        );
     }
+    if head.major < 2 {
+        return Some(head.next);
+    }
+    if head.major == 7 {
+        return Some(head.next);
+    }
+    past_rest(s, head, depth)
 }
 
 // The position past n pairs at `at`, as `past_pairs` says it; all keys behind one that is not small are larger still.
@@ -127,68 +125,43 @@ fn scan_map(
     path: u64,
     level: usize,
     heads: &mut KeyHeads,
-) -> usize
+) -> Option<usize>
     requires { level < LEVELS }
-    ensures value { result ≡ past_of (pairs_at s.now (item_at s.now depth) n 0 at) }
+    ensures value { result ≡ end_of (pairs_at s.now (item_at s.now depth) n 0 at) }
     ensures left { Left (pairs_at s.now (item_at s.now depth) n 0 at) (noted (note_from path level) heads.old) heads.new }
 {
     let mut p = at;
-    let mut left = n;
     let mut first = true;
     let mut last: u64 = 0;
-    while left != 0 {
-        match read_key(s, p, first, last) {
-            Key::Bad => {
-                return 0;
-            }
-            Key::Is(key, next) => {
-                if KEYS as u64 <= key {
-                    return past_pairs(s, p, left, first, last, depth);
-                }
-                p = scan_value(s, next, depth, key, path, level, heads);
-                if p == 0 {
-                    return 0;
-                }
-                left -= 1;
-                first = false;
-                last = key;
-            }
+    for passed in 0..n {
+        let key = read_key(s, p, first, last)?;
+        if KEYS as u64 <= key.key {
+            return past_pairs(s, p, n - passed, first, last, depth);
         }
+        p = scan_value(s, key.next, depth, key.key, path, level, heads)?;
+        first = false;
+        last = key.key;
     }
-    p
+    Some(p)
 }
 
 // The position past the item that starts the slice; heads of before are forgotten behind its head, as a bad one is refused soonest.
-fn scan_root(s: &[u8], path: u64, heads: &mut KeyHeads) -> usize
-    ensures value { result ≡ past_of (item_at s.now levels 0) }
+fn scan_root(s: &[u8], path: u64, heads: &mut KeyHeads) -> Option<usize>
+    ensures value { result ≡ end_of (item_at s.now levels 0) }
     ensures left { Left (item_at s.now levels 0) (λ i. noted (note_from path 0) blank (pairs_in (some i))) heads.new }
 {
-    match read_head(s, 0) {
-        Head::Bad => 0,
-        Head::Is(major, arg, next) => {
-            clear(heads);
-            if major == 5 {
-                return scan_map(s, next, arg, DEPTH - 1, path, 0, heads);
-            }
-            if major < 2 {
-                return next;
-            }
-            if major == 7 {
-                return next;
-            }
-            past_rest(s, major, arg, next, DEPTH)
-        }
+    let head = read_head(s, 0)?;
+    clear(heads);
+    if head.major == 5 {
+        return scan_map(s, head.next, head.arg, DEPTH - 1, path, 0, heads);
     }
-}
-
-// Whether an item that ends at e, or is bad, is all of `len` bytes.
-fn is_whole(e: usize, len: usize) -> bool
-    ensures { result ≡ cond (eqb e 0) false (eqb e len) }
-{
-    if e == 0 {
-        return false;
+    if head.major < 2 {
+        return Some(head.next);
     }
-    e == len
+    if head.major == 7 {
+        return Some(head.next);
+    }
+    past_rest(s, head, DEPTH)
 }
 
 // Whether the slice is exactly one item; the heads of its small keys, and of those of the maps along a path of small keys.
@@ -196,9 +169,10 @@ pub fn scan(s: &[u8], path: u64, heads: &mut KeyHeads) -> bool
     ensures value { result ≡ is_some (payload_of s.now) }
     ensures heads_after { heads.new ≡ words_of (key_heads_of path (payload_of s.now)) }
 {
-    let e = scan_root(s, path, heads);
-    if is_whole(e, s.len()) {
-        return true;
+    if let Some(e) = scan_root(s, path, heads) {
+        if e == s.len() {
+            return true;
+        }
     }
     clear(heads);
     false

@@ -1,125 +1,99 @@
 // Items, arrays and maps, checked: each calls the others, with a loop over the elements, so that the stack grows with nesting alone.
-// They answer the position past what they checked, and 0 where it is bad: nothing ends at 0.
+// They answer the position past what they checked, where it is good.
 ghost use Rattle.std.specs.Prelude.{◌≡◌, cond, ◌+◌, ◌-◌, ◌≤◌, length, leb};
-ghost use Rattle.wire_cbor.specs.Item.{item_at, rest_at, items_at, pairs_at, end_of, past_of, payload_of, is_some};
+ghost use Rattle.wire_cbor.specs.Item.{item_at, rest_at, items_at, pairs_at, end_of, payload_of, is_some};
 ghost use Rattle.wire_heads.specs.Key.{least};
-ghost use Rattle.wire_heads.specs.declared.reading.Head.{Head};
 
-use wire_heads::{Head, Key, read_head, read_key};
+use wire_heads::{Head, read_head, read_key};
 
 // How many maps and arrays may stand within each other.
 pub const DEPTH: u64 = 8;
 
-// Where an item ends.
-#[derive(Clone, Copy)]
-pub enum End {
-    At(usize),
-    Bad,
-}
-
-// The position past a string of n bytes at `at`; 0 where it does not fit.
-fn past_string(len: usize, at: usize, n: u64) -> usize
+// The position past a string of n bytes at `at`, where it fits.
+fn past_string(len: usize, at: usize, n: u64) -> Option<usize>
     requires { at ≤ len }
-    ensures { result ≡ cond (leb n (len - at)) (at + n) 0 }
+    ensures { result ≡ cond (leb n (len - at)) (Some (at + n)) None }
 {
-    let left = (len - at) as u64;
-    if n <= left {
-        return at + n as usize;
+    if n <= (len - at) as u64 {
+        return Some(at + n as usize);
     }
-    0
+    None
 }
 
-// The position past the item at `at`, with at most `depth` arrays and maps within each other; 0 where it is bad.
+// The position past the item at `at`, with at most `depth` arrays and maps within each other.
 #[cycle(past_array_past_item_past_pairs_past_rest)]
-pub(crate) fn past_item(s: &[u8], at: usize, depth: u64) -> usize
-    ensures { result ≡ past_of (item_at s.now depth at) }
+pub(crate) fn past_item(s: &[u8], at: usize, depth: u64) -> Option<usize>
+    ensures { result ≡ end_of (item_at s.now depth at) }
 {
-    match read_head(s, at) {
-        Head::Bad => 0,
-        Head::Is(major, arg, next) => {
-            if major < 2 {
-                return next;
-            }
-            if major == 7 {
-                return next;
-            }
-            past_rest(s, major, arg, next, depth)
-        }
+    let head = read_head(s, at)?;
+    if head.major < 2 {
+        return Some(head.next);
     }
+    if head.major == 7 {
+        return Some(head.next);
+    }
+    past_rest(s, head, depth)
 }
 
 // The same behind the head of a string, an array or a map.
 #[cycle(past_array_past_item_past_pairs_past_rest)]
-pub(crate) fn past_rest(s: &[u8], major: u64, arg: u64, next: usize, depth: u64) -> usize
-    requires { (2 ≤ major) × (major ≤ 5) × (next ≤ length s.now) }
-    ensures { result ≡ past_of (rest_at s.now depth (Head.Is major arg next)) }
+pub(crate) fn past_rest(s: &[u8], head: Head, depth: u64) -> Option<usize>
+    requires { (2 ≤ head.major) × (head.major ≤ 5) × (head.next ≤ length s.now) }
+    ensures { result ≡ end_of (rest_at s.now depth (Some head)) }
 {
-    if major < 4 {
-        return past_string(s.len(), next, arg);
+    if head.major < 4 {
+        return past_string(s.len(), head.next, head.arg);
     }
     if depth == 0 {
-        return 0;
+        return None;
     }
-    if major == 4 {
-        return past_array(s, next, arg, depth - 1);
+    if head.major == 4 {
+        return past_array(s, head.next, head.arg, depth - 1);
     }
-    past_pairs(s, next, arg, true, 0, depth - 1)
+    past_pairs(s, head.next, head.arg, true, 0, depth - 1)
 }
 
-// The position past n items at `at`; 0 where one is bad.
+// The position past n items at `at`.
 #[cycle(past_array_past_item_past_pairs_past_rest)]
-fn past_array(s: &[u8], at: usize, n: u64, depth: u64) -> usize
-    ensures { result ≡ past_of (items_at (item_at s.now depth) n at) }
+fn past_array(s: &[u8], at: usize, n: u64, depth: u64) -> Option<usize>
+    ensures { result ≡ end_of (items_at (item_at s.now depth) n at) }
 {
     let mut p = at;
-    let mut left = n;
-    while left != 0 {
-        p = past_item(s, p, depth);
-        if p == 0 {
-            return 0;
-        }
-        left -= 1;
+    for _i in 0..n {
+        p = past_item(s, p, depth)?;
     }
-    p
+    Some(p)
 }
 
-// The position past n pairs at `at`, their keys ascending; 0 where one is bad.
+// The position past n pairs at `at`, their keys ascending.
 #[cycle(past_array_past_item_past_pairs_past_rest)]
-pub(crate) fn past_pairs(s: &[u8], at: usize, n: u64, first: bool, last: u64, depth: u64) -> usize
-    ensures { result ≡ past_of (pairs_at s.now (item_at s.now depth) n (least first last) at) }
+pub(crate) fn past_pairs(
+    s: &[u8],
+    at: usize,
+    n: u64,
+    first: bool,
+    last: u64,
+    depth: u64,
+) -> Option<usize>
+    ensures { result ≡ end_of (pairs_at s.now (item_at s.now depth) n (least first last) at) }
 {
     let mut p = at;
-    let mut left = n;
     let mut start = first;
     let mut before = last;
-    while left != 0 {
-        match read_key(s, p, start, before) {
-            Key::Bad => {
-                return 0;
-            }
-            Key::Is(key, next) => {
-                p = past_item(s, next, depth);
-                if p == 0 {
-                    return 0;
-                }
-                left -= 1;
-                start = false;
-                before = key;
-            }
-        }
+    for _i in 0..n {
+        let key = read_key(s, p, start, before)?;
+        p = past_item(s, key.next, depth)?;
+        start = false;
+        before = key.key;
     }
-    p
+    Some(p)
 }
 
 // The end of the item at `at`, with at most `depth` arrays and maps within each other.
-pub fn check_item(s: &[u8], at: usize, depth: u64) -> End
+pub fn check_item(s: &[u8], at: usize, depth: u64) -> Option<usize>
     ensures { result ≡ end_of (item_at s.now depth at) }
 {
-    let e = past_item(s, at, depth);
-    if e == 0 {
-        return End::Bad;
-    }
-    End::At(e)
+    past_item(s, at, depth)
 }
 
 // Whether the slice is exactly one item.
@@ -127,7 +101,7 @@ pub fn is_item(s: &[u8]) -> bool
     ensures { result ≡ is_some (payload_of s.now) }
 {
     match check_item(s, 0, DEPTH) {
-        End::Bad => false,
-        End::At(e) => e == s.len(),
+        Some(e) => e == s.len(),
+        None => false,
     }
 }

@@ -6,5 +6,5 @@ mod items; // items, arrays and maps, checked
 mod pairs; // the value under a key of a map
 
 pub use heads::{KEYS, KeyHead, KeyHeads, LEVELS, STEP, WORDS, key_head_of, scan};
-pub use items::{DEPTH, End, check_item, is_item};
+pub use items::{DEPTH, check_item, is_item};
 pub use pairs::{Stop, seek};

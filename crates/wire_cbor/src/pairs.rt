@@ -1,14 +1,14 @@
 // The value under a key of a map.
 ghost use Rattle.std.specs.Prelude.{◌≡◌};
-ghost use Rattle.wire_cbor.specs.Find.{step_at, stopped, seek_at};
+ghost use Rattle.wire_cbor.specs.Find.{step_at, seek_at};
 
-use crate::items::{End, check_item};
+use crate::items::check_item;
 use wire_heads::{Key, read_key};
 
 // Where a walk over pairs stopped. There: at the value, `left` pairs behind it. Not there: at the first pair not passed, `left` counting it.
 #[derive(Clone, Copy)]
 pub struct Stop {
-    pub there: bool,
+    pub there: bool, // no Option: where the key is not there, both numbers say where the walk stopped
     pub at: usize,
     pub left: u64,
 }
@@ -25,30 +25,18 @@ pub enum Step {
 fn look(s: &[u8], at: usize, key: u64, depth: u64) -> Step
     ensures { result ≡ step_at s.now depth key at }
 {
-    match read_key(s, at, true, 0) {
-        Key::Bad => Step::Halt,
-        Key::Is(k, next) => {
-            if k == key {
-                return Step::There(next);
-            }
-            if key < k {
-                return Step::Halt;
-            }
-            match check_item(s, next, depth) {
-                End::Bad => Step::Halt,
-                End::At(e) => Step::Past(e),
-            }
-        }
+    let Some(Key { key: k, next }) = read_key(s, at, true, 0) else {
+        return Step::Halt;
+    };
+    if k == key {
+        return Step::There(next);
     }
-}
-
-fn stopping(there: bool, at: usize, left: u64) -> Stop
-    ensures { result ≡ stopped there at left }
-{
-    Stop {
-        there: there,
-        at: at,
-        left: left,
+    if key < k {
+        return Step::Halt;
+    }
+    match check_item(s, next, depth) {
+        None => Step::Halt,
+        Some(e) => Step::Past(e),
     }
 }
 
@@ -58,20 +46,28 @@ pub fn seek(s: &[u8], at: usize, left: u64, key: u64, depth: u64) -> Stop
     ensures { result ≡ seek_at s.now depth key left at }
 {
     let mut p = at;
-    let mut n = left;
-    while n != 0 {
+    for passed in 0..left {
         match look(s, p, key, depth) {
             Step::Halt => {
-                return stopping(false, p, n);
+                return Stop {
+                    there: false,
+                    at: p,
+                    left: left - passed,
+                };
             }
             Step::There(value) => {
-                return stopping(true, value, n - 1);
+                return Stop {
+                    there: true,
+                    at: value,
+                    left: left - passed - 1,
+                };
             }
-            Step::Past(e) => {
-                p = e;
-                n -= 1;
-            }
+            Step::Past(e) => p = e,
         }
     }
-    stopping(false, p, 0)
+    Stop {
+        there: false,
+        at: p,
+        left: 0,
+    }
 }

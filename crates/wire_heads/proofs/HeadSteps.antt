@@ -11,10 +11,9 @@ use native.Mathlib.Nat.{add-zero}
 use native.Mathlib.Numerals.{add-one}
 use native.Mathlib.Omega.{arith}
 use Rattle.wire_bytes.specs.Bytes.{number_at, bytes_of, Bytes, put, put_whole, past_whole}
-use Rattle.wire_heads.specs.Head.{info_of, width_of, head_len, head_bytes, head_of, arg_at, allowed, with_major, head_at}
+use Rattle.std.specs.Prelude.{None}
+use Rattle.wire_heads.specs.Head.{ArgumentRead, argument_is, info_of, width_of, head_len, head_bytes, head_of, arg_at, allowed, with_major, head_at}
 use Rattle.wire_heads.specs.Forms.{Width, form_of, held_at}
-use Rattle.wire_heads.specs.declared.reading.Head.{Head}
-use Rattle.wire_heads.specs.declared.reading.Argument.{Argument}
 use Rattle.wire_heads.specs.declared.reading.Form.{Form}
 use Rattle.wire_bytes.proofs.Order.{below}
 use Rattle.wire_heads.proofs.Widths.{From, from-24, from-25, from-26, from-27, width_24, width_25, width_26, width_27, info_small, head-length}
@@ -55,20 +54,20 @@ has_width i = by_form HasWidth i (λ h. tt) (λ h. (omega arith, inl refl)) (λ 
 pub form_width : (i w l : ℕ) → form_of i ≡ Form.Behind w l → Width w
 form_width i w l e = subst HasWidth e (has_width i)
 
-pub arg_low : (s : List ℕ) (q i : ℕ) → i < 24 → arg_at s q i ≡ Argument.Is i q
+pub arg_low : (s : List ℕ) (q i : ℕ) → i < 24 → arg_at s q i ≡ argument_is i q
 unfolding arg_at
 arg_low s q i h = rw (lt-ltb i 24 h)
 
 -- an argument of more than one byte
 module _ (s : List ℕ) (q i : ℕ) (high : 24 ≤ i) where
   -- above 27 there is none
-  wide_not : 28 ≤ i → Argument.Bad ≡ arg_at s q i
+  wide_not : 28 ≤ i → None ≡ arg_at s q i
   unfolding arg_at
   wide_not h =
       let v : ℕ = number_at s q (width_of i) in
       rw (le-ltb i 24 high, ne_eqb (info_of v) i (λ e. omega (arith, info_small v))) (same (leb (width_of i) (length s - q)))
     where
-      same : (b : Bool) → Argument.Bad ≡ cond b Argument.Bad Argument.Bad
+      same : (b : Bool) → ◌≡◌ {A = ArgumentRead} None (cond b None None)
       same true = refl
       same false = refl
 
@@ -95,10 +94,10 @@ module _ (s : List ℕ) (q i n : ℕ) (e : n ≡ number_at s q i) where
   two-more_fit ok h = omega (arith, two-more (number_at s (q + i) 2) refl, number_fits s ok (i + 2) q h)
 
 -- the argument of a form
-abbrev arg_of : List ℕ → ℕ → ℕ → Form → Argument
-arg_of s q i Form.Itself = Argument.Is i q
+abbrev arg_of : List ℕ → ℕ → ℕ → Form → ArgumentRead
+arg_of s q i Form.Itself = argument_is i q
 arg_of s q i (Form.Behind w l) = held_at s q w l
-arg_of s q i Form.Nowhere = Argument.Bad
+arg_of s q i Form.Nowhere = None
 
 module _ (s : List ℕ) (ok : Bytes s) (q i : ℕ) where
   by_its_form : arg_of s q i (form_of i) ≡ arg_at s q i
@@ -114,19 +113,19 @@ module _ (s : List ℕ) (ok : Bytes s) (q i : ℕ) where
   pub arg_is : (f : Form) → f ≡ form_of i → arg_of s q i f ≡ arg_at s q i
   arg_is f e = ap (arg_of s q i) e ∙ by_its_form
 
-pub head-end : (s : List ℕ) (p : ℕ) → length s ≤ p → Head.Bad ≡ head_at s p
+pub head-end : (s : List ℕ) (p : ℕ) → length s ≤ p → None ≡ head_at s p
 unfolding head_at
 head-end s p h = rw (le-leb (length s) p h)
 
 module _ (s : List ℕ) (p b : ℕ) (lt : p < length s) (e : b ≡ get_or s p 0) where
-  pub head_in : allowed (b / 32) (b % 32) ≡ true → (a : Argument) → arg_at s (p + 1) (b % 32) ≡ a → with_major (b / 32) a ≡ head_at s p
+  pub head_in : allowed (b / 32) (b % 32) ≡ true → (a : ArgumentRead) → arg_at s (p + 1) (b % 32) ≡ a → with_major (b / 32) a ≡ head_at s p
   unfolding head_at
   head_in t a ar = rw (lt-leb (length s) p lt, ← e, t, ar)
 
-  pub head-low : b / 32 ≤ 5 → (a : Argument) → arg_at s (p + 1) (b % 32) ≡ a → with_major (b / 32) a ≡ head_at s p
+  pub head-low : b / 32 ≤ 5 → (a : ArgumentRead) → arg_at s (p + 1) (b % 32) ≡ a → with_major (b / 32) a ≡ head_at s p
   head-low h = head_in (rw (le-leb (b / 32) 5 h))
 
-  pub head-out : allowed (b / 32) (b % 32) ≡ false → Head.Bad ≡ head_at s p
+  pub head-out : allowed (b / 32) (b % 32) ≡ false → None ≡ head_at s p
   unfolding head_at
   head-out t = rw (lt-leb (length s) p lt, ← e, t)
 

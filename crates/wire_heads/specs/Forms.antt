@@ -1,7 +1,7 @@
 -- How the reader of heads parts its work: the form of an argument, and one whose bytes stand behind the first. Assumes nothing: these are definitions.
-use Rattle.std.specs.Prelude.{ℕ, ◌+◌, ◌-◌, ◌%◌, ◌≤◌, ◌≡◌, ◌⊎◌, cond, List, length, ltb, leb, eqb}
+use Rattle.std.specs.Prelude.{ℕ, ◌+◌, ◌-◌, ◌%◌, ◌≤◌, ◌≡◌, ◌⊎◌, cond, List, length, ltb, leb, eqb, None}
 use Rattle.wire_bytes.specs.Bytes.{number_at}
-use Rattle.wire_heads.specs.declared.reading.Argument.{Argument}
+use Rattle.wire_heads.specs.Head.{ArgumentRead, argument_is}
 use Rattle.wire_heads.specs.declared.reading.Form.{Form}
 
 -- where additional information i says the argument (RFC 8949, 3), and from which number on it needs all its bytes
@@ -18,5 +18,5 @@ abbrev pub Width : ℕ → Type 0
 Width w = (w ≤ 8) × ((w ≡ 1) ⊎ ((2 ≤ w) × (w % 2 ≡ 0)))
 
 -- the argument that w bytes at p hold, from l on
-unfoldable pub held_at : List ℕ → ℕ → ℕ → ℕ → Argument
-held_at s p w l = cond (leb w (length s - p)) (cond (ltb (number_at s p w) l) Argument.Bad (Argument.Is (number_at s p w) (p + w))) Argument.Bad
+unfoldable pub held_at : List ℕ → ℕ → ℕ → ℕ → ArgumentRead
+held_at s p w l = cond (leb w (length s - p)) (cond (ltb (number_at s p w) l) None (argument_is (number_at s p w) (p + w))) None

@@ -1,21 +1,22 @@
 // Heads, read.
 ghost use Rattle.std.specs.Prelude.{◌≡◌, ◌+◌, ◌≤◌, length};
 ghost use Rattle.wire_bytes.specs.Bytes.{number_at};
-ghost use Rattle.wire_heads.specs.Head.{arg_at, with_major, head_at};
+ghost use Rattle.wire_heads.specs.Head.{arg_at, head_at};
 ghost use Rattle.wire_heads.specs.Forms.{Width, form_of, held_at};
 
 // A head: its major type, its argument and the position past it.
 #[derive(Clone, Copy)]
-pub enum Head {
-    Is(u64, u64, usize),
-    Bad,
+pub struct Head {
+    pub major: u64,
+    pub arg: u64,
+    pub next: usize,
 }
 
 // An argument and the position past it.
 #[derive(Clone, Copy)]
-pub enum Argument {
-    Is(u64, usize),
-    Bad,
+pub struct Argument {
+    pub value: u64,
+    pub next: usize,
 }
 
 // Where an argument is said: in the additional information itself; in so many bytes behind it, from the least number on that
@@ -28,25 +29,18 @@ pub enum Form {
 }
 
 // Where the additional information says the argument, in the order of RFC 8949, section 3.
+#[tactic(auto, unfolding(crate::specs::Forms::form_of))]
 fn form_of(info: u64) -> Form
     ensures { result ≡ form_of info }
 {
-    if info < 24 {
-        return Form::Itself;
+    match info {
+        0..24 => Form::Itself,
+        24 => Form::Behind(1, 24),
+        25 => Form::Behind(2, 256),
+        26 => Form::Behind(4, 65536),
+        27 => Form::Behind(8, 4294967296),
+        _ => Form::Nowhere,
     }
-    if info == 24 {
-        return Form::Behind(1, 24);
-    }
-    if info == 25 {
-        return Form::Behind(2, 256);
-    }
-    if info == 26 {
-        return Form::Behind(4, 65536);
-    }
-    if info == 27 {
-        return Form::Behind(8, 4294967296);
-    }
-    Form::Nowhere
 }
 
 // The number of two bytes that are there.
@@ -66,6 +60,7 @@ fn number(s: &[u8], at: usize, width: usize) -> u64
         return s[at] as u64;
     }
     let mut n = pair(s, at);
+    // By hand: with a `for` over the pairs a measurement takes a third longer to read.
     let mut i: usize = 2;
     while i < width {
         n = n * 65536 + pair(s, at + i);
@@ -75,60 +70,62 @@ fn number(s: &[u8], at: usize, width: usize) -> u64
 }
 
 // The argument that `width` bytes at `at` hold, from `least` on.
-fn held(s: &[u8], at: usize, width: usize, least: u64) -> Argument
+fn held(s: &[u8], at: usize, width: usize, least: u64) -> Option<Argument>
     requires { (at ≤ length s.now) × Width width }
     ensures { result ≡ held_at s.now at width least }
 {
     if s.len() - at < width {
-        return Argument::Bad;
+        return None;
     }
-    let v = number(s, at, width);
-    if v < least {
-        return Argument::Bad;
+    let value = number(s, at, width);
+    if value < least {
+        return None;
     }
-    Argument::Is(v, at + width)
+    Some(Argument {
+        value,
+        next: at + width,
+    })
 }
 
 // The argument of a head with this additional information, whose further bytes start at `at`.
-pub(crate) fn argument_of(s: &[u8], at: usize, info: u64) -> Argument
+pub(crate) fn argument_of(s: &[u8], at: usize, info: u64) -> Option<Argument>
     requires { at ≤ length s.now }
     ensures { result ≡ arg_at s.now at info }
 {
-    let form = form_of(info);
-    match form {
-        Form::Itself => Argument::Is(info, at),
+    match form_of(info) {
+        Form::Itself => Some(Argument {
+            value: info,
+            next: at,
+        }),
         Form::Behind(width, least) => held(s, at, width, least),
-        Form::Nowhere => Argument::Bad,
-    }
-}
-
-// The head of a major type with an argument.
-fn with_major(major: u64, a: Argument) -> Head
-    ensures { result ≡ with_major major a }
-{
-    match a {
-        Argument::Is(v, next) => Head::Is(major, v, next),
-        Argument::Bad => Head::Bad,
+        Form::Nowhere => None,
     }
 }
 
 // The head at `at`.
-pub fn read_head(s: &[u8], at: usize) -> Head
+pub fn read_head(s: &[u8], at: usize) -> Option<Head>
     ensures { result ≡ head_at s.now at }
 {
     if s.len() <= at {
-        return Head::Bad;
+        return None;
     }
     let first = s[at] as u64;
     let major = first / 32;
     let info = first % 32;
     if major <= 5 {
-        return with_major(major, argument_of(s, at + 1, info));
+        let arg = argument_of(s, at + 1, info)?;
+        return Some(Head {
+            major,
+            arg: arg.value,
+            next: arg.next,
+        });
     }
-    if 244 <= first {
-        if first <= 246 {
-            return Head::Is(7, info, at + 1);
-        }
+    match first {
+        244..=246 => Some(Head {
+            major: 7,
+            arg: info,
+            next: at + 1,
+        }),
+        _ => None,
     }
-    Head::Bad
 }

@@ -13,10 +13,7 @@ decreases-scan_map l = 2 * (length l.s.now - l.at) + 1
 abbrev pub decreases-scan_value : goal.decreases-scan_value
 decreases-scan_value l = 2 * (length l.s.now - l.at)
 
-abbrev pub invariant-scan_map-loop-left : goal.invariant-scan_map-loop-left
-invariant-scan_map-loop-left l =
-    Onward (note_from l.path l.level) (pairs_at l.s (item_at l.s l.depth) l.left (least l.first l.last) l.p) l.heads
+abbrev pub invariant-scan_map-loop-passed : goal.invariant-scan_map-loop-passed
+invariant-scan_map-loop-passed l =
+    Onward (note_from l.path l.level) (pairs_at l.s (item_at l.s l.depth) (l.n - l.passed) (least l.first l.last) l.p) l.heads
     (pairs_at l.s (item_at l.s l.depth) l.n 0 l.at) l.initial.heads × (l.at ≤ l.p)
-
-abbrev pub decreases-scan_map-loop-left : goal.decreases-scan_map-loop-left
-decreases-scan_map-loop-left l = l.left

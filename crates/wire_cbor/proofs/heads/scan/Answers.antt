@@ -1,23 +1,23 @@
 -- The item is all of the slice or it is not; what the pass left is then the words of its heads.
-use mathlib.Core.Path.{sym, ◌∙◌}
 use Rattle.wire_bytes.proofs.NumberLaws.{all_bytes}
-use Rattle.wire_cbor.proofs.PassSteps.{scan_taken, scan_refused}
+use Rattle.wire_cbor.proofs.PassSteps.{scan_taken, scan_refused, scan_longer}
 use Rattle.wire_cbor.proofs.heads.scan.Goals as goal
+use Rattle.wire_cbor.proofs.heads.scan.Goals.{in-Some+else-e-s, in_default}
 
-pub returns-then-is_whole : goal.returns-then-is_whole
-returns-then-is_whole c =
-    let h = scan_taken c.args.s.now (all_bytes c.args.s.now c.type_inv.s) c.args.path _ _ c.scan_root-e.ensures.value
-    c.is_whole.ensures c.if-is_whole.true _ c.scan_root-e.ensures.left in
-    record {
-      value = sym c.if-is_whole.true ∙ h.0;
-      heads_after = h.1;
-    }
+pub returns-then-e-s : goal.returns-then-e-s
+returns-then-e-s c =
+    let h = scan_taken c.args.s.now (all_bytes c.args.s.now c.type_inv.s) c.args.path _ c.scan_root.ensures.value _ c.in-Some.is
+    c.if-e-s.true _ c.scan_root.ensures.left in
+    record { value = h.0; heads_after = h.1 }
 
 pub returns : goal.returns
 returns c =
-    let h = scan_refused c.args.s.now (all_bytes c.args.s.now c.type_inv.s) c.args.path _ _
-    c.scan_root-e.ensures.value c.is_whole.ensures c.if-is_whole.false _ c.clear.ensures in
-    record {
-      value = sym c.if-is_whole.false ∙ h.0;
-      heads_after = h.1;
-    }
+    let s = c.args.s.now in
+    elim c.match-scan_root.branch [
+      | in-Some+else-e-s w ↦
+          let h = scan_longer s (all_bytes s c.type_inv.s) c.args.path _ c.scan_root.ensures.value _ w.in-Some.is w.if-e-s.false _ c.clear.ensures in
+          record { value = h.0; heads_after = h.1 }
+      | in_default w ↦
+          let h = scan_refused s (all_bytes s c.type_inv.s) c.args.path _ c.scan_root.ensures.value w.in_default.is _ c.clear.ensures in
+          record { value = h.0; heads_after = h.1 }
+    ]

@@ -1,24 +1,26 @@
--- What is left to walk finds what the whole walk finds. The measure is how many pairs are left.
-use mathlib.Core.Path.{◌∙◌}
+-- What is left to walk finds what the whole walk finds.
+use Prim.Native.Nat.{◌+◌, ◌-◌}
+use mathlib.Core.Path.{◌≡◌, ◌∙◌}
+use native.Mathlib.Omega.{arith}
 use Rattle.wire_cbor.proofs.WalkSteps.{walk-halt, walk-there, walk-past, walk_end}
 use Rattle.wire_cbor.proofs.pairs.seek.Goals as goal
 
 pub returns-in-Halt : goal.returns-in-Halt
 returns-in-Halt c =
-    c.stopping.ensures ∙ walk-halt c.args.s.now c.args.depth c.args.key c.loop-n.p c.loop-n.n c.loop-n-test.true _
-    c.look.ensures c.in-Halt.is ∙ c.loop-n.invariant
+    walk-halt c.args.s.now c.args.depth c.args.key c.loop-passed.p (c.args.left - c.loop-passed.passed) (λ z. omega arith) _
+    c.look.ensures c.in-Halt.is ∙ c.loop-passed.invariant
 
 pub returns-in-There : goal.returns-in-There
 returns-in-There c =
-    c.stopping-in-There.ensures ∙ walk-there c.args.s.now c.args.depth c.args.key c.loop-n.p c.loop-n.n c.loop-n-test.true _
-    c.look.ensures _ c.in-There.is ∙ c.loop-n.invariant
+    walk-there c.args.s.now c.args.depth c.args.key c.loop-passed.p (c.args.left - c.loop-passed.passed) (λ z. omega arith) _
+    c.look.ensures _ c.in-There.is ∙ c.loop-passed.invariant
 
-pub loop-n-preserved : goal.loop-n-preserved
-loop-n-preserved c =
-    walk-past c.args.s.now c.args.depth c.args.key c.loop-n.p c.loop-n.n c.loop-n-test.true _ c.look.ensures _
-    c.in-Past.is ∙ c.loop-n.invariant
+pub loop-passed-preserved : goal.loop-passed-preserved
+loop-passed-preserved c =
+    let less : c.args.left - (c.loop-passed.passed + 1) ≡ c.args.left - c.loop-passed.passed - 1 = omega arith in
+    rw less (walk-past c.args.s.now c.args.depth c.args.key c.loop-passed.p (c.args.left - c.loop-passed.passed) (λ z. omega arith) _ c.look.ensures _
+    c.in-Past.is ∙ c.loop-passed.invariant)
 
 pub returns : goal.returns
 returns c =
-    c.stopping-2.ensures ∙ walk_end c.args.s.now c.args.depth c.args.key c.loop-n.p c.loop-n.n
-    c.loop-n-test.false ∙ c.loop-n.invariant
+    walk_end c.args.s.now c.args.depth c.args.key c.loop-passed.p (c.args.left - c.loop-passed.passed) (omega arith) ∙ c.loop-passed.invariant

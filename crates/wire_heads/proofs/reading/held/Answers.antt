@@ -7,10 +7,10 @@ pub returns-then-s-at : goal.returns-then-s-at
 unfolding held_at
 returns-then-s-at c = rw (lt-leb _ _ c.if-s-at.true)
 
-pub returns-then-v-least : goal.returns-then-v-least
+pub returns-then-value-least : goal.returns-then-value-least
 unfolding held_at
-returns-then-v-least c = rw (le-leb _ _ c.if-s-at.false, ← c.number-v.ensures, lt-ltb _ _ c.if-v-least.true)
+returns-then-value-least c = rw (le-leb _ _ c.if-s-at.false, ← c.number-value.ensures, lt-ltb _ _ c.if-value-least.true)
 
 pub returns : goal.returns
 unfolding held_at
-returns c = rw (le-leb _ _ c.if-s-at.false, ← c.number-v.ensures, le-ltb _ _ c.if-v-least.false)
+returns c = rw (le-leb _ _ c.if-s-at.false, ← c.number-value.ensures, le-ltb _ _ c.if-value-least.false)

@@ -3,6 +3,7 @@ use native.Mathlib.Omega.{arith}
 use Prim.Native.Nat.{◌/◌, ◌+◌}
 use mathlib.Core.Path.{◌≡◌, refl, sym, ◌∙◌}
 use lib.ListN.{get_or}
+use Rattle.std.specs.Prelude.{Some, None}
 use Rattle.wire_heads.proofs.HeadSteps.{head-end, head_in, head-low, head-out, arg_low, in_simple, in_none}
 use Rattle.wire_heads.proofs.reading.read_head.Goals as goal
 
@@ -11,21 +12,26 @@ returns-then-s-at c = head-end c.args.s.now c.args.at c.if-s-at.true
 
 pub returns-then-major-le5 : goal.returns-then-major-le5
 returns-then-major-le5 c =
-    c.with_major.ensures ∙ head-low c.args.s.now c.args.at _ c.if-s-at.false refl c.if-major-le5.true _ (sym c.argument_of.ensures)
+    head-low c.args.s.now c.args.at _ c.if-s-at.false refl c.if-major-le5.true (Some _) (sym c.argument_of.ensures ∙ c.in_ok-arg.was)
 
-pub returns-then-first-le246 : goal.returns-then-first-le246
-returns-then-first-le246 c =
-    let seven : get_or c.args.s.now c.args.at 0 / 32 ≡ 7 = omega arith in
+pub returns-in_err-arg : goal.returns-in_err-arg
+returns-in_err-arg c =
+    c.from_residual.ensures ∙ head-low c.args.s.now c.args.at _ c.if-s-at.false refl c.if-major-le5.true None
+    (sym c.argument_of.ensures ∙ c.in_err-arg.was)
+
+pub returns-in-244-to-246 : goal.returns-in-244-to-246
+returns-in-244-to-246 c =
+    let seven : get_or c.args.s.now c.args.at 0 / 32 ≡ 7 = omega (arith, (c.type_inv.s c.args.at).fits) in
     rw seven at (head_in c.args.s.now c.args.at _ c.if-s-at.false refl
-    (in_simple _ c.if-major-le5.false (c.type_inv.s c.args.at).fits c.if-first-ge244.true c.if-first-le246.true) _
+    (in_simple _ c.if-major-le5.false (c.type_inv.s c.args.at).fits (omega arith) (omega arith)) _
     (arg_low c.args.s.now (c.args.at + 1) _ (omega arith)))
 
-pub returns-else-first-le246 : goal.returns-else-first-le246
-returns-else-first-le246 c =
+pub returns-in_default : goal.returns-in_default
+returns-in_default c =
     head-out c.args.s.now c.args.at _ c.if-s-at.false refl
     (in_none _ c.if-major-le5.false (c.type_inv.s c.args.at).fits (λ g h. omega arith))
 
-pub returns-else-first-ge244 : goal.returns-else-first-ge244
-returns-else-first-ge244 c =
+pub returns-in_default-2 : goal.returns-in_default-2
+returns-in_default-2 c =
     head-out c.args.s.now c.args.at _ c.if-s-at.false refl
     (in_none _ c.if-major-le5.false (c.type_inv.s c.args.at).fits (λ g h. omega arith))
