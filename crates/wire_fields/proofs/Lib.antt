@@ -1,4 +1,5 @@
 -- What the proofs of several functions use, and the laws that callers cite.
+pub mod Given
 pub mod Joined
 pub mod Signs
 pub mod ByKeyHead
@@ -7,5 +8,3 @@ pub mod Parts
 pub mod Added
 pub mod PhaseLaws
 pub mod OnlyLaws
--- What the proofs of several functions use, and the laws of signs that callers cite.
-pub mod ValueSigns
