@@ -7,4 +7,5 @@ pub mod RangeLaws
 pub mod Parts
 pub mod Added
 pub mod PhaseLaws
+pub mod BySeen
 pub mod OnlyLaws

@@ -24,6 +24,11 @@ abbrev pub given : {X : Type 0} → Prelude.Option X → Option X
 given (Some x) = some x
 given None = none
 
+-- one answer, then the rest
+abbrev pub and_then : {X Y : Type 0} → Prelude.Option X → (X → Prelude.Option Y) → Prelude.Option Y
+and_then (Some x) f = f x
+and_then None f = None
+
 -- of every field that is seen as k, f makes that answer
 unfoldable pub Gives : {X : Type 0} → KeyHead → (Option Item → Option X) → Prelude.Option X → Type 0
 Gives k f r = (o : Option Item) → k ≡ key_head_of o → f o ≡ given r
