@@ -114,12 +114,10 @@ fn show_field<W: Write>(output: &mut W, field: Field) -> io::Result<()> {
 
 // Shows an integer by its head.
 fn show_int<W: Write>(output: &mut W, major: u64, arg: u64) -> io::Result<()> {
-    let value = wire_fields::read_value(KeyHead { major, arg }, false);
-    let field = value.field;
-    if value.ok {
-        return show_field(output, field);
+    match wire_fields::read_value(KeyHead { major, arg }, false) {
+        Some(field) => show_field(output, field),
+        None => text(output, b" out of range"),
     }
-    text(output, b" out of range")
 }
 
 // n + 1, where there is one.

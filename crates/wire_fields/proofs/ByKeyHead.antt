@@ -11,7 +11,6 @@ use borrow.Author.Tests.{eqb-true, le-ltb}
 use Rattle.wire_cbor.specs.Item.{Item}
 use Rattle.wire_cbor.specs.Scan.{key_head_of, pairs_in}
 use Rattle.wire_cbor.specs.declared.heads.KeyHead.{KeyHead}
-use Rattle.wire_messages.specs.Options.{Amount}
 use Rattle.wire_fields.specs.Fields.{number_up_to, truth, map_in, needed, optional, amount_in, only_true, success_in}
 use Rattle.wire_fields.specs.Ranges.{up_to_most}
 use Rattle.wire_fields.specs.KeyHeads.{found, Reads, UintReads, MapReads, number_seen, amount_of}
@@ -76,8 +75,8 @@ truth-key_head (some (Item.array is)) = refl
 truth-key_head (some (Item.map m)) = refl
 truth-key_head (some (Item.simple v)) = truth-of v (eqb v 20) (eqb v 21) refl refl
 
-pub truth-reads : (k : KeyHead) (r : Bool) → r ≡ (eqb k.major 7 && (eqb k.arg 20 || eqb k.arg 21)) → Reads k (needed truth) r (eqb k.arg 21)
-truth-reads = reads-by _ (λ k. eqb k.major 7 && (eqb k.arg 20 || eqb k.arg 21)) (λ k. eqb k.arg 21) truth-key_head
+pub truth_reads : (k : KeyHead) (r : Bool) → r ≡ (eqb k.major 7 && (eqb k.arg 20 || eqb k.arg 21)) → Reads k (needed truth) r (eqb k.arg 21)
+truth_reads = reads-by _ (λ k. eqb k.major 7 && (eqb k.arg 20 || eqb k.arg 21)) (λ k. eqb k.arg 21) truth-key_head
 
 success_of : (m a b : Bool) → bind (found (m && (a || b)) b) only_true ≡ found (m && b) true
 unfolding bind

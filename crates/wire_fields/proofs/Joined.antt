@@ -1,5 +1,5 @@
 -- Joined tests taken apart. Assumes nothing.
-use Prim.Native.Nat.{ℕ, ◌≤◌}
+use Prim.Native.Nat.{ℕ}
 use mathlib.Core.Path.{◌≡◌, refl, sym, ap, ◌∙◌}
 use mathlib.Core.Bool.{Bool, true, false, not, ◌&&◌, ◌||◌}
 use mathlib.Core.Option.{Option, some, none}
@@ -20,11 +20,6 @@ and_left false b e = absurd (no_both (sym e))
 pub and_right : (a b : Bool) → (a && b) ≡ true → b ≡ true
 and_right true b e = e
 and_right false b e = absurd (no_both (sym e))
-
--- a joined test that fails, by its first part
-pub and-false : (a b : Bool) → (a && b) ≡ false → (a ≡ false → ⊥) → b ≡ false
-and-false true b e n = e
-and-false false b e n = absurd (n refl)
 
 pub or_left : (a b : Bool) → (a || b) ≡ false → a ≡ false
 or_left true b e = e
@@ -49,7 +44,3 @@ is-some none e = absurd (let z : ◌≡◌ {A = ℕ} 0 1 = cc in omega arith)
 pub is_none : {X : Type 0} (o : Option X) → is_some o ≡ false → o ≡ none
 is_none (some x) e = absurd (let z : ◌≡◌ {A = ℕ} 0 1 = cc in omega arith)
 is_none none e = refl
-
--- the last of the commands 1 to 4
-pub four : (c : ℕ) → (c ≡ 1 → ⊥) → (c ≡ 2 → ⊥) → (c ≡ 3 → ⊥) → 1 ≤ c → c ≤ 4 → c ≡ 4
-four c a b d x y = omega (arith, a, b, d)

@@ -1,4 +1,5 @@
 -- What the proofs of several functions use, and the laws that callers cite.
+pub mod Given
 pub mod Joined
 pub mod Signs
 pub mod ByKeyHead
@@ -6,6 +7,5 @@ pub mod RangeLaws
 pub mod Parts
 pub mod Added
 pub mod PhaseLaws
+pub mod BySeen
 pub mod OnlyLaws
--- What the proofs of several functions use, and the laws of signs that callers cite.
-pub mod ValueSigns

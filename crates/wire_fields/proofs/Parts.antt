@@ -10,8 +10,6 @@ use Rattle.wire_cbor.specs.Item.{Item, Pairs}
 use Rattle.wire_cbor.specs.Find.{value_of}
 use Rattle.wire_cbor.specs.Scan.{KEYS, LEVELS, key_head_of, map_at, key_head_at}
 use Rattle.wire_cbor.proofs.Passes.{key_head_exact}
-use Rattle.wire_messages.specs.Options.{Amount}
-use Rattle.wire_messages.specs.Options.{Aim}
 use Rattle.wire_fields.specs.Fields.{number_up_to, optional, aim_in, amount_in}
 use Rattle.wire_fields.specs.KeyHeads.{found, aim_of, Shown}
 use Rattle.wire_fields.proofs.ByKeyHead.{map_found}

@@ -1,4 +1,5 @@
 -- A map of phases, from what is seen of it, and as the bytes that are put. Assumes nothing.
+use Rattle.std.specs.Prelude
 use Prim.Native.Nat.{ℕ, ◌+◌, ◌≤◌}
 use mathlib.Core.Path.{◌≡◌, refl, sym, ap, ◌∙◌}
 use mathlib.Core.Bool.{Bool, true, false, cond, ◌&&◌}
@@ -6,6 +7,7 @@ use mathlib.Core.List.{List, [], ◌∷◌, ◌++◌, append_assoc}
 use mathlib.Core.Option.{Option, some, none, bind}
 use native.Mathlib.Omega.{arith}
 use lib.Dec.{ltb, eqb}
+use Rattle.std.specs.Bool.{then_some}
 use Rattle.wire_bytes.specs.Bytes.{put_whole, past_whole}
 use Rattle.wire_cbor.specs.Item.{Item, Pairs, encode_pairs, count_pairs, is_some}
 use Rattle.wire_cbor.specs.Find.{value_of}
@@ -13,11 +15,14 @@ use Rattle.wire_cbor.specs.Scan.{key_head_of, pairs_in}
 use Rattle.wire_cbor.specs.declared.heads.KeyHead.{KeyHead}
 use Rattle.wire_fields.specs.Fields.{map_in, needed, present}
 use Rattle.wire_fields.specs.Ranges.{numeric}
+use Rattle.wire_fields.specs.Seen.{numeric_seen, phases_seen}
 use Rattle.wire_fields.specs.Puts.{Puts, PutsField, pair_bytes, field_bytes, key_head_bytes, pairs_of, pair_pieces, key_head_pieces, put_each, past_each}
 use Rattle.wire_fields.specs.KeyHeads.{found, Tells}
 use Rattle.wire_fields.specs.ByPhase.{seen_of, phases_named, only_phases, each_phase, by_phase, phases_fit, PhasesTell, PhasesRead, phase_fields, phase_map, phases_bytes, phases_room, PutsPhases}
 use Rattle.wire_fields.specs.Laws.{phase_key_head, ByRange, PhasesByRange}
 use Rattle.wire_fields.specs.declared.ranges.Range.{Range}
+use Rattle.wire_fields.proofs.Given.{given_found}
+use Rattle.wire_fields.proofs.RangeLaws.{number_tells}
 use Rattle.wire_fields.proofs.Parts.{then, last}
 use Rattle.wire_fields.proofs.Added.{Flat, flat-bytes, under-key, fields_more, fields_one, count-more, count_none, puts_more, puts_same}
 
@@ -84,23 +89,26 @@ phases-by_range X Y g null f x join by o =
     (then (x (phase_key_head o 0)) y _ (n 0) (n 1 && n 2) (by (value_of ps 0)) (then (x (phase_key_head o 1)) y _ (n 1) (n 2) (by (value_of ps 1)) (last (x (phase_key_head o 2)) _ (n 2) (by (value_of ps 2)))))
 
 -- the one test, by what is seen
-module _ (g : Range) (null : Bool) (k a b c : KeyHead) (ta tb tc : Bool)
-    (at : Tells a (numeric g null) ta) (bt : Tells b (numeric g null) tb) (ct : Tells c (numeric g null) tc) where
-  pub phases-tell : (t : Bool) → t ≡ (eqb k.major 5 && eqb k.arg (seen_of a + (seen_of b + seen_of c))) → (r : Bool) → r ≡ (t && (ta && (tb && tc)))
-      → PhasesTell k a b c (phases_fit g null) r
+module _ (g : Range) (null : Bool) (k a b c : KeyHead) where
+  pub phases_seen_tell : (r : Bool) → r ≡ phases_seen g null k a b c → PhasesTell k a b c (phases_fit g null) r
   unfolding PhasesTell Tells phases_fit phases_named
-  phases-tell t te r e o ke ae be ce =
+  phases_seen_tell r e o ke ae be ce =
+      let t : Bool = eqb k.major 5 && eqb k.arg (seen_of a + (seen_of b + seen_of c)) in
+      let at : numeric g null (value_of (pairs_in o) 0) ≡ numeric_seen g null a = number_tells g null a _ refl _ ae in
+      let bt : numeric g null (value_of (pairs_in o) 1) ≡ numeric_seen g null b = number_tells g null b _ refl _ be in
+      let ct : numeric g null (value_of (pairs_in o) 2) ≡ numeric_seen g null c = number_tells g null c _ refl _ ce in
       let p : (j : ℕ) → seen_of (phase_key_head o j) ≡ pairs_of (value_of (pairs_in o) j) = λ (j : ℕ). seen-pairs (value_of (pairs_in o) j) in
       let n : seen_of a + (seen_of b + seen_of c) ≡ phases_named (pairs_in o) = rw (ae, be, ce, p 0, p 1, p 2) refl in
-      let q : t ≡ (is_some (needed map_in o) && only_phases (pairs_in o)) = te ∙ rw (n, ke) (sym (map-seen o)) in
-      rw (at _ ae, bt _ be, ct _ ce, e, q) (sym (and-and (is_some (needed map_in o)) (only_phases (pairs_in o)) (ta && (tb && tc))))
+      let q : (is_some (needed map_in o) && only_phases (pairs_in o)) ≡ t = map-seen o ∙ rw (← n, ← ke) refl in
+      rw (at, bt, ct, e, ← q) (sym (and-and (is_some (needed map_in o)) (only_phases (pairs_in o)) (numeric_seen g null a && (numeric_seen g null b && numeric_seen g null c))))
 
 -- what a reader makes of the phases, by the one test
 module _ {X Y : Type 0} (g : Range) (null : Bool) (f : Option Item → Option X) (x : KeyHead → X) (join : X → X → X → Y) (by : ByRange g null f x) (k a b c : KeyHead) where
-  pub phases-read : (r : Bool) → PhasesTell k a b c (phases_fit g null) r → (u v w : X) → u ≡ x a → v ≡ x b → w ≡ x c → PhasesRead k a b c (by_phase f join) r (join u v w)
+  pub phases-read : (t : Bool) → PhasesTell k a b c (phases_fit g null) t → (u v w : X) → u ≡ x a → v ≡ x b → w ≡ x c
+      → (r : Prelude.Option Y) → r ≡ then_some t (join u v w) → PhasesRead k a b c (by_phase f join) r
   unfolding PhasesTell PhasesRead
-  phases-read r h u v w ue ve we o ke ae be ce =
-      phases-by_range X Y g null f x join by o ∙ rw (h o ke ae be ce, ue, ve, we, ae, be, ce) refl
+  phases-read t h u v w ue ve we r re o ke ae be ce =
+      phases-by_range X Y g null f x join by o ∙ rw (h o ke ae be ce, re, ue, ve, we, ae, be, ce) (given_found t _)
 
 -- WRITING
 -- pieces behind pieces

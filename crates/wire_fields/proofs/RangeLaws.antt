@@ -14,7 +14,6 @@ use Rattle.wire_cbor.specs.Item.{Item, is_some}
 use Rattle.wire_cbor.specs.Scan.{key_head_of}
 use Rattle.wire_cbor.specs.declared.heads.KeyHead.{KeyHead}
 use Rattle.wire_messages.specs.declared.Field.{Field}
-use Rattle.wire_messages.specs.Options.{Amount}
 use Rattle.wire_fields.specs.Fields.{number_up_to, in_range, signed, optional, value_in, amount_in}
 use Rattle.wire_fields.specs.Ranges.{within, when_within, signed_bits, number_in, is_null, numeric}
 use Rattle.wire_fields.specs.KeyHeads.{found, Reads, Tells, field_of, amount_of}
@@ -153,9 +152,9 @@ numeric-seen g null (some (Item.array is)) = refl
 numeric-seen g null (some (Item.map ps)) = refl
 numeric-seen g null (some (Item.simple v)) = refl
 
-pub number-tells : (g : Range) (null : Bool) (k : KeyHead) (r : Bool) → r ≡ numeric_seen g null k → Tells k (numeric g null) r
+pub number_tells : (g : Range) (null : Bool) (k : KeyHead) (r : Bool) → r ≡ numeric_seen g null k → Tells k (numeric g null) r
 unfolding Tells
-number-tells g null k r e o q = numeric-seen g null o ∙ ap (numeric_seen g null) (sym q) ∙ sym e
+number_tells g null k r e o q = numeric-seen g null o ∙ ap (numeric_seen g null) (sym q) ∙ sym e
 
 pub value_reads : (null : Bool) (k : KeyHead) (r : Bool) → Tells k (numeric (signed_bits 64) null) r → (f : Field) → f ≡ field_of k → Reads k (value_in null) r f
 unfolding Tells Reads

@@ -1,5 +1,6 @@
 -- Signed numbers as they are written: n, and -1 - n. Assumes nothing.
-use Prim.Native.Nat.{ℕ, suc, ◌<◌, ◌^◌}
+use Prim.Native.Nat.{ℕ, zero, suc, ◌<◌, ◌^◌}
+use native.Mathlib.Nat.{zero-add}
 use mathlib.Core.Path.{◌≡◌, refl, sym, ap, subst, ◌∙◌}
 use mathlib.Core.Bool.{true, false}
 use native.Mathlib.Omega.{arith}
@@ -7,14 +8,21 @@ use lib.Dec.{T}
 use lib.IntN.{ℤ, pos, negsuc, nat_abs, ◌-ℤ◌}
 use lib.Signed.{lt_z, non_neg}
 use borrow.Author.Tests.{ltb-true, le-ltb}
-use mir.Val.{Fits, SFits}
+use mir.Val.{Fits, SFits, to_z, of_z}
 use mir.ValLaws.{to_z-of_z}
 use mir.Syntax.{w64}
 use Rattle.wire_cbor.specs.Item.{Item}
-use Rattle.wire_fields.proofs.ValueSigns.{again, minus_one}
 use Rattle.wire_fields.specs.Laws.{MinusOneMinus}
 use Rattle.wire_fields.specs.Fields.{int_item}
 use Rattle.wire_fields.proofs.Joined.{no_both}
+
+-- z as 64 bits, and back
+abbrev pub again : ℤ → ℤ
+again z = to_z w64 (of_z w64 z)
+
+pub minus_one : (n : ℕ) → negsuc n ≡ negsuc 0 -ℤ pos n
+minus_one zero = refl
+minus_one (suc n) = ap (λ (k : ℕ). negsuc (suc k)) (sym (zero-add n))
 
 pub minus_one-minus : MinusOneMinus
 minus_one-minus n = minus_one n

@@ -1,4 +1,5 @@
 -- A map from phases, A 0, B 1 and C 2, to values: read, and written. Assumes nothing: these are definitions.
+use Rattle.std.specs.Prelude
 use Rattle.std.specs.Prelude.{ℕ, ◌+◌, ◌*◌, ◌≡◌, Bool, true, cond, ◌&&◌, List, [], ◌∷◌, ◌++◌, ltb, eqb}
 use Rattle.std.proofs.Math.Option.{Option, some, none, bind}
 use Rattle.wire_cbor.specs.Item.{Item, Pairs, count_pairs, is_some}
@@ -12,7 +13,7 @@ use Rattle.wire_messages.specs.declared.CurrentResult.{CurrentResult}
 use Rattle.wire_fields.specs.Fields.{map_in, needed, value_in, amount_in, value_item, amount_item, Fields, present}
 use Rattle.wire_fields.specs.Ranges.{numeric}
 use Rattle.wire_fields.specs.Puts.{Puts, pair_room, pairs_of, key_head_bytes, key_head_pieces, put_each, past_each}
-use Rattle.wire_fields.specs.KeyHeads.{found}
+use Rattle.wire_fields.specs.KeyHeads.{given}
 use Rattle.wire_fields.specs.declared.ranges.Range.{Range}
 
 -- READING
@@ -68,10 +69,10 @@ PhasesTell k a b c f r =
     → f o ≡ r
 
 -- of every field that is seen as k, its phases as a, b and c, f makes that answer
-unfoldable pub PhasesRead : {Y : Type 0} → KeyHead → KeyHead → KeyHead → KeyHead → (Option Item → Option Y) → Bool → Y → Type 0
-PhasesRead k a b c f ok y =
+unfoldable pub PhasesRead : {Y : Type 0} → KeyHead → KeyHead → KeyHead → KeyHead → (Option Item → Option Y) → Prelude.Option Y → Type 0
+PhasesRead k a b c f r =
     (o : Option Item) → k ≡ key_head_of o → a ≡ key_head_of (value_of (pairs_in o) 0) → b ≡ key_head_of (value_of (pairs_in o) 1) → c ≡ key_head_of (value_of (pairs_in o) 2)
-    → f o ≡ found ok y
+    → f o ≡ given r
 
 -- WRITING
 -- the fields of a map of phases

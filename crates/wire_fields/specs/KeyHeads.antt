@@ -1,4 +1,5 @@
 -- What the readers make of a field, told by what is seen of it. Assumes nothing: these are definitions.
+use Rattle.std.specs.Prelude
 use Rattle.std.specs.Prelude.{ℕ, ◌≡◌, Bool, true, false, cond, ◌&&◌, List, ltb, leb, eqb, None, Some}
 use Rattle.std.proofs.Math.Option.{Option, some, none}
 use Rattle.wire_cbor.specs.Item.{Item, Pairs}
@@ -15,7 +16,24 @@ use Rattle.wire_fields.specs.declared.ranges.Range.{Range}
 abbrev pub found : {X : Type 0} → Bool → X → Option X
 found ok x = cond ok (some x) none
 
+-- the same as the code answers it, and as the definitions do
+abbrev pub when_ok : {X : Type 0} → Bool → X → Prelude.Option X
+when_ok ok x = cond ok (Some x) None
+
+abbrev pub given : {X : Type 0} → Prelude.Option X → Option X
+given (Some x) = some x
+given None = none
+
+-- one answer, then the rest
+abbrev pub and_then : {X Y : Type 0} → Prelude.Option X → (X → Prelude.Option Y) → Prelude.Option Y
+and_then (Some x) f = f x
+and_then None f = None
+
 -- of every field that is seen as k, f makes that answer
+unfoldable pub Gives : {X : Type 0} → KeyHead → (Option Item → Option X) → Prelude.Option X → Type 0
+Gives k f r = (o : Option Item) → k ≡ key_head_of o → f o ≡ given r
+
+-- the same of a test and what is made of the head
 unfoldable pub Reads : {X : Type 0} → KeyHead → (Option Item → Option X) → Bool → X → Type 0
 Reads k f ok x = (o : Option Item) → k ≡ key_head_of o → f o ≡ found ok x
 
@@ -46,5 +64,5 @@ unfoldable pub Shown : List ℕ → ℕ → Pairs → Type 0
 Shown ws path ps = ws ≡ words_of (key_heads_along LEVELS path ps)
 
 -- of every map seen at a level, f makes that answer
-unfoldable pub Inside : {X : Type 0} → List ℕ → ℕ → (Pairs → Option X) → Bool → X → Type 0
-Inside ws level f ok x = (path : ℕ) (ps : Pairs) → Shown ws path ps → f (map_at level path ps) ≡ found ok x
+unfoldable pub Inside : {X : Type 0} → List ℕ → ℕ → (Pairs → Option X) → Prelude.Option X → Type 0
+Inside ws level f r = (path : ℕ) (ps : Pairs) → Shown ws path ps → f (map_at level path ps) ≡ given r

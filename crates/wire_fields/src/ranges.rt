@@ -4,7 +4,7 @@ ghost use Rattle.wire_fields.specs.Ranges.{up_to_most, numeric};
 ghost use Rattle.wire_fields.specs.KeyHeads.{number_seen, Tells};
 ghost use Rattle.wire_fields.specs.Seen.{numeric_seen};
 
-use crate::truths::{all3, both, either};
+use crate::{NINT, NOTHING, NULL, SIMPLE, UINT};
 use wire_cbor::KeyHead;
 
 // Whole numbers: n is one of them where it is at most `high`, -1 - n where n is below `below`.
@@ -34,19 +34,23 @@ pub fn up_to(most: u64) -> Range
 pub fn is_in(k: KeyHead, range: Range) -> bool
     ensures { result ≡ number_seen range k }
 {
-    if k.major == 0 {
-        return k.arg <= range.high;
+    match k.major {
+        UINT => k.arg <= range.high,
+        NINT => k.arg < range.below,
+        _ => false,
     }
-    both(k.major == 1, k.arg < range.below)
 }
 
 // The same, or nothing, or null where that is allowed.
+#[tactic(auto, using(crate::proofs::RangeLaws::number_tells))]
 pub fn is_number(k: KeyHead, range: Range, null: bool) -> bool
     ensures tells { Tells k (numeric range null) result }
     ensures value { result ≡ numeric_seen range null k }
 {
-    if k.major < 2 {
-        return is_in(k, range);
+    match k.major {
+        UINT | NINT => is_in(k, range),
+        SIMPLE => null && k.arg == NULL,
+        NOTHING => true,
+        _ => false,
     }
-    either(k.major == 8, all3(null, k.major == 7, k.arg == 22))
 }

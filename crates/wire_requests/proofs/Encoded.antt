@@ -1,7 +1,9 @@
 -- The bytes of requests, from their parts. Assumes nothing.
 use Prim.Native.Nat.{ℕ, ◌+◌, ◌≤◌}
-use mathlib.Core.Path.{◌≡◌}
-use mathlib.Core.List.{◌++◌, append_assoc}
+use Rattle.std.specs.Prelude.{None, Some}
+use mathlib.Core.Path.{◌≡◌, refl}
+use mathlib.Core.List.{[], ◌∷◌, ◌++◌, append_assoc}
+use mathlib.Core.Logic.{◌⊎◌, inl, inr}
 use mathlib.Core.Option.{some}
 use native.Mathlib.Omega.{arith}
 use Rattle.wire_heads.specs.Head.{head_bytes}
@@ -9,8 +11,10 @@ use Rattle.wire_cbor.specs.Item.{Item, encode, encode_pairs, count_pairs}
 use Rattle.wire_messages.specs.Numbers.{wire_number}
 use Rattle.wire_messages.specs.Options.{Amount}
 use Rattle.wire_messages.specs.declared.CurrentLimits.{CurrentLimits}
+use Rattle.wire_messages.specs.Options.{Aim}
+use Rattle.wire_messages.specs.declared.Command.{Command}
 use Rattle.wire_messages.specs.declared.Request.{Request}
-use Rattle.wire_fields.specs.Fields.{present, value_item, amount_item}
+use Rattle.wire_fields.specs.Fields.{present, value_item, aim_item, amount_item}
 use Rattle.wire_fields.specs.ByPhase.{phases_item}
 use Rattle.wire_requests.specs.WrittenSettings.{duration_amount, setting_fields, current_limit_fields}
 use Rattle.wire_messages.specs.declared.set_parameters.Setting.{Setting}
@@ -43,6 +47,18 @@ module _ (l : CurrentLimits) (a : Amount) (e : a ≡ duration_amount l.duration)
       ≡ encode_pairs (present (current_limit_fields l))
   unfolding current_limit_fields
   current-limits_bytes = rw (← e, fields_more, fields_more, fields_more, fields_one) (simp append_assoc)
+
+-- a direction that a clear names is written as an amount
+aim-amount : (a : Aim) → aim_item a ≡ amount_item a
+unfolding aim_item amount_item
+aim-amount None = refl
+aim-amount (Some d) = refl
+
+pub clear_is : (c : Command) (a : Aim) → (c ≡ Command.ClearLimit a) ⊎ ((c ≡ Command.ClearSetpoint a) ⊎ (c ≡ Command.ClearCurrentLimits a)) → command_fields c ≡ (1, amount_item a) ∷ []
+unfolding command_fields
+clear_is c a (inl e) = rw (e, aim-amount a) refl
+clear_is c a (inr (inl e)) = rw (e, aim-amount a) refl
+clear_is c a (inr (inr e)) = rw (e, aim-amount a) refl
 
 module _ (r : Request) where
   pub request_bytes : (n k : ℕ) → k ≡ wire_number r.command → n ≡ count_pairs (present (command_fields r.command))

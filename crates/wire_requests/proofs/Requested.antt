@@ -1,5 +1,7 @@
 -- A request, from its parts. Assumes nothing.
-use Prim.Native.Nat.{ℕ, ◌<◌}
+use Rattle.std.specs.Prelude
+use Rattle.std.specs.Prelude.{None, Some}
+use Prim.Native.Nat.{ℕ}
 use mathlib.Core.Path.{◌≡◌, refl, sym, ap, ◌∙◌}
 use mathlib.Core.Bool.{Bool, true, false, cond, ◌&&◌}
 use mathlib.Core.List.{List}
@@ -7,174 +9,132 @@ use mathlib.Core.Option
 use mathlib.Core.Option.{Option, some, none, bind}
 use native.Mathlib.Omega.{arith}
 use lib.Dec.{eqb}
-use borrow.Author.Tests.{eq-eqb, ne_eqb}
+use borrow.Author.Tests.{eqb-true, ne_eqb}
 use Rattle.wire_cbor.specs.Item.{Item, Pairs, payload_of, is_some}
 use Rattle.wire_cbor.specs.Find.{value_of}
-use Rattle.wire_cbor.specs.Scan.{KEYS, LEVELS, key_head_of, pairs_in, followed, map_at, key_heads_of, words_of, key_head_at}
-use Rattle.wire_cbor.specs.declared.heads.KeyHead.{KeyHead}
+use Rattle.wire_cbor.specs.Scan.{pairs_in, followed, map_at, key_heads_of, words_of, key_head_at}
 use Rattle.wire_messages.specs.Options.{Aim}
-use Rattle.wire_messages.specs.Options.{Amount}
-use Rattle.wire_messages.specs.declared.Limits.{Limits}
-use Rattle.wire_messages.specs.declared.Setpoints.{Setpoints}
+use Rattle.wire_messages.specs.declared.set_parameters.Setting.{Setting}
+use Rattle.wire_messages.specs.declared.CurrentLimits.{CurrentLimits}
 use Rattle.wire_messages.specs.declared.Command.{Command}
-use Rattle.wire_prefix.specs.Prefix.{framed, payload_in}
-use Rattle.wire_fields.specs.Fields.{map_in, needed, most32, value_in, aim_in}
-use Rattle.wire_fields.specs.ByPhase.{phases_in, PhasesRead}
-use Rattle.wire_requests.specs.Settings.{setting_in, duration_of, limits_from, setpoints_from, current_limits_in}
-use Rattle.wire_requests.specs.Requests.{envelope_in, command_in, from_envelope, from_payload, read_request}
 use Rattle.wire_messages.specs.Numbers.{served_at, served_command}
-use Rattle.wire_fields.specs.KeyHeads.{Reads, UintReads, MapReads, amount_of, aim_of, Shown, Inside}
-use Rattle.wire_requests.specs.KeyHeads.{EnvelopeReads, CurrentLimitsRead, CommandReads, ClearReads, MessageReads, parameters_from, parameters_path}
-use Rattle.wire_fields.specs.declared.readers.Value.{Value}
-use Rattle.wire_fields.specs.declared.phases.Fields.{Fields}
+use Rattle.wire_prefix.specs.Prefix.{framed, payload_in}
+use Rattle.wire_fields.specs.Fields.{map_in, needed, most32, aim_in, amount_in}
+use Rattle.wire_fields.specs.KeyHeads.{found, given, and_then, Reads, UintReads, MapReads, Shown, Inside}
+use Rattle.wire_fields.specs.Seen.{uint_seen, map_seen}
+use Rattle.wire_requests.specs.Settings.{setting_in, limits_from, setpoints_from, current_limits_in}
+use Rattle.wire_requests.specs.Requests.{Envelope, with_command, envelope_in, command_in, from_envelope, from_payload, read_request}
+use Rattle.wire_requests.specs.KeyHeads.{EnvelopeReads, CurrentLimitsRead, CommandReads, ClearReads, MessageReads, parameters_from, parameters_path, clear_of}
+use Rattle.wire_requests.specs.KeyHeads.{envelope_of}
+use Rattle.wire_requests.specs.Seen.{envelope_seen, setting_seen, current_limits_seen, clear_seen, command_seen, request_seen, message_seen}
 use Rattle.wire_requests.specs.declared.reading.Reading.{Reading}
-use Rattle.wire_requests.specs.declared.reading.Set.{Set}
-use Rattle.wire_requests.specs.declared.reading.CurrentSet.{CurrentSet}
-use Rattle.wire_requests.specs.declared.reading.Parameters.{Parameters}
 use Rattle.wire_fields.proofs.Joined.{is-some, is_none, via}
-use Rattle.wire_fields.proofs.Parts.{shown, top, then, last, mapped, aim_amount}
+use Rattle.wire_fields.proofs.ByKeyHead.{uint_reads, map-reads}
+use Rattle.wire_fields.proofs.BySeen.{bind_given, value_at, uint_at, amount_at, phases_at}
+use Rattle.wire_fields.proofs.Parts.{shown, top, then, last}
 
+-- an answer kept as F makes it
+map_given : {X Y : Type 0} (F : X → Y) (r : Prelude.Option X) → Option.map F (given r) ≡ given (and_then r (λ x. Some (F x)))
+map_given F (Some x) = refl
+map_given F None = refl
+
+given_again : (r : Prelude.Option Command) → r ≡ parameters_from (given r)
+given_again (Some c) = refl
+given_again None = refl
+
+-- a command, from its parameters
+module _ (c : ℕ) (m : Pairs) (s t : Prelude.Option Setting) (l : Prelude.Option CurrentLimits) (a : Prelude.Option Aim)
+    (se : setting_in true m ≡ given s) (te : setting_in false m ≡ given t) (le : current_limits_in m ≡ given l) (ae : aim_in (value_of m 1) ≡ given a) where
+  abbrev made : Prelude.Option Command
+  made =
+      cond (eqb c 1) (and_then s (λ x. Some (Command.SetLimit (limits_from x))))
+      (cond (eqb c 3) (and_then t (λ x. Some (Command.SetSetpoint (setpoints_from x))))
+      (cond (eqb c 5) (and_then l (λ x. Some (Command.SetCurrentLimits x))) (and_then a (λ x. Some (clear_of c x)))))
+
+  command_made : command_in c m ≡ given made
+  unfolding command_in
+  command_made = go (eqb c 1) (eqb c 2) (eqb c 3) (eqb c 4) (eqb c 5) refl refl refl refl refl where
+    go : (p q r u v : Bool) → eqb c 1 ≡ p → eqb c 2 ≡ q → eqb c 3 ≡ r → eqb c 4 ≡ u → eqb c 5 ≡ v → command_in c m ≡ given made
+    go true q r u v pe qe re ue ve = rw (pe, se) (map_given _ s)
+    go false true r u v pe qe re ue ve = let e = eqb-true c 2 qe in rw (pe, qe, ne_eqb c 3 (λ z. omega arith), ne_eqb c 5 (λ z. omega arith), ae) (map_given _ a)
+    go false false true u v pe qe re ue ve = rw (pe, qe, re, te) (map_given _ t)
+    go false false false true v pe qe re ue ve = let e = eqb-true c 4 ue in rw (pe, qe, re, ue, ne_eqb c 5 (λ z. omega arith), ae) (map_given _ a)
+    go false false false false true pe qe re ue ve = rw (pe, qe, re, ue, ve, le) (map_given _ l)
+    go false false false false false pe qe re ue ve = rw (pe, qe, re, ue, ve, ae) (map_given _ a)
+
+-- BY WHAT IS SEEN: each reader is that of the definition
 module _ (ws : List ℕ) where
-  -- THE ENVELOPE
-  module _ (a b c d e : KeyHead) (ae : a ≡ key_head_at ws 0 1) (be : b ≡ key_head_at ws 0 2) (ce : c ≡ key_head_at ws 0 3) (de : d ≡ key_head_at ws 0 4) (ee : e ≡ key_head_at ws 0 5)
-      (p q r s t : Bool) (pr : UintReads a true most32 p) (qr : UintReads b true 255 q)
-      (rr : UintReads c true 65535 r) (sr : UintReads d true 65535 s) (tr : MapReads e t) where
-    pub envelope_reads : (ok : Bool) → ok ≡ (p && (q && (r && (s && t)))) → EnvelopeReads ws ok
-    unfolding EnvelopeReads envelope_in UintReads Reads MapReads
-    envelope_reads ok y path ps h =
-        rw (y, ← ae, ← be, ← ce, ← de)
-        (then a.arg _ _ p _ (pr _ (ae ∙ top ws path ps h 1 (omega arith)))
-        (then b.arg _ _ q _ (qr _ (be ∙ top ws path ps h 2 (omega arith)))
-        (then c.arg _ _ r _ (rr _ (ce ∙ top ws path ps h 3 (omega arith)))
-        (then d.arg _ _ s _ (sr _ (de ∙ top ws path ps h 4 (omega arith)))
-        (last (pairs_in (value_of ps 5)) _ t (tr _ (ee ∙ top ws path ps h 5 (omega arith))))))))
+  pub envelope_reads : EnvelopeReads ws (envelope_seen ws)
+  unfolding EnvelopeReads envelope_in envelope_seen uint_seen map_seen UintReads Reads MapReads
+  envelope_reads path ps h =
+      then (key_head_at ws 0 1).arg _ _ _ _ (uint_reads true most32 (key_head_at ws 0 1) _ refl _ (top ws path ps h 1 (omega arith)))
+      (then (key_head_at ws 0 2).arg _ _ _ _ (uint_reads true 255 (key_head_at ws 0 2) _ refl _ (top ws path ps h 2 (omega arith)))
+      (then (key_head_at ws 0 3).arg _ _ _ _ (uint_reads true 65535 (key_head_at ws 0 3) _ refl _ (top ws path ps h 3 (omega arith)))
+      (then (key_head_at ws 0 4).arg _ _ _ _ (uint_reads true 65535 (key_head_at ws 0 4) _ refl _ (top ws path ps h 4 (omega arith)))
+      (last (pairs_in (value_of ps 5)) _ _ (map-reads (key_head_at ws 0 5) _ (top ws path ps h 5 (omega arith)))))))
 
-  -- PARAMETERS
-  module _ (null : Bool) (k l m n : KeyHead) (ke : k ≡ key_head_at ws 1 1) (le : l ≡ key_head_at ws 1 2) (me : m ≡ key_head_at ws 1 3) (ne : n ≡ key_head_at ws 1 4)
-      (c p : Value) (d e : Bool) (cr : Reads k (value_in null) c.ok c.field) (pr : Reads l (value_in null) p.ok p.field)
-      (dr : UintReads m false most32 d) (er : UintReads n true 255 e) where
-    pub setting_read : (ok : Bool) → ok ≡ (c.ok && (p.ok && (d && e))) → (a : Amount) → a ≡ amount_of m
-        → Inside ws 1 (setting_in null) ok (record { consumption = c.field; production = p.field; duration = a; cause = n.arg })
-    unfolding Inside setting_in UintReads Reads
-    setting_read ok y a ae path ps h =
-        rw (y, ae)
-        (then c.field _ _ c.ok _ (cr _ (ke ∙ shown ws path ps h 1 1 (omega arith) (omega arith)))
-        (then p.field _ _ p.ok _ (pr _ (le ∙ shown ws path ps h 1 2 (omega arith) (omega arith)))
-        (then (amount_of m) _ _ d _ (dr _ (me ∙ shown ws path ps h 1 3 (omega arith) (omega arith)))
-        (last n.arg _ e (er _ (ne ∙ shown ws path ps h 1 4 (omega arith) (omega arith)))))))
+  pub setting_reads : (null : Bool) → Inside ws 1 (setting_in null) (setting_seen null ws)
+  unfolding Inside setting_in setting_seen
+  setting_reads null path ps h =
+      rw (
+        shown ws path ps h 1 1 (omega arith) (omega arith),
+        shown ws path ps h 1 2 (omega arith) (omega arith),
+        shown ws path ps h 1 3 (omega arith) (omega arith),
+        shown ws path ps h 1 4 (omega arith) (omega arith),
+      )
+      (bind_given _ _ _ (value_at null _) (λ c. bind_given _ _ _ (value_at null _) (λ p. bind_given _ _ _ (amount_at most32 _) (λ d. bind_given _ _ _ (uint_at 255 _) (λ k. refl)))))
 
   -- the phases stand at the second level of the path
-  module _ (k a b c m n o : KeyHead) (ke : k ≡ key_head_at ws 1 1) (ae : a ≡ key_head_at ws 2 0) (be : b ≡ key_head_at ws 2 1) (ce : c ≡ key_head_at ws 2 2)
-      (me : m ≡ key_head_at ws 1 2) (ne : n ≡ key_head_at ws 1 3) (oe : o ≡ key_head_at ws 1 4)
-      (f : Fields) (x d e : Bool) (fr : PhasesRead k a b c (phases_in true) f.ok f.phases)
-      (xr : UintReads m true 1 x) (dr : UintReads n false most32 d) (er : UintReads o true 255 e) where
-    pub current-limits_read : (ok : Bool) → ok ≡ (f.ok && (x && (d && e))) → (t : ℕ) → t ≡ duration_of (amount_of n)
-        → CurrentLimitsRead ws ok (record { phases = f.phases; direction = m.arg; duration = t; cause = o.arg })
-    unfolding CurrentLimitsRead current_limits_in UintReads Reads PhasesRead map_at followed
-    current-limits_read ok y t te ps h =
-        let at : (level key : ℕ) → level < LEVELS → key < KEYS → key_head_at ws level key ≡ key_head_of (value_of (map_at level parameters_path ps) key) = shown ws parameters_path ps h in
-        rw (y, te)
-        (then f.phases _ _ f.ok _
-        (fr _ (ke ∙ at 1 1 (omega arith) (omega arith)) (ae ∙ at 2 0 (omega arith) (omega arith)) (be ∙ at 2 1 (omega arith) (omega arith)) (ce ∙ at 2 2 (omega arith) (omega arith)))
-        (then m.arg _ _ x _ (xr _ (me ∙ at 1 2 (omega arith) (omega arith)))
-        (then (amount_of n) _ _ d _ (dr _ (ne ∙ at 1 3 (omega arith) (omega arith)))
-        (last o.arg _ e (er _ (oe ∙ at 1 4 (omega arith) (omega arith)))))))
+  pub current_limits_read : CurrentLimitsRead ws (current_limits_seen ws)
+  unfolding CurrentLimitsRead current_limits_in current_limits_seen map_at followed
+  current_limits_read ps h =
+      let at = shown ws parameters_path ps h in
+      rw (
+        at 1 1 (omega arith) (omega arith),
+        at 2 0 (omega arith) (omega arith),
+        at 2 1 (omega arith) (omega arith),
+        at 2 2 (omega arith) (omega arith),
+        at 1 2 (omega arith) (omega arith),
+        at 1 3 (omega arith) (omega arith),
+        at 1 4 (omega arith) (omega arith),
+      )
+      (bind_given _ _ _ (phases_at true _) (λ f. bind_given _ _ _ (uint_at 1 _) (λ x. bind_given _ _ _ (amount_at most32 _) (λ d. bind_given _ _ _ (uint_at 255 _) (λ k. refl)))))
 
-  -- COMMANDS
-  module _ (c : ℕ) where
-    module _ (v : Set) (r : Inside ws 1 (setting_in true) v.ok v.setting) (e : c ≡ 1) where
-      pub limit_is : v.ok ≡ true → (l : Limits) → l ≡ limits_from v.setting → CommandReads ws c (Parameters.Are (Command.SetLimit l))
-      unfolding CommandReads Inside command_in
-      limit_is y l le ps h = rw (eq-eqb c 1 e, r parameters_path ps h, y, le) refl
+  module _ (c : ℕ) (ps : Pairs) (h : Shown ws parameters_path ps) where
+    command_given : command_in c (map_at 1 parameters_path ps) ≡ given (command_seen ws c)
+    unfolding command_seen clear_seen Inside CurrentLimitsRead aim_in amount_in
+    command_given =
+        command_made c (map_at 1 parameters_path ps) _ _ _ _ (setting_reads true parameters_path ps h) (setting_reads false parameters_path ps h) (current_limits_read ps h)
+        (rw (shown ws parameters_path ps h 1 1 (omega arith) (omega arith)) (amount_at 1 _))
 
-      pub limit-wrong : v.ok ≡ false → CommandReads ws c Parameters.Wrong
-      unfolding CommandReads Inside command_in
-      limit-wrong y ps h = rw (eq-eqb c 1 e, r parameters_path ps h, y) refl
+    pub command_reads : command_seen ws c ≡ parameters_from (command_in c (map_at 1 parameters_path ps))
+    command_reads = rw command_given (given_again _)
 
-    module _ (v : Set) (r : Inside ws 1 (setting_in false) v.ok v.setting) (e : c ≡ 3) where
-      pub setpoint-is : v.ok ≡ true → (l : Setpoints) → l ≡ setpoints_from v.setting → CommandReads ws c (Parameters.Are (Command.SetSetpoint l))
-      unfolding CommandReads Inside command_in
-      setpoint-is y l le ps h = rw (ne_eqb c 1 (λ z. omega arith), ne_eqb c 2 (λ z. omega arith), eq-eqb c 3 e, r parameters_path ps h, y, le) refl
+  with_given : (m : Pairs) (r : Prelude.Option Command) → request_seen ws r ≡ with_command (envelope_of ws m) (given r)
+  with_given m (Some c) = refl
+  with_given m None = refl
 
-      pub setpoint-wrong : v.ok ≡ false → CommandReads ws c Parameters.Wrong
-      unfolding CommandReads Inside command_in
-      setpoint-wrong y ps h = rw (ne_eqb c 1 (λ z. omega arith), ne_eqb c 2 (λ z. omega arith), eq-eqb c 3 e, r parameters_path ps h, y) refl
+  pub message_reads : MessageReads ws (message_seen ws)
+  unfolding MessageReads EnvelopeReads message_seen from_envelope map_at followed
+  message_reads ps h = rw (envelope_reads parameters_path ps h) (go (envelope_seen ws)) where
+    m : Pairs
+    m = pairs_in (value_of ps 5)
 
-    module _ (v : CurrentSet) (r : CurrentLimitsRead ws v.ok v.limits) (e : c ≡ 5) where
-      fifth : (ps : Pairs) → command_in c ps ≡ Option.map Command.SetCurrentLimits (current_limits_in ps)
-      unfolding command_in
-      fifth ps =
-          rw (ne_eqb c 1 (λ z. omega arith), ne_eqb c 2 (λ z. omega arith), ne_eqb c 3 (λ z. omega arith), ne_eqb c 4 (λ z. omega arith), eq-eqb c 5 e) refl
+    n : ℕ
+    n = (key_head_at ws 0 4).arg
 
-      pub currents-are : v.ok ≡ true → CommandReads ws c (Parameters.Are (Command.SetCurrentLimits v.limits))
-      unfolding CommandReads CurrentLimitsRead
-      currents-are y ps h = rw (fifth, r ps h, y) refl
+    t : Bool
+    t = served_at (key_head_at ws 0 2).arg (key_head_at ws 0 3).arg && served_command n
 
-      pub currents-wrong : v.ok ≡ false → CommandReads ws c Parameters.Wrong
-      unfolding CommandReads CurrentLimitsRead
-      currents-wrong y ps h = rw (fifth, r ps h, y) refl
+    served : (b : Bool) → cond b (request_seen ws (command_seen ws n)) (Reading.Unserved (key_head_at ws 0 1).arg)
+        ≡ cond b (with_command (envelope_of ws m) (command_in n m)) (Reading.Unserved (key_head_at ws 0 1).arg)
+    served true = rw (command_given n ps h) (with_given m _)
+    served false = refl
 
-    by_clear : (b d : Bool) (o : Option Aim) → Option.map (cond b Command.ClearLimit (cond d Command.ClearSetpoint Command.ClearCurrentLimits)) o
-        ≡ cond b (Option.map Command.ClearLimit o) (cond d (Option.map Command.ClearSetpoint o) (Option.map Command.ClearCurrentLimits o))
-    by_clear true d o = refl
-    by_clear false true o = refl
-    by_clear false false o = refl
-
-    pub clear-is : (r : Parameters) → ClearReads ws c r → (c ≡ 1 → ⊥) → (c ≡ 3 → ⊥) → (c ≡ 5 → ⊥) → CommandReads ws c r
-    unfolding CommandReads ClearReads command_in
-    clear-is r h a b d ps s =
-        h parameters_path ps s ∙ rw (ne_eqb c 1 a, ne_eqb c 3 b, ne_eqb c 5 d) (ap parameters_from (by_clear (eqb c 2) (eqb c 4) (aim_in (value_of (map_at 1 parameters_path ps) 1))))
-
-    module _ (k : KeyHead) (ke : k ≡ key_head_at ws 1 1) (t : Bool) (r : UintReads k false 1 t) where
-      aim_read : (path : ℕ) (ps : Pairs) → Shown ws path ps → aim_in (value_of (map_at 1 path ps) 1) ≡ cond t (some (aim_of (amount_of k))) none
-      unfolding UintReads Reads
-      aim_read path ps h = aim_amount (value_of (map_at 1 path ps) 1) ∙ mapped (amount_of k) aim_of t (r _ (ke ∙ shown ws path ps h 1 1 (omega arith) (omega arith)))
-
-      pub clear-wrong : t ≡ false → ClearReads ws c Parameters.Wrong
-      unfolding ClearReads
-      clear-wrong y path ps h = rw (aim_read path ps h, y) refl
-
-      module _ (y : t ≡ true) (a : Amount) (ae : a ≡ amount_of k) (x : Aim) (xe : x ≡ aim_of a) where
-        pub clear-limit : c ≡ 2 → ClearReads ws c (Parameters.Are (Command.ClearLimit x))
-        unfolding ClearReads
-        clear-limit z path ps h = rw (aim_read path ps h, y, eq-eqb c 2 z, xe, ae) refl
-
-        pub clear-setpoint : c ≡ 4 → ClearReads ws c (Parameters.Are (Command.ClearSetpoint x))
-        unfolding ClearReads
-        clear-setpoint z path ps h = rw (aim_read path ps h, y, ne_eqb c 2 (λ w. omega arith), eq-eqb c 4 z, xe, ae) refl
-
-        pub clear-currents : (c ≡ 2 → ⊥) → (c ≡ 4 → ⊥) → ClearReads ws c (Parameters.Are (Command.ClearCurrentLimits x))
-        unfolding ClearReads
-        clear-currents z w path ps h = rw (aim_read path ps h, y, ne_eqb c 2 z, ne_eqb c 4 w, xe, ae) refl
-
--- MESSAGES
-are_some : (o : Option Command) (c : Command) → Parameters.Are c ≡ parameters_from o → o ≡ some c
-are_some (some d) c e = cc
-are_some none c e = absurd (let z : ◌≡◌ {A = ℕ} 0 1 = cc in omega arith)
-
-wrong_none : (o : Option Command) → Parameters.Wrong ≡ parameters_from o → o ≡ none
-wrong_none (some d) e = absurd (let z : ◌≡◌ {A = ℕ} 0 1 = cc in omega arith)
-wrong_none none e = refl
-
-module _ (ws : List ℕ) (ok : Bool) (r : EnvelopeReads ws ok) where
-  pub envelope_wrong : ok ≡ false → MessageReads ws (Reading.Refused 3)
-  unfolding MessageReads EnvelopeReads from_envelope
-  envelope_wrong y ps h = rw (r parameters_path ps h, y) refl
-
-  module _ (y : ok ≡ true) (a b c d : KeyHead) (ae : a ≡ key_head_at ws 0 1) (be : b ≡ key_head_at ws 0 2) (ce : c ≡ key_head_at ws 0 3) (de : d ≡ key_head_at ws 0 4)
-      (t : Bool) (te : t ≡ (served_at b.arg c.arg && served_command d.arg)) where
-    pub unserved : t ≡ false → MessageReads ws (Reading.Unserved a.arg)
-    unfolding MessageReads EnvelopeReads from_envelope
-    unserved z ps h = rw (r parameters_path ps h, y, ← ae, ← be, ← ce, ← de, via te z) refl
-
-    module _ (z : t ≡ true) (p : Parameters) (pr : CommandReads ws d.arg p) where
-      pub message_is : (x : Command) → p ≡ Parameters.Are x → MessageReads ws (Reading.Is (record { id = a.arg; endpoint = b.arg; feature = c.arg; command = x }))
-      unfolding MessageReads EnvelopeReads CommandReads from_envelope map_at followed
-      message_is x q ps h = rw (r parameters_path ps h, y, ← ae, ← be, ← ce, ← de, via te z, are_some (command_in d.arg (pairs_in (value_of ps 5))) x (sym q ∙ pr ps h)) refl
-
-      pub message_wrong : p ≡ Parameters.Wrong → MessageReads ws (Reading.Refused 3)
-      unfolding MessageReads EnvelopeReads CommandReads from_envelope map_at followed
-      message_wrong q ps h = rw (r parameters_path ps h, y, ← ae, ← be, ← ce, ← de, via te z, wrong_none (command_in d.arg (pairs_in (value_of ps 5))) (sym q ∙ pr ps h)) refl
+    go : (b : Bool) → cond b (cond t (request_seen ws (command_seen ws n)) (Reading.Unserved (key_head_at ws 0 1).arg)) (Reading.Refused 3)
+        ≡ from_envelope (found b (envelope_of ws m))
+    go true = served t
+    go false = refl
 
 -- FRAMES
 -- a frame by its map

@@ -29,14 +29,17 @@ request_fields r =
 unfoldable pub request_item : Request → Item
 request_item r = Item.map (present (request_fields r))
 
+-- more than `most`; what is omitted is not
+abbrev pub amount_wide : ℕ → Amount → Bool
+amount_wide most None = false
+amount_wide most (Some d) = ltb most d
+
 abbrev pub aim_wide : Aim → Bool
-aim_wide None = false
-aim_wide (Some d) = ltb 1 d
+aim_wide a = amount_wide 1 a
 
 -- a duration that 32 bits do not hold; an omitted one is none
 abbrev pub duration_wide : Amount → Bool
-duration_wide None = false
-duration_wide (Some d) = ltb most32 d
+duration_wide a = amount_wide most32 a
 
 -- a number of the command that the wire does not hold
 unfoldable pub command_wide : Command → Bool

@@ -1,47 +1,26 @@
 // Requests, read.
-ghost use Rattle.std.specs.Prelude.{◌≡◌, true};
+ghost use Rattle.std.specs.Prelude.{◌≡◌};
 ghost use Rattle.wire_cbor.specs.Item.{payload_of};
+ghost use Rattle.wire_cbor.specs.Scan.{key_head_at};
+ghost use Rattle.wire_fields.specs.Seen.{uint_read};
 ghost use Rattle.wire_requests.specs.Requests.{from_payload, read_request};
-ghost use Rattle.wire_fields.specs.KeyHeads.{UintReads, aim_of, Inside};
-ghost use Rattle.wire_requests.specs.Settings.{setting_in};
-ghost use Rattle.wire_requests.specs.KeyHeads.{EnvelopeReads, CurrentLimitsRead, CommandReads, ClearReads, MessageReads};
+ghost use Rattle.wire_requests.specs.Seen.{envelope_seen, setting_seen, current_limits_seen, clear_seen, command_seen, message_seen};
 
 use refusals::{BAD_CBOR, BAD_LENGTH, BAD_MESSAGE};
-use wire_cbor::{KeyHead, KeyHeads, key_head_of};
-use wire_fields::{MOST32, all4, all5, amount_of, both, is_map, is_uint, read_phases, read_value};
+use wire_cbor::{KeyHeads, key_head_of};
+use wire_fields::{MOST32, is_map, is_uint, read_amount, read_phases, read_uint, read_value};
 use wire_messages::{
-    Command, CurrentLimits, Request, Setting, duration_of, is_command, is_served, limits_from,
-    setpoints_from,
+    CLEAR_LIMIT, CLEAR_SETPOINT, Command, CurrentLimits, Request, SET_CURRENT_LIMITS, SET_LIMIT,
+    SET_SETPOINT, Setting, duration_of, is_command, is_served, limits_from, setpoints_from,
 };
 use wire_prefix::{PREFIX, is_framed};
 
-// A request; the message id of one that is not served; a refusal number.
+// A request; the message id of one that is not served; a refusal number. Three ways of one answer: a Result would put two of them side by side as errors.
 #[derive(Clone, Copy)]
 pub enum Reading {
     Is(Request),
     Unserved(u64),
     Refused(u64),
-}
-
-// The parameters of a Set command; not `ok` is refusal 3.
-#[derive(Clone, Copy)]
-pub struct Set {
-    pub ok: bool,
-    pub setting: Setting,
-}
-
-// The parameters of SetCurrentLimits; not `ok` is refusal 3.
-#[derive(Clone, Copy)]
-pub struct CurrentSet {
-    pub ok: bool,
-    pub limits: CurrentLimits,
-}
-
-// A command's parameters, or refusal 3.
-#[derive(Clone, Copy)]
-pub enum Parameters {
-    Are(Command),
-    Wrong,
 }
 
 // The levels that are looked into: the payload's map, the parameters under its key 5, the phases under key 1 of these.
@@ -55,161 +34,116 @@ const PHASES: usize = 2;
 const PATH: u64 = 5 + 1 * wire_cbor::STEP;
 
 // Whether the envelope is there: the parameters are a map, seen below.
+#[tactic(auto, unfolding(crate::specs::Seen::envelope_seen))]
 fn is_envelope(heads: &KeyHeads) -> bool
-    ensures { EnvelopeReads heads.now result }
+    ensures { result ≡ envelope_seen heads.now }
 {
-    all5(
-        is_uint(key_head_of(heads, ENVELOPE, 1), true, MOST32),
-        is_uint(key_head_of(heads, ENVELOPE, 2), true, 255),
-        is_uint(key_head_of(heads, ENVELOPE, 3), true, 65535),
-        is_uint(key_head_of(heads, ENVELOPE, 4), true, 65535),
-        is_map(key_head_of(heads, ENVELOPE, 5)),
-    )
+    is_uint(key_head_of(heads, ENVELOPE, 1), true, MOST32)
+        && is_uint(key_head_of(heads, ENVELOPE, 2), true, 255)
+        && is_uint(key_head_of(heads, ENVELOPE, 3), true, 65535)
+        && is_uint(key_head_of(heads, ENVELOPE, 4), true, 65535)
+        && is_map(key_head_of(heads, ENVELOPE, 5))
 }
 
-// Whether a cause is there.
-fn is_cause(k: KeyHead) -> bool
-    ensures { UintReads k true 255 result }
+// The cause, which each Set command has under the same key.
+fn read_cause(heads: &KeyHeads) -> Option<u64>
+    ensures { result ≡ uint_read 255 (key_head_at heads.now 1 4) }
 {
-    is_uint(k, true, 255)
+    read_uint(key_head_of(heads, PARAMETERS, 4), 255)
 }
 
-// The parameters of a Set command, with null or without.
-fn read_setting(heads: &KeyHeads, null: bool) -> Set
-    ensures { Inside heads.now 1 (setting_in null) result.ok result.setting }
+// The parameters of a Set command, with null or without; `None` is refusal 3, here and below.
+#[tactic(auto, unfolding(crate::specs::Seen::setting_seen))]
+fn read_setting(heads: &KeyHeads, null: bool) -> Option<Setting>
+    ensures { result ≡ setting_seen null heads.now }
 {
-    let consumption = read_value(key_head_of(heads, PARAMETERS, 1), null);
-    let production = read_value(key_head_of(heads, PARAMETERS, 2), null);
-    let duration = key_head_of(heads, PARAMETERS, 3);
-    let cause = key_head_of(heads, PARAMETERS, 4);
-    let ok = all4(
-        consumption.ok,
-        production.ok,
-        is_uint(duration, false, MOST32),
-        is_cause(cause),
-    );
-    let c = consumption.field;
-    let p = production.field;
-    let setting = Setting {
-        consumption: c,
-        production: p,
-        duration: amount_of(duration),
-        cause: cause.arg,
-    };
-    Set { ok, setting }
+    Some(Setting {
+        consumption: read_value(key_head_of(heads, PARAMETERS, 1), null)?,
+        production: read_value(key_head_of(heads, PARAMETERS, 2), null)?,
+        duration: read_amount(key_head_of(heads, PARAMETERS, 3), MOST32)?,
+        cause: read_cause(heads)?,
+    })
 }
 
 // The parameters of SetCurrentLimits.
-fn read_current_limits(heads: &KeyHeads) -> CurrentSet
-    ensures { CurrentLimitsRead heads.now result.ok result.limits }
+#[tactic(auto, unfolding(crate::specs::Seen::current_limits_seen))]
+fn read_current_limits(heads: &KeyHeads) -> Option<CurrentLimits>
+    ensures { result ≡ current_limits_seen heads.now }
 {
-    let map = read_phases(
+    let phases = read_phases(
         key_head_of(heads, PARAMETERS, 1),
         key_head_of(heads, PHASES, 0),
         key_head_of(heads, PHASES, 1),
         key_head_of(heads, PHASES, 2),
         true,
-    );
-    let direction = key_head_of(heads, PARAMETERS, 2);
-    let duration = key_head_of(heads, PARAMETERS, 3);
-    let cause = key_head_of(heads, PARAMETERS, 4);
-    let ok = all4(
-        map.ok,
-        is_uint(direction, true, 1),
-        is_uint(duration, false, MOST32),
-        is_cause(cause),
-    );
-    let phases = map.phases;
-    let limits = CurrentLimits {
+    )?;
+    Some(CurrentLimits {
         phases,
-        direction: direction.arg,
-        duration: duration_of(amount_of(duration)),
-        cause: cause.arg,
-    };
-    CurrentSet { ok, limits }
-}
-
-fn aim_of(a: Option<u64>) -> Option<u64>
-    ensures { result ≡ aim_of a }
-{
-    match a {
-        None => None,
-        Some(d) => Some(d),
-    }
+        direction: read_uint(key_head_of(heads, PARAMETERS, 2), 1)?,
+        duration: duration_of(read_amount(key_head_of(heads, PARAMETERS, 3), MOST32)?),
+        cause: read_cause(heads)?,
+    })
 }
 
 // The parameters of a served command.
-fn read_command(heads: &KeyHeads, command: u64) -> Parameters
-    ensures { CommandReads heads.now command result }
+#[tactic(auto, unfolding(crate::specs::Seen::command_seen))]
+fn read_command(heads: &KeyHeads, command: u64) -> Option<Command>
+    ensures { result ≡ command_seen heads.now command }
 {
-    if command == 1 {
-        let v = read_setting(heads, true);
-        if v.ok {
-            let s = v.setting;
-            return Parameters::Are(Command::SetLimit(limits_from(s)));
+    match command {
+        SET_LIMIT => {
+            let setting = read_setting(heads, true)?;
+            Some(Command::SetLimit(limits_from(setting)))
         }
-        return Parameters::Wrong;
-    }
-    if command == 3 {
-        let v = read_setting(heads, false);
-        if v.ok {
-            let s = v.setting;
-            return Parameters::Are(Command::SetSetpoint(setpoints_from(s)));
+        SET_SETPOINT => {
+            let setting = read_setting(heads, false)?;
+            Some(Command::SetSetpoint(setpoints_from(setting)))
         }
-        return Parameters::Wrong;
-    }
-    if command == 5 {
-        let v = read_current_limits(heads);
-        if v.ok {
-            let l = v.limits;
-            return Parameters::Are(Command::SetCurrentLimits(l));
+        SET_CURRENT_LIMITS => {
+            let limits = read_current_limits(heads)?;
+            Some(Command::SetCurrentLimits(limits))
         }
-        return Parameters::Wrong;
+        _ => read_clear(heads, command),
     }
-    read_clear(heads, command)
 }
 
 // The parameters of a clear.
-fn read_clear(heads: &KeyHeads, command: u64) -> Parameters
-    ensures { ClearReads heads.now command result }
+#[tactic(auto, unfolding(crate::specs::Seen::clear_seen))]
+fn read_clear(heads: &KeyHeads, command: u64) -> Option<Command>
+    ensures { result ≡ clear_seen heads.now command }
 {
-    let direction = key_head_of(heads, PARAMETERS, 1);
-    if is_uint(direction, false, 1) {
-        let aim = aim_of(amount_of(direction));
-        if command == 2 {
-            return Parameters::Are(Command::ClearLimit(aim));
-        }
-        if command == 4 {
-            return Parameters::Are(Command::ClearSetpoint(aim));
-        }
-        return Parameters::Are(Command::ClearCurrentLimits(aim));
+    let aim = read_amount(key_head_of(heads, PARAMETERS, 1), 1)?;
+    match command {
+        CLEAR_LIMIT => Some(Command::ClearLimit(aim)),
+        CLEAR_SETPOINT => Some(Command::ClearSetpoint(aim)),
+        _ => Some(Command::ClearCurrentLimits(aim)),
     }
-    Parameters::Wrong
 }
 
 // What is seen in a payload, in the order envelope 3, 4, parameters 3.
+#[tactic(auto, unfolding(crate::specs::Seen::message_seen))]
 fn read_message(heads: &KeyHeads) -> Reading
-    ensures { MessageReads heads.now result }
+    ensures { result ≡ message_seen heads.now }
 {
-    if is_envelope(heads) {
-        let id = key_head_of(heads, ENVELOPE, 1);
-        let endpoint = key_head_of(heads, ENVELOPE, 2);
-        let feature = key_head_of(heads, ENVELOPE, 3);
-        let number = key_head_of(heads, ENVELOPE, 4);
-        if both(is_served(endpoint.arg, feature.arg), is_command(number.arg)) {
-            return match read_command(heads, number.arg) {
-                Parameters::Are(command) => Reading::Is(Request {
-                    id: id.arg,
-                    endpoint: endpoint.arg,
-                    feature: feature.arg,
-                    command,
-                }),
-                Parameters::Wrong => Reading::Refused(BAD_MESSAGE),
-            };
-        }
-        return Reading::Unserved(id.arg);
+    if !is_envelope(heads) {
+        return Reading::Refused(BAD_MESSAGE);
     }
-    Reading::Refused(BAD_MESSAGE)
+    let id = key_head_of(heads, ENVELOPE, 1).arg;
+    let endpoint = key_head_of(heads, ENVELOPE, 2).arg;
+    let feature = key_head_of(heads, ENVELOPE, 3).arg;
+    let number = key_head_of(heads, ENVELOPE, 4).arg;
+    if !(is_served(endpoint, feature) && is_command(number)) {
+        return Reading::Unserved(id);
+    }
+    match read_command(heads, number) {
+        Some(command) => Reading::Is(Request {
+            id,
+            endpoint,
+            feature,
+            command,
+        }),
+        None => Reading::Refused(BAD_MESSAGE),
+    }
 }
 
 // The request that a payload holds.

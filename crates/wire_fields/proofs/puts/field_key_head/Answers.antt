@@ -1,4 +1,4 @@
--- By the case and the sign: -1 - v of a negative v is at least 0 and fits.
+-- By the sign: -1 - v of a negative v is at least 0 and fits.
 use mir.Syntax.{w64}
 use mir.Val.{SFits}
 use Rattle.wire_cbor.specs.Scan.{key_head_of}
@@ -11,14 +11,6 @@ pub returns-then-v-lt0 : goal.returns-then-v-lt0
 unfolding value_item key_head_of
 returns-then-v-lt0 c =
     let g : SFits w64 c.in-Value.v = search rules in rw (c.in-Value.is, minus_item _ g c.if-v-lt0.true)
-
-pub returns-in-Absent : goal.returns-in-Absent
-unfolding value_item key_head_of
-returns-in-Absent c = rw c.in-Absent.is
-
-pub returns-in-Null : goal.returns-in-Null
-unfolding value_item key_head_of
-returns-in-Null c = rw c.in-Null.is
 
 pub returns-else-v-lt0 : goal.returns-else-v-lt0
 unfolding value_item key_head_of

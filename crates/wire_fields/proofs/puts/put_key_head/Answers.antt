@@ -2,8 +2,8 @@
 use Rattle.wire_fields.proofs.Added.{key_head_put, key_head_none}
 use Rattle.wire_fields.proofs.puts.put_key_head.Goals as goal
 
-pub returns-then-k-lt8 : goal.returns-then-k-lt8
-returns-then-k-lt8 c = key_head_put c.args.key c.args.k c.if-k-lt8.true c.put_pair.ensures
+pub returns-then-k-lt-NOTHING : goal.returns-then-k-lt-NOTHING
+returns-then-k-lt-NOTHING c = key_head_put c.args.key c.args.k c.if-k-lt-NOTHING.true c.put_pair.ensures
 
 pub returns : goal.returns
-returns c = key_head_none c.args.key c.args.k c.if-k-lt8.false _ _
+returns c = key_head_none c.args.key c.args.k c.if-k-lt-NOTHING.false _ _

@@ -1,12 +1,9 @@
 -- The test is the one of the definition.
-use borrow.Author.Tests.{ne_eqb}
+use mathlib.Core.Path.{◌∙◌}
 use Rattle.wire_fields.specs.Values.{amount_of}
+use Rattle.wire_fields.proofs.Given.{when-ok}
 use Rattle.wire_fields.proofs.values.amount_of.Goals as goal
-
-pub returns-then-k-eq0 : goal.returns-then-k-eq0
-unfolding amount_of
-returns-then-k-eq0 c = rw c.if-k-eq0.true
 
 pub returns : goal.returns
 unfolding amount_of
-returns c = rw (ne_eqb _ 0 c.if-k-eq0.false)
+returns c = c.then_some.ensures ∙ when-ok _ _
