@@ -52,6 +52,9 @@ pub struct Held {
     pub until: u64,
 }
 
+// Never set, or removed.
+const NOTHING: Held = Held { value: 0, until: 0 };
+
 // A slot's whole record. The precedence is rank * IDS + id, so that setpoints are told apart by one number; id 0 is a free slot.
 #[derive(Clone, Copy)]
 pub struct Zone {
