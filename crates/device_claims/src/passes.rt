@@ -12,8 +12,8 @@ ghost use Rattle.device_store.specs.Smaller.{nearer};
 ghost use Rattle.device_claims.specs.Pass.{low_step, lead_step, LowestValuesMet, LeadingSetpointsMet, Adds};
 
 use device_store::{
-    END, Held, IDS, LEADING_SETPOINTS, LIMITS, LOWEST_VALUES, MOST, SETPOINTS, SLOTS, State, Zone,
-    held_at, id_at, least, precedence_at,
+    END, Held, LEADING_SETPOINTS, LIMITS, LOWEST_VALUES, MOST, ReadSlots, SETPOINTS, SLOTS, State,
+    WithZone, Zone, least,
 };
 
 // The smallest value of each quantity that goes by it, met so far. MOST is none.
@@ -32,14 +32,12 @@ pub struct LeadingSetpoints {
 }
 
 // The k-th quantity that goes by the smallest: the setpoints stand between.
+#[tactic(auto, unfolding(device_store::specs::Quantities::low_at))]
 fn low_at(k: usize) -> usize
     requires { k < lowest_values }
     ensures { result ≡ low_at k }
 {
-    if k < LIMITS {
-        return k;
-    }
-    k + SETPOINTS
+    if k < LIMITS { k } else { k + SETPOINTS }
 }
 
 // One value of limit k more.
@@ -53,7 +51,7 @@ fn low_with(t: u64, h: Held, k: usize, g: LowestValues) -> LowestValues
         let mut low = g.low;
         low[k] = least(h.value, low[k]);
         return LowestValues {
-            low: low,
+            low,
             next: least(g.next, h.until),
         };
     }
@@ -67,21 +65,16 @@ fn lead_with(t: u64, h: Held, precedence: u64, k: usize, g: LeadingSetpoints) ->
     ensures value { result ≡ lead_step t h precedence k g }
     ensures precedence_le_most { precedence ≤ most }
 {
-    let mut precedences = g.precedence;
-    let mut lead = g.lead;
     if t < h.until {
+        let mut precedences = g.precedence;
+        let mut lead = g.lead;
         if precedence <= precedences[k] {
             precedences[k] = precedence;
             lead[k] = h.value;
-            return LeadingSetpoints {
-                precedence: precedences,
-                lead: lead,
-                next: least(g.next, h.until),
-            };
         }
         return LeadingSetpoints {
             precedence: precedences,
-            lead: lead,
+            lead,
             next: least(g.next, h.until),
         };
     }
@@ -89,73 +82,31 @@ fn lead_with(t: u64, h: Held, precedence: u64, k: usize, g: LeadingSetpoints) ->
 }
 
 // The limits of a slot's zone more, read word by word. A free slot claims nothing.
-fn low_slot(d: &State, i: usize, t: u64, start: LowestValues) -> LowestValues
-    ensures adds { Adds LowestValuesMet t (get_or (zones_of d.now) i free_zone) start result }
-    ensures next_value { result.next ≡ foldl (nearer t) start.next (zone_dues low_at lowest_values (get_or (zones_of d.now) i free_zone)) }
+fn low_slot<S: ReadSlots>(s: &S, i: usize, t: u64, start: LowestValues) -> LowestValues
+    ensures adds { Adds LowestValuesMet t (get_or (S.zones s.now) i free_zone) start result }
+    ensures next_value { result.next ≡ foldl (nearer t) start.next (zone_dues low_at lowest_values (get_or (S.zones s.now) i free_zone)) }
 {
-    if id_at(d, i) == 0 {
+    if s.id(i) == 0 {
         return start;
     }
     let mut g = start;
-    let mut k = 0;
-    while k < LOWEST_VALUES {
-        g = low_with(t, held_at(d, i, low_at(k)), k, g);
-        k += 1;
+    for k in 0..LOWEST_VALUES {
+        g = low_with(t, s.held(i, low_at(k)), k, g);
     }
     g
 }
 
 // Its setpoints more.
-fn lead_slot(d: &State, i: usize, t: u64, start: LeadingSetpoints) -> LeadingSetpoints
-    ensures adds { Adds LeadingSetpointsMet t (get_or (zones_of d.now) i free_zone) start result }
-    ensures next_value { result.next ≡ foldl (nearer t) start.next (zone_dues lead_at leading_setpoints (get_or (zones_of d.now) i free_zone)) }
+fn lead_slot<S: ReadSlots>(s: &S, i: usize, t: u64, start: LeadingSetpoints) -> LeadingSetpoints
+    ensures adds { Adds LeadingSetpointsMet t (get_or (S.zones s.now) i free_zone) start result }
+    ensures next_value { result.next ≡ foldl (nearer t) start.next (zone_dues lead_at leading_setpoints (get_or (S.zones s.now) i free_zone)) }
 {
-    if id_at(d, i) == 0 {
+    if s.id(i) == 0 {
         return start;
     }
     let mut g = start;
-    let mut k = 0;
-    while k < LEADING_SETPOINTS {
-        g = lead_with(t, held_at(d, i, LIMITS + k), precedence_at(d, i), k, g);
-        k += 1;
-    }
-    g
-}
-
-// The limits of a given record more.
-fn low_zone(t: u64, zone: Zone, start: LowestValues) -> LowestValues
-    ensures adds { Adds LowestValuesMet t zone start result }
-    ensures next_value { result.next ≡ foldl (nearer t) start.next (zone_dues low_at lowest_values zone) }
-{
-    if zone.precedence % IDS == 0 {
-        return start;
-    }
-    let held = zone.held;
-    let mut g = start;
-    let mut k = 0;
-    while k < LOWEST_VALUES {
-        let h = held[low_at(k)];
-        g = low_with(t, h, k, g);
-        k += 1;
-    }
-    g
-}
-
-// Its setpoints more.
-fn lead_zone(t: u64, zone: Zone, start: LeadingSetpoints) -> LeadingSetpoints
-    ensures adds { Adds LeadingSetpointsMet t zone start result }
-    ensures next_value { result.next ≡ foldl (nearer t) start.next (zone_dues lead_at leading_setpoints zone) }
-{
-    if zone.precedence % IDS == 0 {
-        return start;
-    }
-    let held = zone.held;
-    let mut g = start;
-    let mut k = 0;
-    while k < LEADING_SETPOINTS {
-        let h = held[LIMITS + k];
-        g = lead_with(t, h, zone.precedence, k, g);
-        k += 1;
+    for k in 0..LEADING_SETPOINTS {
+        g = lead_with(t, s.held(i, LIMITS + k), s.precedence(i), k, g);
     }
     g
 }
@@ -166,7 +117,7 @@ fn no_lowest_values(next: u64) -> LowestValues
 {
     LowestValues {
         low: [MOST; LOWEST_VALUES],
-        next: next,
+        next,
     }
 }
 
@@ -177,92 +128,72 @@ fn no_leading_setpoints(next: u64) -> LeadingSetpoints
     LeadingSetpoints {
         precedence: [MOST; LEADING_SETPOINTS],
         lead: [MOST; LEADING_SETPOINTS],
-        next: next,
+        next,
     }
 }
 
-// The pass over the limits of the zones as they stand; `next` is the nearest end known before it.
-pub fn lowest_values_at(d: &State, t: u64, next: u64) -> LowestValues
-    ensures lowest_values_met { LowestValuesMet result (λ q. winner t q (zones_of d.now)) }
-    ensures next_value { result.next ≡ foldl (nearer t) next (low_dues (zones_of d.now)) }
+// The pass over the limits of all slots; `next` is the nearest end known before it.
+fn lowest_values<S: ReadSlots>(s: &S, t: u64, next: u64) -> LowestValues
+    ensures lowest_values_met { LowestValuesMet result (λ q. winner t q (S.zones s.now)) }
+    ensures next_value { result.next ≡ foldl (nearer t) next (low_dues (S.zones s.now)) }
 {
     let mut g = no_lowest_values(next);
-    let mut i = 0;
-    while i < SLOTS {
-        g = low_slot(d, i, t, g);
-        i += 1;
+    for i in 0..SLOTS {
+        g = low_slot(s, i, t, g);
     }
     g
 }
 
 // The pass over their setpoints.
+fn leading_setpoints<S: ReadSlots>(s: &S, t: u64, next: u64) -> LeadingSetpoints
+    ensures leading_setpoints_met { LeadingSetpointsMet result (λ q. winner t q (S.zones s.now)) }
+    ensures next_value { result.next ≡ foldl (nearer t) next (lead_dues (S.zones s.now)) }
+{
+    let mut g = no_leading_setpoints(next);
+    for i in 0..SLOTS {
+        g = lead_slot(s, i, t, g);
+    }
+    g
+}
+
+// The limits of the zones as they stand.
+pub fn lowest_values_at(d: &State, t: u64, next: u64) -> LowestValues
+    ensures lowest_values_met { LowestValuesMet result (λ q. winner t q (zones_of d.now)) }
+    ensures next_value { result.next ≡ foldl (nearer t) next (low_dues (zones_of d.now)) }
+{
+    lowest_values(d, t, next)
+}
+
+// Their setpoints.
 pub fn leading_setpoints_at(d: &State, t: u64, next: u64) -> LeadingSetpoints
     ensures leading_setpoints_met { LeadingSetpointsMet result (λ q. winner t q (zones_of d.now)) }
     ensures next_value { result.next ≡ foldl (nearer t) next (lead_dues (zones_of d.now)) }
 {
-    let mut g = no_leading_setpoints(next);
-    let mut i = 0;
-    while i < SLOTS {
-        g = lead_slot(d, i, t, g);
-        i += 1;
-    }
-    g
+    leading_setpoints(d, t, next)
 }
 
-// Slot i, the given record in its slot's place.
-fn low_place(d: &State, slot: usize, zone: Zone, i: usize, t: u64, g: LowestValues) -> LowestValues
-    requires { i < slots }
-    ensures adds { Adds LowestValuesMet t (get_or (set (zones_of d.now) slot zone) i free_zone) g result }
-    ensures next_value { result.next ≡ foldl (nearer t) g.next (zone_dues low_at lowest_values (get_or (set (zones_of d.now) slot zone) i free_zone)) }
-{
-    if i == slot {
-        return low_zone(t, zone, g);
-    }
-    low_slot(d, i, t, g)
-}
-
-fn lead_place(
-    d: &State,
-    slot: usize,
-    zone: Zone,
-    i: usize,
-    t: u64,
-    g: LeadingSetpoints,
-) -> LeadingSetpoints
-    requires { i < slots }
-    ensures adds { Adds LeadingSetpointsMet t (get_or (set (zones_of d.now) slot zone) i free_zone) g result }
-    ensures next_value { result.next ≡ foldl (nearer t) g.next (zone_dues lead_at leading_setpoints (get_or (set (zones_of d.now) slot zone) i free_zone)) }
-{
-    if i == slot {
-        return lead_zone(t, zone, g);
-    }
-    lead_slot(d, i, t, g)
-}
-
-// The pass over the limits with the given record in its slot's place.
+// The limits with the given record in its slot's place.
 pub fn lowest_values_with(d: &State, slot: usize, zone: Zone, t: u64) -> LowestValues
     ensures lowest_values_met { LowestValuesMet result (λ q. winner t q (set (zones_of d.now) slot zone)) }
     ensures next_value { result.next ≡ foldl (nearer t) end (low_dues (set (zones_of d.now) slot zone)) }
 {
-    let mut g = no_lowest_values(END);
-    let mut i = 0;
-    while i < SLOTS {
-        g = low_place(d, slot, zone, i, t, g);
-        i += 1;
-    }
-    g
+    let s = WithZone {
+        device: d,
+        slot,
+        zone,
+    };
+    lowest_values(&s, t, END)
 }
 
-// The pass over the setpoints with it.
+// The setpoints with it.
 pub fn leading_setpoints_with(d: &State, slot: usize, zone: Zone, t: u64) -> LeadingSetpoints
     ensures leading_setpoints_met { LeadingSetpointsMet result (λ q. winner t q (set (zones_of d.now) slot zone)) }
     ensures next_value { result.next ≡ foldl (nearer t) end (lead_dues (set (zones_of d.now) slot zone)) }
 {
-    let mut g = no_leading_setpoints(END);
-    let mut i = 0;
-    while i < SLOTS {
-        g = lead_place(d, slot, zone, i, t, g);
-        i += 1;
-    }
-    g
+    let s = WithZone {
+        device: d,
+        slot,
+        zone,
+    };
+    leading_setpoints(&s, t, END)
 }

@@ -6,6 +6,7 @@ use mathlib.Core.List.{List, [], ◌∷◌}
 use native.Mathlib.Nat.{add-zero}
 use native.Mathlib.Numerals.{add-one}
 use native.Mathlib.Omega.{arith}
+use mir.Val.{bool_byte}
 use lib.Dec.{ltb}
 use lib.ListN.{length, get_or, set, drop, drop_of_length-le}
 use lib.Seq.{sets, drop-cons}
@@ -34,6 +35,11 @@ unfolding held_words
 held-until [] q m e = refl
 held-until (h ∷ hs) zero m e = let p : m ≡ 1 = omega arith in rw p
 held-until (h ∷ hs) (suc q) m e = let p : m ≡ suc (suc (2 * q + 1)) = omega arith in rw p (held-until hs q (2 * q + 1) refl)
+
+pub bit-byte : (b : Bool) → bool_byte b ≡ bit b
+unfolding bit
+bit-byte true = refl
+bit-byte false = refl
 
 pub bit-back : (b : Bool) → ltb 0 (bit b) ≡ b
 unfolding bit

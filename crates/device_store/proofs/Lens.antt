@@ -12,16 +12,13 @@ use lib.ListN.{length, get_or, set, length-set, get_or-eq_default}
 use lib.Seq.{sets, length-sets, get_or-set_same, get_or-set_other}
 use Rattle.device_store.specs.Sizes.{helds, slots, zone_size, head_size, words}
 use Rattle.device_store.specs.Zones.{nothing, free_zone}
+pub use Rattle.device_store.specs.Counts.{zones_length}
 use Rattle.device_store.specs.Words.{base, held_in, zone_at, zones_of, zone_words, put_zone}
 use Rattle.device_store.specs.declared.Zone.{Zone}
-use Rattle.device_store.proofs.Runs.{sets-before, sets-after, sets-in, set-sets_before, sets-sets, length-up_to, get_d-up_to, up_to-list, up_to-cong}
+use Rattle.device_store.proofs.Runs.{sets-before, sets-after, sets-in, set-sets_before, sets-sets, get_d-up_to, up_to-list, up_to-cong}
 use Rattle.device_store.proofs.HeldWords.{zone_length, held-value, held-until, bit-back}
 
 -- the slots of a device
-pub zones_length : (ws : List ℕ) → length (zones_of ws) ≡ slots
-unfolding zones_of
-zones_length ws = length-up_to (zone_at ws) slots
-
 pub zones_at : (ws : List ℕ) (i : ℕ) (d : Zone) → i < slots → get_or (zones_of ws) i d ≡ zone_at ws i
 unfolding zones_of
 zones_at ws i d h = get_d-up_to (zone_at ws) slots i d h

@@ -10,3 +10,4 @@ pub mod Effects
 pub mod Slots
 pub mod Answered
 pub mod Smaller
+pub mod Ranges

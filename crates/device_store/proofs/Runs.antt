@@ -5,9 +5,10 @@ use mathlib.Core.List.{List, [], ◌∷◌}
 use native.Mathlib.Nat.{le_of_suc-le-suc, not-suc-le-zero}
 use native.Mathlib.Decide.{dec_lt}
 use native.Mathlib.Omega.{arith}
-use lib.ListN.{length, get_or, set, length-set, length-append, get_or-append}
+use lib.ListN.{length, get_or, set, length-set, get_or-append}
 use lib.Seq.{sets, get_or-set_same, get_or-set_other, set_comm, get_or_at, ext_get_or}
 use Rattle.device_store.specs.Zones.{up_to}
+pub use Rattle.device_store.specs.Counts.{length-up_to}
 
 module _ {A : Type 0} where
   -- what a run of stores leaves before it, after it, in it
@@ -41,11 +42,6 @@ module _ {A : Type 0} where
   sets-sets [] vs l i j h = refl
   sets-sets (a ∷ us) vs l i j h =
       ap (λ (x : List A). sets x (suc j) us) (set-sets vs l i j a h) ∙ sets-sets us vs (set l j a) i (suc j) (omega arith)
-
-  pub length-up_to : (f : ℕ → A) (n : ℕ) → length (up_to f n) ≡ n
-  unfolding up_to
-  length-up_to f zero = refl
-  length-up_to f (suc n) = length-append (up_to f n) (f n ∷ []) ∙ rw (length-up_to f n) (omega arith)
 
   pub get_d-up_to : (f : ℕ → A) (n i : ℕ) (d : A) → i < n → get_or (up_to f n) i d ≡ f i
   unfolding up_to

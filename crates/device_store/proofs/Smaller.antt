@@ -27,3 +27,5 @@ lesser-min a b =
       | yes h ↦ let k : a ≤ b = omega arith in rw (lt-ltb a b h, min-eq_left k)
       | no h ↦ let k : b ≤ a = omega arith in rw (le-ltb a b k, min-eq_right k)
     ]
+
+pub ruleset minimum = (lesser-min)

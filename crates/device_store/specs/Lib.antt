@@ -3,3 +3,4 @@ pub mod Zones
 pub mod Words
 pub mod Quantities
 pub mod Smaller
+pub mod Counts

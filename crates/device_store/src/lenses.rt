@@ -5,7 +5,8 @@ ghost use Rattle.device_store.specs.Zones.{up_to, id_of, free_zone, slot_of, joi
 ghost use Rattle.device_store.specs.Words.{clock_of, since_of, override_of, settings_of, base, held_in, zones_of};
 
 use crate::quantities::HELDS;
-use crate::{HEAD, Held, IDS, SLOTS, Settings, State, WORDS, ZONE, Zone};
+use crate::{HEAD, Held, IDS, NOTHING, SLOTS, Settings, State, WORDS, ZONE, Zone};
+use std::array;
 
 // A copy: an array by value, whose length the proof knows. Where nothing reads it, it leaves no code.
 pub fn all(d: &State) -> State
@@ -14,6 +15,7 @@ pub fn all(d: &State) -> State
     *d
 }
 
+// By hand: `d.get(i)` answers a reference in an Option, which the archive's module may not hold.
 fn word(d: &State, i: usize) -> u64
     ensures { result ≡ get_or d.now i 0 }
 {
@@ -49,15 +51,13 @@ pub fn overridden(d: &State) -> u64
 pub fn settings_at(d: &State) -> Settings
     ensures { result ≡ settings_of d.now }
 {
-    let maxima = [word(d, 7), word(d, 8)];
-    let failsafe = [word(d, 9), word(d, 10)];
     Settings {
         directions: word(d, 3),
         limits: 0 < word(d, 4),
         setpoints: 0 < word(d, 5),
         minimum: word(d, 6),
-        maxima: maxima,
-        failsafe: failsafe,
+        maxima: [word(d, 7), word(d, 8)],
+        failsafe: [word(d, 9), word(d, 10)],
         duration: word(d, 11),
         manager: 0 < word(d, 12),
         phases: word(d, 13),
@@ -88,14 +88,7 @@ fn helds_in(d: &State, p: usize) -> [Held; HELDS]
     requires { p < words }
     ensures { result ≡ up_to (held_in d.now p) helds }
 {
-    let mut hs = [Held { value: 0, until: 0 }; HELDS];
-    let mut q = 0;
-    while q < HELDS {
-        let h = held_in(d, p, q);
-        hs[q] = h;
-        q += 1;
-    }
-    hs
+    array::from_fn(|q| held_in(d, p, q))
 }
 
 // The record of a slot that no zone has.
@@ -105,7 +98,7 @@ pub fn free_zone() -> Zone
     Zone {
         precedence: 0,
         up: false,
-        held: [Held { value: 0, until: 0 }; HELDS],
+        held: [NOTHING; HELDS],
     }
 }
 
@@ -139,13 +132,10 @@ fn part(d: &State, slot: usize, k: usize) -> u64
 pub fn held_at(d: &State, slot: usize, q: usize) -> Held
     ensures { result ≡ held_of (get_or (zones_of d.now) slot free_zone) q }
 {
-    if slot < SLOTS {
-        if q < HELDS {
-            return held_in(d, HEAD + slot * ZONE + 2, q);
-        }
-        return Held { value: 0, until: 0 };
+    if slot < SLOTS && q < HELDS {
+        return held_in(d, HEAD + slot * ZONE + 2, q);
     }
-    Held { value: 0, until: 0 }
+    NOTHING
 }
 
 // The precedence in a slot, 0 in a free one.
@@ -173,24 +163,14 @@ pub fn up_at(d: &State, slot: usize) -> bool
 pub fn slot_of(d: &State, id: u64) -> usize
     ensures { result ≡ slot_of (zones_of d.now) id }
 {
-    let mut i = 0;
-    while i < SLOTS {
-        if id_at(d, i) == id {
-            return i;
-        }
-        i += 1;
-    }
-    i
+    (0..SLOTS).position(|i| id_at(d, i) == id).unwrap_or(SLOTS)
 }
 
 // The slot of a joined zone, SLOTS of any other number.
 pub fn slot_of_joined(d: &State, id: u64) -> usize
     ensures { result ≡ cond (ltb 0 id) (slot_of (zones_of d.now) id) slots }
 {
-    if 0 < id {
-        return slot_of(d, id);
-    }
-    SLOTS
+    if id == 0 { SLOTS } else { slot_of(d, id) }
 }
 
 // Whether a zone is joined: 0 is no zone.

@@ -4,6 +4,7 @@
 mod lenses;
 mod puts;
 mod quantities; // quantities.rt: the quantities that a zone can set, by index
+mod views; // views.rt: the slots as they stand, or with another record in one
 
 pub use lenses::{
     all, clock, free_zone, held_at, id_at, is_joined, is_manager, overridden, precedence_at,
@@ -14,6 +15,7 @@ pub use quantities::{
     CURRENTS, HELDS, LEADING_SETPOINTS, LIMITS, LOWEST_VALUES, PHASES, SETPOINTS, direction_of,
     is_current, is_limit, least, phase_of, supports,
 };
+pub use views::{ReadSlots, WithZone};
 
 // How many zones there are, and the words of a zone, of the head and of the whole device.
 pub const SLOTS: usize = 8;
@@ -51,6 +53,9 @@ pub struct Held {
     pub value: u64,
     pub until: u64,
 }
+
+// Never set, or removed.
+const NOTHING: Held = Held { value: 0, until: 0 };
 
 // A slot's whole record. The precedence is rank * IDS + id, so that setpoints are told apart by one number; id 0 is a free slot.
 #[derive(Clone, Copy)]

@@ -1,26 +1,24 @@
--- No slot before i has the id, so that the first one is i and the first of those from i on.
-use mathlib.Core.Path.{sym, ◌∙◌}
-use native.Mathlib.Omega.{arith}
-use borrow.Author.Tests.{eq-eqb, ne_eqb}
-use Rattle.device_store.specs.Zones.{slot_of, free_zone}
-use Rattle.device_store.proofs.Folds.{first-here, first-turn, first-end}
+-- The places that the search goes over are those of the slots.
+use mathlib.Core.Path.{refl, ap, ◌∙◌}
+use Prim.Native.Nat.{ℕ}
+use mathlib.Core.Bool.{Bool}
+use lib.Dec.{eqb}
+use lib.ListN.{get_or}
+use Rattle.std.proofs.Common.{rules, tests}
+use Rattle.std.specs.Option.{unwrap_or}
+use Rattle.std.specs.List.{range_with_len}
+use Rattle.std.proofs.lemmas.Iterator.{YieldsList-from_range}
+use Rattle.std.proofs.lemmas.Iterator.Search.{position_from_yields_List}
+use Rattle.device_store.specs.Zones.{slot_of, id_of, free_zone}
+use Rattle.device_store.specs.Words.{zones_of}
 use Rattle.device_store.proofs.Lens.{zones_length}
+use Rattle.device_store.proofs.Ranges.{first-over, place}
 use Rattle.device_store.proofs.lenses.slot_of.Goals as goal
-
-pub returns-then-id_at-id : goal.returns-then-id_at-id
-unfolding slot_of
-returns-then-id_at-id c =
-    first-here _ _ free_zone c.loop-i.i (omega (arith, zones_length c.args.d.now)) c.loop-i.invariant.1
-    (eq-eqb _ _ (sym c.id_at.ensures ∙ c.if-id_at-id.true))
-
-pub loop-i-preserved : goal.loop-i-preserved
-unfolding slot_of
-loop-i-preserved c = (
-  omega arith,
-  first-turn _ _ free_zone c.loop-i.i (omega (arith, zones_length c.args.d.now)) c.loop-i.invariant.1
-      (ne_eqb _ _ (λ e. c.if-id_at-id.false (c.id_at.ensures ∙ e))),
-)
 
 pub returns : goal.returns
 unfolding slot_of
-returns c = first-end _ _ c.loop-i.i (omega (arith, zones_length c.args.d.now)) c.loop-i.invariant.1
+returns c =
+    let has : ℕ → Bool = λ i. eqb (id_of (get_or (zones_of c.args.d.now) i free_zone)) c.args.id in
+    let found = position_from_yields_List has _ _ c.position.result c.position.ensures.ran (YieldsList-from_range 0 8 8 refl refl) (λ x b q k. search (rules, tests)) in
+    c.unwrap_or.ensures ∙ ap (λ r. unwrap_or r 8) found ∙ place has (range_with_len 0 8)
+    ∙ first-over (λ x. eqb (id_of x) c.args.id) (zones_of c.args.d.now) 8 free_zone (zones_length c.args.d.now)

@@ -4,12 +4,9 @@ use Rattle.device_store.specs.Words.{held_words}
 use lib.Seq.{sets}
 use lib.ListN.{drop}
 use mathlib.Core.Path.{◌≡◌}
-use Prim.Native.Nat.{◌≤◌, ◌-◌, ◌+◌, ◌*◌}
+use Prim.Native.Nat.{◌≤◌, ◌+◌, ◌*◌}
 use Rattle.device_store.proofs.puts.put_helds.Given as goal
 
 abbrev pub invariant-loop-q : goal.invariant-loop-q
 invariant-loop-q l =
-    (l.q ≤ helds) × (sets l.d (l.p + 2 * l.q) (held_words (drop l.q l.hs)) ≡ sets l.initial.d l.p (held_words l.hs))
-
-abbrev pub decreases-loop-q : goal.decreases-loop-q
-decreases-loop-q l = helds - l.q
+    (l.q ≤ helds) × (sets l.d (l.p + 2 * l.q) (held_words (drop l.q l.h-items)) ≡ sets l.initial.d l.p (held_words l.h-items))
