@@ -85,13 +85,13 @@ module _ (i : Inputs) (b : ℕ) (range : in_range i ≡ true) where
   invalid-below e = has-below (and_right (member b _) (has i b) e)
 
 -- a mandatory attribute has a row
-row_of : (i : Inputs) (rs : List Row) (n : ℕ) → get_or (conditions i) (condition_in rs n) false ≡ true → (k : ℕ) × (k < length rs) × ((get_or rs k no_row).0 ≡ n)
+row_of : (i : Inputs) (rs : List Row) (n : ℕ) → conditions i (condition_in rs n) ≡ true → (k : ℕ) × (k < length rs) × ((get_or rs k no_row).0 ≡ n)
 unfolding conditions condition_in
 row_of i [] n e = absurd (false≢true e)
 row_of i (r ∷ rs) n e = go (eqb r.0 n) refl (λ e. row_of i rs n e) e
   where
-    go : (b : Bool) → eqb r.0 n ≡ b → (get_or (conditions i) (condition_in rs n) false ≡ true → (k : ℕ) × (k < length rs) × ((get_or rs k no_row).0 ≡ n))
-        → get_or (conditions i) (cond b r.1 (condition_in rs n)) false ≡ true → (k : ℕ) × (k < suc (length rs)) × ((get_or (r ∷ rs) k no_row).0 ≡ n)
+    go : (b : Bool) → eqb r.0 n ≡ b → (conditions i (condition_in rs n) ≡ true → (k : ℕ) × (k < length rs) × ((get_or rs k no_row).0 ≡ n))
+        → conditions i (cond b r.1 (condition_in rs n)) ≡ true → (k : ℕ) × (k < suc (length rs)) × ((get_or (r ∷ rs) k no_row).0 ≡ n)
     go true f later e = (0, omega arith, eqb-true r.0 n f)
     go false f later e = (suc (later e).0, omega (arith, (later e).1), (later e).2)
 

@@ -1,11 +1,12 @@
 -- The report's list, walked place by place: the rule of the pair at a place, and what is left from there on.
 use Prim.Native.Nat.{ℕ, ◌+◌, ◌<◌, ◌≤◌, ◌/◌, ◌%◌}
 use mathlib.Core.Bool.{Bool, true, false, not, ◌&&◌}
-use mathlib.Core.Path.{◌≡◌, sym}
+use mathlib.Core.Path.{◌≡◌, refl, sym}
 use mathlib.Core.List.{[], ◌∷◌}
 use native.Mathlib.Numerals.{add-one}
 use native.Mathlib.Omega.{arith}
 use lib.Dec.{eqb}
+use borrow.Author.Tests.{ne_eqb}
 use lib.ListN.{get_or, drop, drop_of_length-le, get_or-append}
 use lib.Seq.{drop-cons}
 use Rattle.report_tables.specs.Features.{bits}
@@ -14,16 +15,22 @@ use Rattle.report.specs.Sizes.{bit_pairs, pair_count}
 use Rattle.report.specs.Lists.{keep}
 use Rattle.report.specs.Attributes.{conditions, mandatory}
 use Rattle.report.specs.Rules.{bit_rules, lacks_attribute, broken, broken_in, candidates, no_pair}
+use Rattle.report_tables.specs.declared.attributes.Row.{Row}
 use Rattle.report.specs.declared.Inputs.{Inputs}
-use Rattle.report.proofs.Tables.{bit-pair, row-pair, row-condition, length-candidates}
+use Rattle.report.proofs.Tables.{bit-pair, row-pair, row_condition, length-candidates}
 
 module _ (i : Inputs) (listed : ℕ → Bool) where
   -- group 6 by the row's own condition
-  pub row-lacks : (k : ℕ) → k < row_count
-      → (not (eqb i.endpoint 0) && get_or (conditions i) (get_or rows k no_row).1 false && not (listed (get_or rows k no_row).0))
+  pub row_lacks : (k : ℕ) → k < row_count
+      → (not (eqb i.endpoint 0) && conditions i (get_or rows k no_row).1 && not (listed (get_or rows k no_row).0))
       ≡ lacks_attribute i listed (get_or rows k no_row).0
   unfolding lacks_attribute mandatory
-  row-lacks k h = rw (row-condition k h)
+  row_lacks k h = rw (row_condition k h)
+
+  -- a row whose condition the device meets, and which is no root's
+  pub row_met : (k : ℕ) → k < row_count → (r : Row) → r ≡ get_or rows k no_row → (i.endpoint ≡ 0 → ⊥) → {m v l : Bool} → v ≡ m → m ≡ conditions i r.1 → v ≡ true
+      → l ≡ listed r.0 → not l ≡ lacks_attribute i listed (get_or rows k no_row).0
+  row_met k h r row z f g e is = rw (← row_lacks k h, ← row, ← g, ← f, e, ne_eqb i.endpoint 0 z, is) refl
 
   pub bit-broken : (k : ℕ) → k < bit_pairs → get_or (bit_rules i (k % bits)) (k / bits) false ≡ broken i listed (get_or candidates k no_pair)
   unfolding broken bit_rules

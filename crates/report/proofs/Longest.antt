@@ -5,17 +5,18 @@ use mathlib.Core.Path.{◌≡◌, refl, ap, ◌∙◌}
 use mathlib.Core.List.{List, [], ◌∷◌, ◌++◌, map}
 use native.Mathlib.Omega.{arith}
 use lib.Dec.{eqb, leb}
-use lib.ListN.{length, get_or}
-use borrow.Author.Tests.{eqb-true, leb-true}
+use lib.ListN.{length}
+use borrow.Author.Tests.{leb-true}
 use Rattle.report_tables.specs.Endpoints.{types, required, invalid, bits_of}
 use Rattle.report_tables.specs.Features.{bits, maps, BATTERY, ASYMMETRIC, V2X, all_bits}
 use Rattle.report.specs.Lists.{member, keep}
 use Rattle.report.specs.Features.{bit}
-use Rattle.report_tables.specs.Attributes.{optional, if_asymmetric_both, rows}
+use Rattle.report_tables.specs.Attributes.{rows}
 use Rattle.report.specs.Attributes.{conditions, condition_in, mandatory}
 use Rattle.report.specs.Rules.{has, need, lacks_need, clashes, lacks_supply, lacks_required, has_invalid, lacks_attribute, bit_rules, broken, pairs, candidates, breaches}
 use Rattle.report.specs.Report.{in_range}
 use Rattle.report.specs.Statements.{Longest, longest}
+use Rattle.report_tables.specs.declared.attributes.Condition.{Condition}
 use Rattle.report.specs.declared.Inputs.{Inputs}
 use Rattle.report.specs.declared.breaches.Pair.{Pair}
 use Rattle.report.proofs.Bools.{and_left, and_right}
@@ -86,8 +87,10 @@ supply_wider false h p false x both e = e
 abbrev supplied : Bool → ℕ → Bool
 supplied both b = eqb b ASYMMETRIC || (eqb b V2X && not both)
 
-abbrev wanted : Bool → ℕ → Bool
-wanted both c = not (eqb c optional) && (not (eqb c if_asymmetric_both) || both)
+abbrev wanted : Bool → Condition → Bool
+wanted both Condition.Optional = false
+wanted both Condition.IfAsymmetricBoth = both
+wanted both _ = true
 
 supplied_few : (both : Bool) → many (supplied both) all_bits ≤ 2
 unfolding keep
@@ -103,14 +106,22 @@ module _ (i : Inputs) (listed : ℕ → Bool) where
   abbrev both : Bool
   both = eqb i.directions 2
 
-  condition_wider : (c : ℕ) → get_or (conditions i) c false ≡ true → wanted both c ≡ true
+  condition_wider : (c : Condition) → conditions i c ≡ true → wanted both c ≡ true
   unfolding conditions
-  condition_wider c e = go (eqb c optional) (eqb c if_asymmetric_both) refl refl
-    where
-      go : (a b : Bool) → eqb c optional ≡ a → eqb c if_asymmetric_both ≡ b → (not a && (not b || both)) ≡ true
-      go true b f g = absurd (false≢true (rw (eqb-true c optional f) at e))
-      go false true f g = and_right (has i ASYMMETRIC) both (rw (eqb-true c if_asymmetric_both g) at e)
-      go false false f g = refl
+  condition_wider Condition.Optional e = e
+  condition_wider Condition.IfAsymmetricBoth e = and_right (has i ASYMMETRIC) both e
+  condition_wider Condition.Always e = refl
+  condition_wider Condition.IfV2x e = refl
+  condition_wider Condition.IfProcess e = refl
+  condition_wider Condition.IfLimits e = refl
+  condition_wider Condition.IfLimitsOut e = refl
+  condition_wider Condition.IfAsymmetricCurrents e = refl
+  condition_wider Condition.IfSetpoints e = refl
+  condition_wider Condition.IfSetpointsOut e = refl
+  condition_wider Condition.IfFlex e = refl
+  condition_wider Condition.IfForecast e = refl
+  condition_wider Condition.IfOut e = refl
+  condition_wider Condition.IfProcessState e = refl
 
   attribute_wider : (n : ℕ) → lacks_attribute i listed n ≡ true → wanted both (condition_in rows n) ≡ true
   unfolding lacks_attribute mandatory

@@ -1,15 +1,15 @@
 -- The tables of the code and those of specs/ agree: each rule is one test, computed over the whole table, and one law that
 -- turns a passed test into the rule at every entry.
 use Prim.Native.Nat.{ℕ, zero, suc, ◌+◌, ◌<◌, ◌/◌, ◌%◌}
-use mathlib.Core.Bool.{Bool, true, ◌&&◌, beq}
+use mathlib.Core.Bool.{Bool, true, false, not, ◌&&◌, beq}
 use mathlib.Core.Path.{◌≡◌, refl}
-use mathlib.Core.List.{List}
+use mathlib.Core.List.{List, [], ◌∷◌}
 use native.Mathlib.Decide.{dec_lt}
-use native.Mathlib.Nat.{not-suc-le-zero}
+use native.Mathlib.Nat.{not-suc-le-zero, le_of_suc-le-suc}
 use native.Mathlib.Omega.{arith}
 use lib.Dec.{eqb}
 use lib.ListN.{length, get_or}
-use borrow.Author.Tests.{eqb-true}
+use borrow.Author.Tests.{eqb-true, eq-eqb}
 use Rattle.report_tables.specs.Endpoints.{types, bits_of, mask}
 use Rattle.report_tables.specs.Features.{bits}
 use Rattle.report_tables.specs.Attributes.{row_count, rows, no_row}
@@ -20,7 +20,7 @@ use Rattle.report.specs.Attributes.{condition_in}
 use Rattle.report.specs.Rules.{candidates, no_pair}
 use Rattle.report_tables.specs.declared.attributes.Row.{Row}
 use Rattle.report.specs.declared.breaches.Pair.{Pair}
-use Rattle.report.proofs.Bools.{and_left, and_right, same}
+use Rattle.report.proofs.Bools.{and_left, and_right, not_true, same}
 
 -- a test passes at every number below n
 abbrev pub every : (ℕ → Bool) → ℕ → Bool
@@ -43,11 +43,30 @@ pub mask_at : (column : List (List ℕ)) → every (λ t. every (right column t)
     → bit (mask (bits_of column t)) b ≡ member b (bits_of column t)
 mask_at column e t b ht hb = same _ _ (passes (right column t) bits b (passes (λ t. every (right column t) bits) types t e ht) hb)
 
--- section 3.3: a row's condition is that of its number
-pub row-condition : (k : ℕ) → k < row_count → condition_in rows (get_or rows k no_row).0 ≡ (get_or rows k no_row).1
-unfolding rows condition_in
-row-condition k h =
-    eqb-true _ _ (passes (λ k. eqb (condition_in rows (get_or rows k no_row).0) (get_or rows k no_row).1) row_count k refl h)
+-- section 3.3: no two rows have one number, so that a row's condition is that of its number
+abbrev absent : ℕ → List Row → Bool
+absent n [] = true
+absent n (r ∷ rs) = not (eqb n r.0) && absent n rs
+
+abbrev apart : List Row → Bool
+apart [] = true
+apart (r ∷ rs) = absent r.0 rs && apart rs
+
+absent-at : (n : ℕ) (rs : List Row) (k : ℕ) → k < length rs → absent n rs ≡ true → eqb n (get_or rs k no_row).0 ≡ false
+absent-at n [] k h e = absurd (not-suc-le-zero h)
+absent-at n (r ∷ rs) zero h e = not_true (eqb n r.0) (and_left _ (absent n rs) e)
+absent-at n (r ∷ rs) (suc k) h e = absent-at n rs k (le_of_suc-le-suc h) (and_right (not (eqb n r.0)) _ e)
+
+condition-at : (rs : List Row) (k : ℕ) → k < length rs → apart rs ≡ true → condition_in rs (get_or rs k no_row).0 ≡ (get_or rs k no_row).1
+unfolding condition_in
+condition-at [] k h e = absurd (not-suc-le-zero h)
+condition-at (r ∷ rs) zero h e = rw (eq-eqb r.0 r.0 refl) refl
+condition-at (r ∷ rs) (suc k) h e =
+    rw (absent-at r.0 rs k (le_of_suc-le-suc h) (and_left _ (apart rs) e)) (condition-at rs k (le_of_suc-le-suc h) (and_right (absent r.0 rs) _ e))
+
+pub row_condition : (k : ℕ) → k < row_count → condition_in rows (get_or rows k no_row).0 ≡ (get_or rows k no_row).1
+unfolding rows
+row_condition k h = condition-at rows k h refl
 
 -- the pairs of a report by place: eleven bits in each of five groups, then the rows
 abbrev pub pair_of : ℕ → ℕ → Pair

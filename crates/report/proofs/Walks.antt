@@ -1,32 +1,33 @@
--- A loop over a list from the front: what is left at place k, and one place on.
-use Prim.Native.Nat.{ℕ, ◌+◌, ◌<◌, ◌≤◌}
+-- The library's answers on a list are the definitions': membership, and strict ascent.
+use Prim.Native.Nat.{ℕ}
 use mathlib.Core.Bool.{Bool, true, false}
-use mathlib.Core.Path.{◌≡◌}
-use mathlib.Core.List.{List, foldl}
+use mathlib.Core.Path.{◌≡◌, refl, sym, ◌∙◌}
+use mathlib.Core.List.{List, [], ◌∷◌}
 use native.Mathlib.Numerals.{add-one}
-use lib.ListN.{length, get_or, drop, drop_of_length-le}
-use lib.Seq.{drop-cons}
-use borrow.Author.Tests.{le-leb, lt-leb}
-use Rattle.report.specs.Lists.{ascends_from}
+use lib.Dec.{eqb, ltb}
+use borrow.Author.Tests.{ltb-true, lt-ltb, eqb-true, eqb-false, eq-eqb, ne_eqb}
+use Rattle.std.specs.List.{list_any, IsAllAdjacentAnswer}
+use Rattle.report.specs.Lists.{member, ascends}
+use Rattle.report.specs.Statements.{Rising, Strict}
+use Rattle.report.proofs.Rises.{strict}
 
--- a fold
-module _ {A B : Type 0} (f : B → A → B) (l : List A) where
-  pub fold_turn : (d : A) (k : ℕ) (a b r : B) → k < length l → foldl f a (drop k l) ≡ r → b ≡ f a (get_or l k d) → foldl f b (drop (k + 1) l) ≡ r
-  fold_turn d k a b r h inv e = rw (add-one, e) (rw (drop-cons l k d) at inv)
+either_swap : (x y : ℕ) → eqb x y ≡ eqb y x
+either_swap x y = go (eqb y x) refl
+  where
+    go : (b : Bool) → eqb y x ≡ b → eqb x y ≡ b
+    go true e = eq-eqb x y (sym (eqb-true y x e))
+    go false e = ne_eqb x y (λ f. eqb-false y x e (sym f))
 
-  pub fold_end : (k : ℕ) (a r : B) → length l ≤ k → foldl f a (drop k l) ≡ r → a ≡ r
-  fold_end k a r h inv = rw (drop_of_length-le l h) at inv
+pub any_member : (n : ℕ) (ns : List ℕ) → list_any (λ y. eqb y n) ns ≡ member n ns
+unfolding member
+any_member n [] = refl
+any_member n (x ∷ ns) = rw (either_swap x n, any_member n ns) refl
 
--- the test of strict ascent: the number at k is too small, or the test goes on above it
-module _ (l : List ℕ) (least k : ℕ) (r : Bool) (inv : ascends_from least (drop k l) ≡ r) where
-  pub ascent_broken : k < length l → get_or l k 0 < least → false ≡ r
-  unfolding ascends_from
-  ascent_broken h e = rw (drop-cons l k 0, lt-leb _ _ e) at inv
-
-  pub ascent_turn : k < length l → least ≤ get_or l k 0 → ascends_from (get_or l k 0 + 1) (drop (k + 1) l) ≡ r
-  unfolding ascends_from
-  ascent_turn h e = rw (add-one k) (rw (drop-cons l k 0, le-leb _ _ e) at inv)
-
-  pub ascent_end : length l ≤ k → true ≡ r
-  unfolding ascends_from
-  ascent_end h = rw (drop_of_length-le l h) at inv
+pub sorted-ascends : (ns : List ℕ) (r : Bool) → IsAllAdjacentAnswer (λ x y b. b ≡ ltb x y) ns r → r ≡ ascends ns
+unfolding Strict Rising
+sorted-ascends ns true a = sym ((strict ns).1 (λ k h. ltb-true _ _ (sym (rw add-one at (a k 0 (rw add-one h))))))
+sorted-ascends ns false (k, h, e) = go (ascends ns) refl
+  where
+    go : (b : Bool) → ascends ns ≡ b → false ≡ b
+    go true f = e 0 ∙ rw add-one (lt-ltb _ _ ((strict ns).0 f k (rw add-one at h)))
+    go false f = refl

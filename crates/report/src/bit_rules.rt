@@ -16,42 +16,48 @@ fn need(b: u64) -> u64
     if b == V2X { EMOB } else { CORE }
 }
 
+#[tactic(auto, unfolding(crate::specs::Rules::lacks_need))]
 fn lacks_need(i: Inputs, b: u64) -> bool
     requires { b < bits }
     ensures { result ≡ lacks_need i b }
 {
-    has(i.features, b) & !has(i.features, need(b))
+    has(i.features, b) && !has(i.features, need(b))
 }
 
+#[tactic(auto, unfolding(crate::specs::Rules::clashes))]
 fn clashes(i: Inputs, b: u64) -> bool
     ensures { result ≡ clashes i b }
 {
-    (b == BATTERY) & has(i.features, BATTERY) & has(i.features, EMOB)
+    (b == BATTERY) && has(i.features, BATTERY) && has(i.features, EMOB)
 }
 
+#[tactic(auto, unfolding(crate::specs::Rules::lacks_supply))]
 fn lacks_supply(i: Inputs, b: u64) -> bool
     ensures { result ≡ lacks_supply i b }
 {
-    let unbalanced = (b == ASYMMETRIC) & has(i.features, ASYMMETRIC) & (i.phases == 1);
-    let one_way = (b == V2X) & has(i.features, V2X) & (i.directions != 2);
-    unbalanced | one_way
+    let unbalanced = (b == ASYMMETRIC) && has(i.features, ASYMMETRIC) && (i.phases == 1);
+    let one_way = (b == V2X) && has(i.features, V2X) && (i.directions != 2);
+    unbalanced || one_way
 }
 
+#[tactic(auto, unfolding(crate::specs::Rules::lacks_required))]
 fn lacks_required(i: Inputs, b: u64) -> bool
     requires { (i.endpoint < types) × (b < bits) }
     ensures { result ≡ lacks_required i b }
 {
-    requires_bit(i.endpoint, b) & !has(i.features, b)
+    requires_bit(i.endpoint, b) && !has(i.features, b)
 }
 
+#[tactic(auto, unfolding(crate::specs::Rules::has_invalid))]
 fn has_invalid(i: Inputs, b: u64) -> bool
     requires { (i.endpoint < types) × (b < bits) }
     ensures { result ≡ has_invalid i b }
 {
-    forbids_bit(i.endpoint, b) & has(i.features, b)
+    forbids_bit(i.endpoint, b) && has(i.features, b)
 }
 
 // Whether the rule of one of the groups 1 to 5 is broken for a bit.
+#[tactic(auto, unfolding(crate::specs::Rules::bit_rules))]
 pub fn broken_bit(i: Inputs, group: usize, b: u64) -> bool
     requires { (i.endpoint < types) × (group < bit_groups) × (b < bits) }
     ensures { result ≡ get_or (bit_rules i b) group false }

@@ -4,16 +4,15 @@ ghost use Rattle.std.proofs.lemmas.List.Edits.{sets};
 ghost use Rattle.report_tables.specs.Endpoints.{types};
 ghost use Rattle.report_tables.specs.Attributes.{row_count, rows, no_row};
 ghost use Rattle.report.specs.Sizes.{pair_count};
-ghost use Rattle.report.specs.Lists.{flagged, front};
-ghost use Rattle.report.specs.Attributes.{conditions};
-ghost use Rattle.report.specs.Rules.{lacks_attribute, broken, candidates, no_pair, broken_in};
+ghost use Rattle.report.specs.Lists.{member, front};
+ghost use Rattle.report.specs.Rules.{lacks_attribute, broken, candidates, no_pair, breaches};
 ghost use Rattle.report.specs.Report.{flat};
 
 use crate::Inputs;
-use crate::attributes::flag;
+use crate::attributes::meets;
 use crate::bit_rules::broken_bit;
 use crate::sizes::{ATTRIBUTE_GROUP, BIT_GROUPS};
-use report_tables::{BITS, ROWS, row_at};
+use report_tables::{BITS, ROWS, Row, row_at};
 
 #[derive(Clone, Copy)]
 pub struct Pair {
@@ -25,6 +24,9 @@ pub struct Pair {
 const BIT_PAIRS: usize = BIT_GROUPS * BITS;
 
 const CANDIDATES: usize = BIT_PAIRS + ROWS;
+
+// The endpoint type to which group 6 does not apply.
+const DEVICE_ROOT: u64 = 0;
 
 // The k-th pair that can stand in a report.
 fn candidate(k: usize) -> Pair
@@ -44,38 +46,37 @@ fn candidate(k: usize) -> Pair
     }
 }
 
-// Group 6: whether the attribute of a row is mandatory and not listed. Not applied to DEVICE_ROOT, type 0.
-fn lacks_attribute(i: Inputs, holds: &[bool], listed: &[bool], k: usize) -> bool
-    requires { (k < row_count) × (holds.now ≡ conditions i) }
-    ensures { result ≡ lacks_attribute i (flagged listed.now) (get_or rows k no_row).0 }
+// Group 6: whether the attribute of a row is mandatory and not listed.
+#[tactic(auto, using(crate::proofs::Tables::row_condition), unfolding(crate::specs::Rules::lacks_attribute, crate::specs::Attributes::mandatory))]
+fn lacks_attribute(i: Inputs, listed: &[u16], k: usize) -> bool
+    requires { k < row_count }
+    ensures { result ≡ lacks_attribute i (λ n. member n listed.now) (get_or rows k no_row).0 }
 {
-    let r = row_at(k);
-    (i.endpoint != 0) & flag(holds, r.1 as usize) & !flag(listed, r.0 as usize)
+    let Row(number, condition) = row_at(k);
+    i.endpoint != DEVICE_ROOT && meets(i, condition) && !listed.contains(&u16::from(number))
 }
 
 // Whether the rule of the k-th pair is broken.
-fn is_broken(i: Inputs, holds: &[bool], listed: &[bool], k: usize) -> bool
-    requires { (i.endpoint < types) × (k < pair_count) × (holds.now ≡ conditions i) }
-    ensures { result ≡ broken i (flagged listed.now) (get_or candidates k no_pair) }
+fn is_broken(i: Inputs, listed: &[u16], k: usize) -> bool
+    requires { (i.endpoint < types) × (k < pair_count) }
+    ensures { result ≡ broken i (λ n. member n listed.now) (get_or candidates k no_pair) }
 {
     if k < BIT_PAIRS {
         return broken_bit(i, k / BITS, (k % BITS) as u64);
     }
-    lacks_attribute(i, holds, listed, k - BIT_PAIRS)
+    lacks_attribute(i, listed, k - BIT_PAIRS)
 }
 
 // How many pairs the report has.
-pub fn count(i: Inputs, holds: &[bool], listed: &[bool]) -> usize
-    requires { (i.endpoint < types) × (holds.now ≡ conditions i) }
-    ensures { result ≡ length (broken_in i (flagged listed.now) candidates) }
+pub fn count(i: Inputs, listed: &[u16]) -> usize
+    requires { i.endpoint < types }
+    ensures { result ≡ length (breaches i listed.now) }
 {
     let mut n: usize = 0;
-    let mut k = 0;
-    while k < CANDIDATES {
-        if is_broken(i, holds, listed, k) {
+    for k in 0..CANDIDATES {
+        if is_broken(i, listed, k) {
             n += 1;
         }
-        k += 1;
     }
     n
 }
@@ -89,19 +90,16 @@ fn put(pairs: &mut [u64], at: usize, p: Pair)
 }
 
 // The report's pairs, from the front of the buffer, which has the room.
-pub fn write(i: Inputs, holds: &[bool], listed: &[bool], pairs: &mut [u64])
-    requires endpoint_lt_types { (i.endpoint < types) × (holds.now ≡ conditions i) }
-    requires candidates_in_bounds { length (flat (broken_in i (flagged listed.now) candidates)) ≤ length pairs.old }
-    ensures { pairs.new ≡ front (flat (broken_in i (flagged listed.now) candidates)) pairs.old }
+pub fn write(i: Inputs, listed: &[u16], pairs: &mut [u64])
+    requires endpoint_lt_types { i.endpoint < types }
+    requires candidates_in_bounds { length (flat (breaches i listed.now)) ≤ length pairs.old }
+    ensures { pairs.new ≡ front (flat (breaches i listed.now)) pairs.old }
 {
     let mut at: usize = 0;
-    let mut k = 0;
-    while k < CANDIDATES {
-        if is_broken(i, holds, listed, k) {
-            let p = candidate(k);
-            put(pairs, at, p);
+    for k in 0..CANDIDATES {
+        if is_broken(i, listed, k) {
+            put(pairs, at, candidate(k));
             at += 2;
         }
-        k += 1;
     }
 }

@@ -8,6 +8,7 @@ ghost use Rattle.report.specs.Features.{bit};
 use report_tables::{invalid_bits, required_bits};
 
 // Whether a bit of a map is set.
+#[tactic(auto, unfolding(crate::specs::Features::bit))]
 pub fn has(map: u64, b: u64) -> bool
     requires { b < 64 }
     ensures { result ≡ bit map b }

@@ -11,11 +11,10 @@ ghost use Rattle.std.specs.Prelude.{◌≡◌, length};
 ghost use Rattle.report.specs.Lists.{ascends};
 ghost use Rattle.report.specs.Report.{in_range, report_of, pairs_after};
 
-use attributes::{conditions, mark_listed};
 use breaches::{count, write};
 use refusals::{BAD_SETTINGS, NO_SPACE, NOT_ASCENDING};
 use report_tables::{MAPS, TYPES};
-use sizes::{DIRECTIONS, NUMBERS, PHASES};
+use sizes::{DIRECTIONS, PHASES};
 
 // What a device says of itself. Numbers are wider than their ranges, so that one out of range can be told and refused.
 #[repr(C)]
@@ -39,31 +38,22 @@ pub struct Answer {
     pub count: u64,
 }
 
+#[tactic(auto, unfolding(crate::specs::Report::in_range))]
 fn in_range(i: Inputs) -> bool
     ensures { result ≡ in_range i }
 {
-    (i.endpoint < TYPES as u64)
-        & (i.features < MAPS)
-        & (0 < i.phases)
-        & (i.phases <= PHASES)
-        & (i.directions < DIRECTIONS)
+    i.endpoint < TYPES as u64
+        && i.features < MAPS
+        && 0 < i.phases
+        && i.phases <= PHASES
+        && i.directions < DIRECTIONS
 }
 
 // Whether each number of the list is above the one before it.
 fn ascending(attributes: &[u16]) -> bool
     ensures { result ≡ ascends attributes.now }
 {
-    let mut least: u64 = 0;
-    let mut k = 0;
-    while k < attributes.len() {
-        let number = attributes[k] as u64;
-        if number < least {
-            return false;
-        }
-        least = number + 1;
-        k += 1;
-    }
-    true
+    attributes.is_sorted_by(|a, b| a < b)
 }
 
 // The breaches of a device, as pairs of a group and a bit or attribute number, from the front of `pairs`.
@@ -83,17 +73,14 @@ pub fn report(inputs: Inputs, attributes: &[u16], pairs: &mut [u64]) -> Answer
             count: 0,
         };
     }
-    let holds = conditions(inputs);
-    let mut listed = [false; NUMBERS];
-    mark_listed(attributes, &mut listed);
-    let n = count(inputs, &holds, &listed);
+    let n = count(inputs, attributes);
     if pairs.len() < 2 * n {
         return Answer {
             number: NO_SPACE,
             count: 0,
         };
     }
-    write(inputs, &holds, &listed, pairs);
+    write(inputs, attributes, pairs);
     Answer {
         number: 0,
         count: n as u64,

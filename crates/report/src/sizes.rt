@@ -8,8 +8,3 @@ pub const DIRECTIONS: u64 = 3;
 pub const BIT_GROUPS: usize = 5;
 
 pub const ATTRIBUTE_GROUP: u64 = BIT_GROUPS as u64 + 1;
-
-// The codes of section 3.3's conditions, and one more than the largest attribute number.
-pub const CONDITIONS: usize = 14;
-
-pub const NUMBERS: usize = 82;

@@ -1,51 +1,52 @@
 -- Document 003 section 3.3: the thirty-three EnergyControl attributes by number and condition.
 use Rattle.std.specs.Prelude.{ℕ, List, [], ◌∷◌}
+use Rattle.report_tables.specs.declared.attributes.Condition.{Condition}
 use Rattle.report_tables.specs.declared.attributes.Row.{Row}
 
--- the condition codes
-abbrev pub optional : ℕ
-optional = 0
+-- the conditions
+abbrev pub optional : Condition
+optional = Condition.Optional
 
-abbrev pub always : ℕ
-always = 1
+abbrev pub always : Condition
+always = Condition.Always
 
-abbrev pub if_v2x : ℕ
-if_v2x = 2
+abbrev pub if_v2x : Condition
+if_v2x = Condition.IfV2x
 
-abbrev pub if_process : ℕ
-if_process = 3
+abbrev pub if_process : Condition
+if_process = Condition.IfProcess
 
-abbrev pub if_limits : ℕ
-if_limits = 4
+abbrev pub if_limits : Condition
+if_limits = Condition.IfLimits
 
-abbrev pub if_limits_out : ℕ
-if_limits_out = 5
+abbrev pub if_limits_out : Condition
+if_limits_out = Condition.IfLimitsOut
 
-abbrev pub if_asymmetric_currents : ℕ
-if_asymmetric_currents = 6
+abbrev pub if_asymmetric_currents : Condition
+if_asymmetric_currents = Condition.IfAsymmetricCurrents
 
-abbrev pub if_asymmetric_both : ℕ
-if_asymmetric_both = 7
+abbrev pub if_asymmetric_both : Condition
+if_asymmetric_both = Condition.IfAsymmetricBoth
 
-abbrev pub if_setpoints : ℕ
-if_setpoints = 8
+abbrev pub if_setpoints : Condition
+if_setpoints = Condition.IfSetpoints
 
-abbrev pub if_setpoints_out : ℕ
-if_setpoints_out = 9
+abbrev pub if_setpoints_out : Condition
+if_setpoints_out = Condition.IfSetpointsOut
 
-abbrev pub if_flex : ℕ
-if_flex = 10
+abbrev pub if_flex : Condition
+if_flex = Condition.IfFlex
 
-abbrev pub if_forecast : ℕ
-if_forecast = 11
+abbrev pub if_forecast : Condition
+if_forecast = Condition.IfForecast
 
-abbrev pub if_out : ℕ
-if_out = 12
+abbrev pub if_out : Condition
+if_out = Condition.IfOut
 
-abbrev pub if_process_state : ℕ
-if_process_state = 13
+abbrev pub if_process_state : Condition
+if_process_state = Condition.IfProcessState
 
-abbrev row : ℕ → ℕ → Row
+abbrev row : ℕ → Condition → Row
 row n c = (n, c)
 
 abbrev pub no_row : Row

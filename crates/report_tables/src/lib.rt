@@ -6,6 +6,6 @@ mod attributes;
 mod endpoints;
 mod features;
 
-pub use attributes::{ROWS, Row, row_at};
+pub use attributes::{Condition, ROWS, Row, row_at};
 pub use endpoints::{TYPES, invalid_bits, required_bits};
 pub use features::{ASYMMETRIC, BATTERY, BITS, CORE, EMOB, FLEX, FORECAST, MAPS, PROCESS, V2X};

@@ -1,13 +1,9 @@
 -- What was written and what is left from each place on make the whole.
-use Prim.Native.Nat.{◌*◌, ◌-◌, ◌≤◌}
-use Rattle.report.specs.Sizes.{pair_count}
-use Rattle.report.specs.Lists.{flagged}
+use Prim.Native.Nat.{◌*◌, ◌≤◌}
+use Rattle.report.specs.Lists.{member}
 use Rattle.report.proofs.Writes.{Written}
 use Rattle.report.proofs.breaches.write.Given as goal
 
 abbrev pub invariant-loop-k : goal.invariant-loop-k
 invariant-loop-k l =
-    (l.k ≤ pair_count) × (l.at ≤ 2 * l.k) × Written l.i (flagged l.listed) l.initial.pairs l.pairs l.at l.k
-
-abbrev pub decreases-loop-k : goal.decreases-loop-k
-decreases-loop-k l = pair_count - l.k
+    (l.at ≤ 2 * l.k) × Written l.i (λ n. member n l.listed) l.initial.pairs l.pairs l.at l.k
