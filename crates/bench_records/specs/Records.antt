@@ -1,10 +1,9 @@
 -- One record of a bench script: "the mark 4D 48, kind, zone, time (4 bytes), body length (2 bytes), body".
 -- Assumes nothing: these are definitions.
-use Rattle.std.specs.Prelude.{ℕ, ◌+◌, Bool, cond, ◌&&◌, List, leb, eqb, length, get_or}
+use Rattle.std.specs.Prelude.{ℕ, ◌+◌, Bool, cond, ◌&&◌, List, leb, eqb, length, get_or, Option, None, Some}
 use Rattle.wire_bytes.specs.Bytes.{number_at}
 use Rattle.bench_records.specs.Kinds.{head, right_body}
 use Rattle.bench_records.specs.declared.fields.Record.{Record}
-use Rattle.bench_records.specs.declared.fields.Scan.{Scan}
 
 -- "the mark 4D 48"
 unfoldable pub is_mark : List ℕ → ℕ → Bool
@@ -25,5 +24,5 @@ fields_at s p =
 unfoldable pub good : List ℕ → ℕ → Record → Bool
 good s p r = is_mark s p && (right_body r.kind r.length && leb (r.body + r.length) (length s))
 
-unfoldable pub record_at : List ℕ → ℕ → Scan
-record_at s p = cond (good s p (fields_at s p)) (Scan.Is (fields_at s p)) Scan.Bad
+unfoldable pub record_at : List ℕ → ℕ → Option Record
+record_at s p = cond (good s p (fields_at s p)) (Some (fields_at s p)) None

@@ -17,25 +17,11 @@ pub struct Record {
     pub length: usize,
 }
 
-// The record that stands at a place, if it is whole and well-formed.
-#[derive(Clone, Copy)]
-pub enum Scan {
-    Is(Record),
-    Bad,
-}
-
 // Whether the mark stands at `at`.
 pub fn is_mark(s: &[u8], at: usize) -> bool
     ensures { result ≡ is_mark s.now at }
 {
-    let mark = b"MH";
-    if has_room(s.len(), at, 2) {
-        if s[at] == mark[0] {
-            return s[at + 1] == mark[1];
-        }
-        return false;
-    }
-    false
+    at <= s.len() && s[at..].starts_with(b"MH")
 }
 
 // The fields of the record at `at`, and the body behind them.
@@ -54,21 +40,18 @@ fn fields_at(s: &[u8], at: usize) -> Record
 }
 
 // The record at `at`, where it is whole and well-formed.
-pub fn read_record(s: &[u8], at: usize) -> Scan
+pub fn read_record(s: &[u8], at: usize) -> Option<Record>
     ensures { result ≡ record_at s.now at }
 {
     if !has_room(s.len(), at, HEAD) {
-        return Scan::Bad;
+        return None;
     }
     if !is_mark(s, at) {
-        return Scan::Bad;
+        return None;
     }
     let r = fields_at(s, at);
     if !is_right_body(r.kind, r.length) {
-        return Scan::Bad;
+        return None;
     }
-    if has_room(s.len(), r.body, r.length) {
-        return Scan::Is(r);
-    }
-    Scan::Bad
+    has_room(s.len(), r.body, r.length).then_some(r)
 }

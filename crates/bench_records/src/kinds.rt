@@ -1,7 +1,8 @@
 // The kinds of records, and how long a body of each may be.
 ghost use Rattle.std.specs.Prelude.{◌≡◌, ◌&&◌, leb};
-ghost use Rattle.bench_records.specs.Kinds.{kinds, frame_least, frame_most, right_length, right_body};
+ghost use Rattle.bench_records.specs.Kinds.{kinds, right_length, right_body};
 
+// By hand: a kind is the byte that a record has, and the room above turns it into a call, its enum.
 pub const JOIN: u64 = 1;
 
 pub const LEAVE: u64 = 2;
@@ -30,26 +31,17 @@ pub const FRAME_LEAST: usize = 4;
 
 pub const FRAME_MOST: usize = FRAME_LEAST + 2048;
 
-fn is_frame_length(n: usize) -> bool
-    ensures { result ≡ (leb frame_least n && leb n frame_most) }
-{
-    FRAME_LEAST <= n && n <= FRAME_MOST
-}
-
 // Whether a body of a kind may be so long.
+#[tactic(auto, unfolding(crate::specs::Kinds::right_length))]
 fn is_right_length(kind: u64, n: usize) -> bool
     ensures { result ≡ right_length kind n }
 {
-    if kind == JOIN {
-        return n == 1;
+    match kind {
+        JOIN => n == 1,
+        FRAME => FRAME_LEAST <= n && n <= FRAME_MOST,
+        OVERRIDE => n == 2,
+        _ => n == 0,
     }
-    if kind == FRAME {
-        return is_frame_length(n);
-    }
-    if kind == OVERRIDE {
-        return n == 2;
-    }
-    n == 0
 }
 
 fn is_kind(kind: u64) -> bool
@@ -59,11 +51,9 @@ fn is_kind(kind: u64) -> bool
 }
 
 // Whether there is such a kind, and its body may be so long.
+#[tactic(auto, unfolding(crate::specs::Kinds::right_body))]
 pub fn is_right_body(kind: u64, n: usize) -> bool
     ensures { result ≡ right_body kind n }
 {
-    if is_kind(kind) {
-        return is_right_length(kind, n);
-    }
-    false
+    is_kind(kind) && is_right_length(kind, n)
 }

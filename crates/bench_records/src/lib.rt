@@ -5,7 +5,7 @@
 mod fields; // fields.rt: the mark, and the fields in front of a body
 mod kinds; // kinds.rt: the kinds, and how long a body of each may be
 
-pub use fields::{Record, Scan, is_mark, read_record};
+pub use fields::{Record, is_mark, read_record};
 pub use kinds::{
     ASK, BACK, CLEAR, FRAME, FRAME_LEAST, FRAME_MOST, JOIN, KINDS, LEAVE, LOST, MOVE, OVERRIDE,
     PLAN,

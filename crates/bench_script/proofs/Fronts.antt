@@ -1,4 +1,5 @@
 -- A record at p of a piece is the record at the front of what is left from p on, with whatever comes behind. Assumes nothing.
+use Rattle.std.specs.Prelude.{Option, None, Some}
 use Prim.Native.Nat.{ℕ, zero, suc, ◌+◌, ◌<◌, ◌≤◌}
 use mathlib.Core.Path.{◌≡◌, refl, sym, ap, ◌∙◌}
 use mathlib.Core.Logic.{⊎_elim}
@@ -14,7 +15,6 @@ use Rattle.wire_bytes.proofs.Order.{below}
 use Rattle.bench_records.specs.Kinds.{head, longest, frame_least, frame_most, kinds, right_length, right_body}
 use Rattle.bench_records.specs.Records.{is_mark, fields_at, good, record_at}
 use Rattle.bench_records.specs.declared.fields.Record.{Record}
-use Rattle.bench_records.specs.declared.fields.Scan.{Scan}
 use Rattle.bench_records.proofs.Scans.{both, record_within}
 use Rattle.bench_script.specs.Runs.{body_of}
 
@@ -38,9 +38,9 @@ get_d_front (x ∷ xs) ys (suc k) h = get_d_front xs ys k (omega arith)
 abbrev pub moved : Record → Record
 moved r = record { kind = r.kind; zone = r.zone; time = r.time; body = head; length = r.length }
 
-abbrev pub moved_scan : Scan → Scan
-moved_scan (Scan.Is r) = Scan.Is (moved r)
-moved_scan Scan.Bad = Scan.Bad
+abbrev pub moved_scan : Option Record → Option Record
+moved_scan (Some r) = Some (moved r)
+moved_scan None = None
 
 -- s from p on has a longest record, or nothing comes behind it
 module _ (s : List ℕ) (p : ℕ) (more : List ℕ) (told : length s < p + longest → more ≡ []) where
@@ -102,12 +102,12 @@ module _ (s : List ℕ) (p : ℕ) (more : List ℕ) (told : length s < p + longe
   unfolding record_at
   front-scan = rw (front-fields, front-good (fields_at s p) body_at) (go (good s p (fields_at s p)))
     where
-      go : (b : Bool) → cond b (Scan.Is (moved (fields_at s p))) Scan.Bad ≡ moved_scan (cond b (Scan.Is (fields_at s p)) Scan.Bad)
+      go : (b : Bool) → cond b (Some (moved (fields_at s p))) None ≡ moved_scan (cond b (Some (fields_at s p)) None)
       go true = refl
       go false = refl
 
   -- its body and its first bytes are the same, and so is what stands behind it
-  module _ (r : Record) (is : record_at s p ≡ Scan.Is r) where
+  module _ (r : Record) (is : record_at s p ≡ Some r) where
     within : (r.body ≡ p + head) × (r.body + r.length ≤ length s)
     within = record_within s p r is
 

@@ -1,7 +1,8 @@
 -- What a script plays, from record to record, and a step as one record of it. Assumes nothing.
+use Rattle.std.specs.Prelude.{Option, None, Some}
 use Prim.Native.Nat.{ℕ, zero, suc, ◌+◌, ◌<◌, ◌≤◌}
 use mathlib.Core.Path.{◌≡◌, refl, sym, ap, ◌∙◌}
-use mathlib.Core.Bool.{true, false, cond}
+use mathlib.Core.Bool.{true, false}
 use mathlib.Core.List.{List, [], ◌∷◌, ◌++◌, append_assoc}
 use native.Mathlib.Omega.{arith}
 use lib.IntN.{ℤ}
@@ -14,7 +15,7 @@ use Rattle.kernel.specs.Frame.{frame_number, frame_answer, frame_out}
 use Rattle.bench_records.specs.Kinds.{head, longest}
 use Rattle.bench_records.specs.Records.{record_at}
 use Rattle.bench_records.specs.declared.fields.Record.{Record}
-use Rattle.bench_records.specs.declared.fields.Scan.{Scan}
+use Rattle.bench_script.specs.declared.calls.Stepped.{Stepped}
 use Rattle.bench_records.proofs.Scans.{record_within}
 use Rattle.bench_script.specs.Runs.{Left, alone, call_of, call_leaves, body_of, record_leaves, scan_leaves, step_leaves, step_from, step_answer}
 use Rattle.bench_script.specs.Answers.{table_pieces, answer_pieces}
@@ -70,15 +71,15 @@ module _ (ws : List ℕ) (t : ℕ) (bytes out : List ℕ) (rows : List ℤ) (wid
   call-agrees Call.Ask = alone-agrees 0 ws out rows
 
 -- A SCRIPT: a larger bound changes nothing
-others-alike : (f g : List ℕ → List ℕ → Played) (ws s : List ℕ) (x : Scan)
-    → ((r : Record) → x ≡ Scan.Is r → (us : List ℕ) → f us (drop (r.body + r.length) s) ≡ g us (drop (r.body + r.length) s))
+others-alike : (f g : List ℕ → List ℕ → Played) (ws s : List ℕ) (x : Option Record)
+    → ((r : Record) → x ≡ Some r → (us : List ℕ) → f us (drop (r.body + r.length) s) ≡ g us (drop (r.body + r.length) s))
     → played_from f ws s x ≡ played_from g ws s x
 unfolding played_from
-others-alike f g ws s (Scan.Is r) h = ap (behind (answered_pieces (record_answered ws s r))) (h r refl (record_answered ws s r).words)
-others-alike f g ws s Scan.Bad h = refl
+others-alike f g ws s (Some r) h = ap (behind (answered_pieces (record_answered ws s r))) (h r refl (record_answered ws s r).words)
+others-alike f g ws s None h = refl
 
 -- what stands behind the record in front is shorter
-shorter : (s : List ℕ) (r : Record) → record_at s 0 ≡ Scan.Is r → length (drop (r.body + r.length) s) + head ≤ length s
+shorter : (s : List ℕ) (r : Record) → record_at s 0 ≡ Some r → length (drop (r.body + r.length) s) + head ≤ length s
 shorter s r e =
     let w = record_within s 0 r e in
     omega (arith, w.0, w.1, length-drop (r.body + r.length) s)
@@ -103,16 +104,21 @@ script-front ws (b ∷ s) h =
     others-alike (played (length s)) script ws (b ∷ s) (record_at (b ∷ s) 0)
     (λ r e us. let l = shorter (b ∷ s) r e in played-bound (length s) (length (drop (r.body + r.length) (b ∷ s))) us (drop (r.body + r.length) (b ∷ s)) (omega arith) (omega arith))
 
+-- what is left to play behind a step that left these words and rows: its answer, then the records behind it
+unfoldable pub after : List ℕ → List ℤ → List ℕ → List ℕ → Option Stepped → Played
+after ws rows s more (Some y) = behind (answer_pieces y.number y.count rows) (script ws (drop y.next s ++ more))
+after ws rows s more None = stopped ws
+
 -- ONE PIECE: what is left of it from p on, with more behind
 module _ (ws s : List ℕ) (p : ℕ) (more : List ℕ) (here : p < length s) (told : length s < p + longest → more ≡ []) where
   some_left : 0 < length (drop p s ++ more)
   some_left = omega (arith, length-append (drop p s) more, length-drop p s)
 
-  front-answered : (r : Record) → record_at s p ≡ Scan.Is r → record_answered ws (drop p s ++ more) (moved r) ≡ record_answered ws s r
+  front-answered : (r : Record) → record_at s p ≡ Some r → record_answered ws (drop p s ++ more) (moved r) ≡ record_answered ws s r
   unfolding record_answered
   front-answered r e = rw (front-body s p more told r e, front-first s p more told r e, front-second s p more told r e)
 
-  script-good : (r : Record) → record_at s p ≡ Scan.Is r
+  script-good : (r : Record) → record_at s p ≡ Some r
       → script ws (drop p s ++ more) ≡ behind (answered_pieces (record_answered ws s r)) (script (record_answered ws s r).words (drop (r.body + r.length) s ++ more))
   unfolding played_from
   script-good r e =
@@ -121,12 +127,12 @@ module _ (ws s : List ℕ) (p : ℕ) (more : List ℕ) (here : p < length s) (to
       ∙ rw (front-answered r e, front-next s p more told r e)
 
   -- the same by the record's call
-  good-as : (r : Record) → record_at s p ≡ Scan.Is r → (a : Answered) → a ≡ answered ws r.time (body_of s r) (call_of r.kind r.zone (get_or s r.body 0) (get_or s (r.body + 1) 0))
+  good-as : (r : Record) → record_at s p ≡ Some r → (a : Answered) → a ≡ answered ws r.time (body_of s r) (call_of r.kind r.zone (get_or s r.body 0) (get_or s (r.body + 1) 0))
       → script ws (drop p s ++ more) ≡ behind (answered_pieces a) (script a.words (drop (r.body + r.length) s ++ more))
   unfolding record_answered
   good-as r e a k = rw k (script-good r e)
 
-  script-bad : record_at s p ≡ Scan.Bad → script ws (drop p s ++ more) ≡ stopped ws
+  script-bad : record_at s p ≡ None → script ws (drop p s ++ more) ≡ stopped ws
   unfolding played_from
   script-bad e =
       script-front ws (drop p s ++ more) some_left
@@ -134,26 +140,20 @@ module _ (ws s : List ℕ) (p : ℕ) (more : List ℕ) (here : p < length s) (to
 
   -- a step plays the record at p, and what it leaves is what is left to play
   module _ (out : List ℕ) (rows : List ℤ) (wide : frame_room ≤ length out) (long : rows_room ≤ length rows) where
-    abbrev Turn : Scan → Type 0
+    abbrev Turn : Option Record → Type 0
     Turn a =
         script ws (drop p s ++ more)
-        ≡ cond (step_from (scan_leaves ws s out rows a).ran p a).good
-        (behind (answer_pieces (step_from (scan_leaves ws s out rows a).ran p a).number (step_from (scan_leaves ws s out rows a).ran p a).count (scan_leaves ws s out rows a).rows)
-        (script (scan_leaves ws s out rows a).words (drop (step_from (scan_leaves ws s out rows a).ran p a).next s ++ more)))
-        (stopped (scan_leaves ws s out rows a).words)
+        ≡ after (scan_leaves ws s out rows a).words (scan_leaves ws s out rows a).rows s more (step_from (scan_leaves ws s out rows a).ran a)
 
-    turn : (a : Scan) → record_at s p ≡ a → Turn a
-    unfolding step_from scan_leaves record_leaves alone
-    turn (Scan.Is r) e =
+    turn : (a : Option Record) → record_at s p ≡ a → Turn a
+    unfolding after step_from scan_leaves record_leaves alone
+    turn (Some r) e =
         let w = call-agrees ws r.time (body_of s r) out rows wide long (call_of r.kind r.zone (get_or s r.body 0) (get_or s (r.body + 1) 0)) in
         rw (w.0, w.1) (good-as r e _ refl)
-    turn Scan.Bad e = script-bad e
+    turn None e = script-bad e
 
     pub step-plays : script ws (drop p s ++ more)
-        ≡ cond (step_answer ws s p out rows).good
-        (behind (answer_pieces (step_answer ws s p out rows).number (step_answer ws s p out rows).count (step_leaves ws s p out rows).rows)
-        (script (step_leaves ws s p out rows).words (drop (step_answer ws s p out rows).next s ++ more)))
-        (stopped (step_leaves ws s p out rows).words)
+        ≡ after (step_leaves ws s p out rows).words (step_leaves ws s p out rows).rows s more (step_answer ws s p out rows)
     unfolding step_answer step_leaves
     step-plays = turn (record_at s p) refl
 

@@ -1,17 +1,17 @@
 -- Rows as pieces of text: what is written, and what is left to write. Assumes nothing.
-use Prim.Native.Nat.{ℕ, zero, suc, ◌+◌, ◌-◌, ◌<◌, ◌≤◌}
+use Prim.Native.Nat.{ℕ, zero, suc, ◌+◌, ◌-◌, ◌<◌, ◌≤◌, min}
 use mathlib.Core.Path.{◌≡◌, refl, sym, ap, ◌∙◌}
 use mathlib.Core.Logic.{⊎_elim}
-use mathlib.Core.Bool.{Bool, true, false, cond, ◌&&◌}
-use mathlib.Core.List.{List, [], ◌∷◌, ◌++◌}
+use mathlib.Core.Bool.{true, false, cond}
+use mathlib.Core.List.{List, [], ◌∷◌, ◌++◌, append-nil}
 use native.Mathlib.Numerals.{add-one}
 use native.Mathlib.Omega.{arith}
 use lib.Dec.{ltb}
 use lib.IntN.{ℤ, pos, negsuc, nat_abs}
-use lib.ListN.{length, get_or, take, drop, length-drop}
-use lib.Seq.{drop-cons, drop-length, drop-drop, take_all, drop-nil}
+use lib.ListN.{length, get_or, take, drop, length-append, length-drop}
+use lib.Seq.{drop-cons, drop-length, take_all, take_at, drop_at, drop-nil}
 use lib.Signed.{lt_z}
-use borrow.Author.Tests.{lt-ltb, le-ltb, ltb-true, ltb-false}
+use borrow.Author.Tests.{lt-ltb, le-ltb, ltb-true}
 use Rattle.wire_bytes.proofs.Order.{below}
 use Rattle.text.specs.Text.{decimal}
 use Rattle.kernel.specs.Door.{row_size}
@@ -54,33 +54,33 @@ drop_all [] n h = drop-nil n
 drop_all (x ∷ l) zero h = absurd (omega arith)
 drop_all (x ∷ l) (suc n) h = drop_all l n (omega arith)
 
--- where a row ends
-module _ (rows : List ℤ) (from : ℕ) (h : from ≤ length rows) where
-  pub row_cut : length rows - from < row_size → (take (length rows - from) (drop from rows) ≡ take row_size (drop from rows)) × (drop (length rows) rows ≡ drop row_size (drop from rows))
-  row_cut lt =
-      let n = length-drop from rows in
-      (take_all (length rows - from) (drop from rows) (omega arith) ∙ sym (take_all row_size (drop from rows) (omega arith)), drop-length rows ∙ sym (drop_all (drop from rows) row_size (omega arith)))
-
-  pub row-whole : (e : ℕ) → e ≡ from + row_size → (take (e - from) (drop from rows) ≡ take row_size (drop from rows)) × (drop e rows ≡ drop row_size (drop from rows))
-  row-whole e k =
-      let m : e - from ≡ row_size = omega arith in
-      (ap (λ (n : ℕ). take n (drop from rows)) m, rw k (sym (drop-drop row_size from rows)))
+-- a row off the front of the numbers, which is short only where they end
+row-front : (rs row left : List ℤ) → rs ≡ row ++ left → length row ≡ min row_size (length rs) → (take row_size rs ≡ row) × (drop row_size rs ≡ left)
+row-front rs row left e n = ⊎_elim
+    (λ lt.
+    let z : left ≡ [] = drop_all left 0 (omega (arith, ap (λ (l : List ℤ). length l) e, length-append row left)) in
+    let f : rs ≡ row = e ∙ ap (λ (l : List ℤ). row ++ l) z ∙ append-nil row in
+    rw (z, f) (take_all row_size row (omega arith), drop_all row row_size (omega arith)))
+    (λ le. let k : length row ≡ row_size = omega arith in rw e (take_at row left row_size k, drop_at row left row_size k))
+    (below (length rs) row_size)
 
 -- a table's row, and what is left
-pub table-next : (n : ℕ) (rs : List ℤ) → 0 < n → table_pieces n rs ≡ row_pieces (take row_size rs) ++ table_pieces (n - 1) (drop row_size rs)
+pub table-next : (n m k : ℕ) (rs row left : List ℤ) → m + 1 ≡ n → k ≡ row_size → rs ≡ row ++ left → length row ≡ min k (length rs)
+    → table_pieces n rs ≡ row_pieces row ++ table_pieces m left
 unfolding table_pieces
-table-next zero rs h = absurd (omega arith)
-table-next (suc n) rs h = let e : suc n - 1 ≡ n = omega arith in rw e
+table-next n m k rs row left e s a l =
+    let f : n ≡ suc m = omega arith in
+    let w = row-front rs row left a (rw s at l) in
+    rw (f, w.0, w.1)
 
 table_empty : (n : ℕ) → table_pieces n [] ≡ []
 unfolding table_pieces row_pieces
 table_empty zero = refl
 table_empty (suc n) = table_empty n
 
-pub table-over : (n from : ℕ) (rows : List ℤ) (b : Bool) → from ≤ length rows → b ≡ (ltb 0 n && ltb from (length rows)) → b ≡ false → table_pieces n (drop from rows) ≡ []
+-- no row is left where so many are written or the numbers end
+pub table-over : (n : ℕ) (rows : List ℤ) → (0 < n → length rows ≡ 0) → table_pieces n rows ≡ []
 unfolding table_pieces
-table-over zero from rows b h e f = refl
-table-over (suc n) from rows b h e f =
-    let g : ltb from (length rows) ≡ false = rw (lt-ltb 0 (suc n) (omega arith)) at (sym e ∙ f) in
-    let k : from ≡ length rows = omega (arith, ltb-false from (length rows) g) in
-    rw (k, drop-length rows) (table_empty (suc n))
+table-over zero rows h = refl
+table-over (suc n) [] h = table_empty (suc n)
+table-over (suc n) (x ∷ rows) h = absurd (let e = h (omega arith) in omega arith)

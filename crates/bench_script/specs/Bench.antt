@@ -1,6 +1,6 @@
 -- The bench program: the text that a whole script prints, whatever room its calls are lent and in whatever pieces it is read.
 -- Assumes nothing: these are definitions.
-use Rattle.std.specs.Prelude.{ℕ, zero, suc, ◌+◌, ◌*◌, ◌≤◌, ◌≡◌, Bool, true, false, cond, List, [], ◌∷◌, ◌++◌, ℤ, pos, length, get_or, take, drop}
+use Rattle.std.specs.Prelude.{ℕ, zero, suc, ◌+◌, ◌*◌, ◌≤◌, ◌≡◌, Bool, true, false, cond, List, [], ◌∷◌, ◌++◌, ℤ, pos, length, get_or, take, drop, Option, None, Some}
 use Rattle.text.specs.Text.{most_digits, decimal}
 use Rattle.text.specs.Pieces.{joined}
 use Rattle.device_store.specs.Sizes.{slots, helds}
@@ -13,7 +13,6 @@ use Rattle.plan.specs.Plan.{row_size, rows_from}
 use Rattle.kernel.specs.Frame.{response_frame, frame_number, frame_after}
 use Rattle.bench_records.specs.Records.{record_at}
 use Rattle.bench_records.specs.declared.fields.Record.{Record}
-use Rattle.bench_records.specs.declared.fields.Scan.{Scan}
 use Rattle.bench_script.specs.Runs.{call_of, body_of}
 use Rattle.bench_script.specs.Answers.{row_pieces}
 use Rattle.bench_script.specs.declared.calls.Call.{Call}
@@ -73,10 +72,10 @@ unfoldable pub behind : List (List ℕ) → Played → Played
 behind xs p = record { pieces = xs ++ p.pieces; words = p.words }
 
 -- a record in front, and what the records behind it play
-unfoldable pub played_from : (List ℕ → List ℕ → Played) → List ℕ → List ℕ → Scan → Played
-played_from others ws s (Scan.Is r) =
+unfoldable pub played_from : (List ℕ → List ℕ → Played) → List ℕ → List ℕ → Option Record → Played
+played_from others ws s (Some r) =
     behind (answered_pieces (record_answered ws s r)) (others (record_answered ws s r).words (drop (r.body + r.length) s))
-played_from others ws s Scan.Bad = stopped ws
+played_from others ws s None = stopped ws
 
 -- up to n records from the front of s
 unfoldable pub played : ℕ → List ℕ → List ℕ → Played

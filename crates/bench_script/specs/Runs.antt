@@ -1,12 +1,11 @@
 -- A record run on a device by the kernel's calls.
-use Rattle.std.specs.Prelude.{ℕ, ◌+◌, true, false, cond, List, eqb, ℤ, length, get_or, take, drop}
+use Rattle.std.specs.Prelude.{ℕ, ◌+◌, true, false, cond, List, eqb, ℤ, length, get_or, take, drop, Option, None, Some}
 use Rattle.kernel.specs.Door.{join_number, join_after, leave_number, leave_after, link_number, link_after, override_number, override_after, clear_number, clear_after, move_number, move_after}
 use Rattle.kernel.specs.Door.{plan_answer, plan_slice}
 use Rattle.kernel.specs.Frame.{frame_answer, frame_after, frame_out}
 use Rattle.bench_records.specs.Kinds.{join, leave, lost, back, frame, plan, override, clear, move}
 use Rattle.bench_records.specs.Records.{record_at}
 use Rattle.bench_records.specs.declared.fields.Record.{Record}
-use Rattle.bench_records.specs.declared.fields.Scan.{Scan}
 use Rattle.bench_script.specs.declared.calls.Call.{Call}
 use Rattle.bench_script.specs.declared.calls.Ran.{Ran}
 use Rattle.bench_script.specs.declared.calls.Stepped.{Stepped}
@@ -66,17 +65,17 @@ record_leaves ws s out rows r =
     call_leaves ws r.time (body_of s r) out rows (call_of r.kind r.zone (get_or s r.body 0) (get_or s (r.body + 1) 0))
 
 -- what a step leaves: a bad record changes nothing
-unfoldable pub scan_leaves : List ℕ → List ℕ → List ℕ → List ℤ → Scan → Left
-scan_leaves ws s out rows (Scan.Is r) = record_leaves ws s out rows r
-scan_leaves ws s out rows Scan.Bad = alone 0 ws out rows
+unfoldable pub scan_leaves : List ℕ → List ℕ → List ℕ → List ℤ → Option Record → Left
+scan_leaves ws s out rows (Some r) = record_leaves ws s out rows r
+scan_leaves ws s out rows None = alone 0 ws out rows
 
 unfoldable pub step_leaves : List ℕ → List ℕ → ℕ → List ℕ → List ℤ → Left
 step_leaves ws s p out rows = scan_leaves ws s out rows (record_at s p)
 
--- the answer: whether the record is good, the call's number and rows, and where the next record starts
-unfoldable pub step_from : Ran → ℕ → Scan → Stepped
-step_from x p (Scan.Is r) = record { good = true; number = x.number; count = x.count; next = r.body + r.length }
-step_from x p Scan.Bad = record { good = false; number = 0; count = 0; next = p }
+-- the answer to a good record: the call's number and rows, and where the next record starts
+unfoldable pub step_from : Ran → Option Record → Option Stepped
+step_from x (Some r) = Some (record { number = x.number; count = x.count; next = r.body + r.length })
+step_from x None = None
 
-unfoldable pub step_answer : List ℕ → List ℕ → ℕ → List ℕ → List ℤ → Stepped
-step_answer ws s p out rows = step_from (step_leaves ws s p out rows).ran p (record_at s p)
+unfoldable pub step_answer : List ℕ → List ℕ → ℕ → List ℕ → List ℤ → Option Stepped
+step_answer ws s p out rows = step_from (step_leaves ws s p out rows).ran (record_at s p)

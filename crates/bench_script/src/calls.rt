@@ -2,7 +2,7 @@
 ghost use Rattle.std.specs.Prelude.{◌≡◌, ◌+◌, ◌≤◌, length};
 ghost use Rattle.bench_script.specs.Runs.{call_of, call_leaves, record_leaves, step_leaves, step_answer};
 
-use bench_records::{Record, Scan, read_record};
+use bench_records::{Record, read_record};
 use kernel::State;
 use wire_bytes::byte_at;
 
@@ -31,7 +31,6 @@ pub struct Ran {
 // The answer to a record; `next` is where the next one starts.
 #[derive(Clone, Copy)]
 pub struct Stepped {
-    pub good: bool,
     pub number: u64,
     pub count: u64,
     pub next: usize,
@@ -58,10 +57,7 @@ fn call_of(kind: u64, zone: u64, a: u64, b: u64) -> Call
 fn alone(number: u64) -> Ran
     ensures { result ≡ record { number = number; count = 0 } }
 {
-    Ran {
-        number: number,
-        count: 0,
-    }
+    Ran { number, count: 0 }
 }
 
 // Runs a call at t. A plan and an ask work at the device's own time and pass t over; an ask's values are not printed.
@@ -74,10 +70,7 @@ fn run(d: &mut State, t: u64, c: Call, bytes: &[u8], out: &mut [u8], rows: &mut 
         Call::Leave(zone) => alone(kernel::leave(d, zone, t)),
         Call::Lost(zone) => alone(kernel::lost(d, zone, t)),
         Call::Back(zone) => alone(kernel::back(d, zone, t)),
-        Call::Frame(zone) => {
-            let x = kernel::frame(d, zone, t, bytes, out);
-            alone(x.number)
-        }
+        Call::Frame(zone) => alone(kernel::frame(d, zone, t, bytes, out).number),
         Call::Plan => {
             let x = kernel::plan(d, rows);
             Ran {
@@ -107,28 +100,18 @@ fn run_record(d: &mut State, s: &[u8], r: Record, out: &mut [u8], rows: &mut [i6
     run(d, r.time, c, &s[body..end], out, rows)
 }
 
-// Reads the record at `at` and runs it; a bad one changes nothing.
-pub fn step(d: &mut State, s: &[u8], at: usize, out: &mut [u8], rows: &mut [i64]) -> Stepped
+// Reads the record at `at` and runs it; a bad one has no answer and changes nothing.
+pub fn step(d: &mut State, s: &[u8], at: usize, out: &mut [u8], rows: &mut [i64]) -> Option<Stepped>
     ensures value { result ≡ step_answer d.old s.now at out.old rows.old }
     ensures d_after { d.new ≡ (step_leaves d.old s.now at out.old rows.old).words }
     ensures out_after { out.new ≡ (step_leaves d.old s.now at out.old rows.old).out }
     ensures rows_after { rows.new ≡ (step_leaves d.old s.now at out.old rows.old).rows }
 {
-    match read_record(s, at) {
-        Scan::Is(r) => {
-            let x = run_record(d, s, r, out, rows);
-            Stepped {
-                good: true,
-                number: x.number,
-                count: x.count,
-                next: r.body + r.length,
-            }
-        }
-        Scan::Bad => Stepped {
-            good: false,
-            number: 0,
-            count: 0,
-            next: at,
-        },
-    }
+    let r = read_record(s, at)?;
+    let x = run_record(d, s, r, out, rows);
+    Some(Stepped {
+        number: x.number,
+        count: x.count,
+        next: r.body + r.length,
+    })
 }

@@ -1,4 +1,5 @@
 -- The record that a list begins with: its first ten bytes and its room tell it. Assumes nothing.
+use Rattle.std.specs.Prelude.{Option, None, Some}
 use Prim.Native.Nat.{ℕ, zero, suc, ◌+◌, ◌≤◌, ◌<◌}
 use mathlib.Core.Path.{◌≡◌, refl, sym, ap, ◌∙◌}
 use mathlib.Core.Logic.{⊎_elim}
@@ -14,14 +15,13 @@ use Rattle.wire_bytes.proofs.Order.{below}
 use Rattle.bench_records.specs.Kinds.{head}
 use Rattle.bench_records.specs.Records.{is_mark, fields_at, good, record_at}
 use Rattle.bench_records.specs.declared.fields.Record.{Record}
-use Rattle.bench_records.specs.declared.fields.Scan.{Scan}
 use Rattle.bench_records.proofs.Scans.{record_within}
 use Rattle.rescue_walk.specs.Walk.{scan_len, record_len, record_end}
 
-scan_fits : (s : List ℕ) (x : Scan) → record_at s 0 ≡ x → 0 < scan_len x → (head ≤ scan_len x) × (scan_len x ≤ length s)
+scan_fits : (s : List ℕ) (x : Option Record) → record_at s 0 ≡ x → 0 < scan_len x → (head ≤ scan_len x) × (scan_len x ≤ length s)
 unfolding scan_len
-scan_fits s (Scan.Is r) e l = let w = record_within s 0 r e in (omega arith, omega (arith, w.0, w.1))
-scan_fits s Scan.Bad e l = absurd (omega arith)
+scan_fits s (Some r) e l = let w = record_within s 0 r e in (omega arith, omega (arith, w.0, w.1))
+scan_fits s None e l = absurd (omega arith)
 
 -- a record has its fields at least, and lies within
 pub found : (s : List ℕ) → 0 < record_len s → (head ≤ record_len s) × (record_len s ≤ length s)
@@ -57,7 +57,7 @@ module _ (s t : List ℕ) (p : ℕ) (same : (k : ℕ) → k < head → get_or t 
     unfolding record_len record_at scan_len
     same_len = rw same_good (go (good s p (fields_at s p)))
       where
-        go : (b : Bool) → scan_len (cond b (Scan.Is (fields_at t 0)) Scan.Bad) ≡ scan_len (cond b (Scan.Is (fields_at s p)) Scan.Bad)
+        go : (b : Bool) → scan_len (cond b (Some (fields_at t 0)) None) ≡ scan_len (cond b (Some (fields_at s p)) None)
         go true = ap (λ (n : ℕ). head + n) same_length
         go false = refl
 
@@ -76,24 +76,24 @@ len_at s p = same_len s (drop p s) p (λ k h. get_or-drop p s k 0) cut
 
 module _ (s : List ℕ) (p : ℕ) where
   -- what a reader of one record says of its end
-  pub end-good : (r : Record) → record_at s p ≡ Scan.Is r → r.body + r.length ≡ record_end s p
+  pub end-good : (r : Record) → record_at s p ≡ Some r → Some (r.body + r.length) ≡ record_end s p
   unfolding record_end scan_len
   end-good r e =
       let w = record_within s p r e in
-      rw (len_at s p, e, ne_eqb (head + r.length) 0 (λ z. omega arith)) (omega (arith, w.0))
+      rw (len_at s p, e, ne_eqb (head + r.length) 0 (λ z. omega arith)) (ap (λ (n : ℕ). Some n) (omega (arith, w.0)))
 
-  pub end-bad : record_at s p ≡ Scan.Bad → 0 ≡ record_end s p
+  pub end-bad : record_at s p ≡ None → None ≡ record_end s p
   unfolding record_end scan_len
   end-bad e = rw (len_at s p, e)
 
-  pub end_fits : (r : Record) → record_at s p ≡ Scan.Is r → r.body + r.length ≤ length s
+  pub end_fits : (r : Record) → record_at s p ≡ Some r → r.body + r.length ≤ length s
   end_fits r e = (record_within s p r e).1
 
 fields_len : (s : List ℕ) → 0 < record_len s → record_len s ≡ head + number_at s 8 2
 unfolding record_len record_at scan_len fields_at
 fields_len s = go (good s 0 (fields_at s 0))
   where
-    go : (b : Bool) → 0 < scan_len (cond b (Scan.Is (fields_at s 0)) Scan.Bad) → scan_len (cond b (Scan.Is (fields_at s 0)) Scan.Bad) ≡ head + number_at s 8 2
+    go : (b : Bool) → 0 < scan_len (cond b (Some (fields_at s 0)) None) → scan_len (cond b (Some (fields_at s 0)) None) ≡ head + number_at s 8 2
     go true l = refl
     go false l = absurd (omega arith)
 

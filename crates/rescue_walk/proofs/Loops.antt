@@ -1,6 +1,8 @@
 -- What the loops keep, and what the functions answer. Assumes nothing.
+use Rattle.std.specs.Prelude.{Option, None, Some, is_some}
 use Prim.Native.Nat.{ℕ, suc, ◌+◌, ◌-◌, ◌*◌, ◌≤◌, ◌<◌}
 use mathlib.Core.Path.{◌≡◌, refl, sym, ap, ◌∙◌}
+use mathlib.Core.Bool.{true, false}
 use mathlib.Core.List.{List, [], ◌∷◌, ◌++◌}
 use native.Mathlib.Omega.{arith}
 use lib.ListN.{length, drop, length-append, length-drop, drop_of_length-le}
@@ -14,41 +16,41 @@ use Rattle.rescue_walk.proofs.Walks.{walk_none}
 use Rattle.rescue_walk.proofs.Pieces.{left, record_here, run_here, record_bytes, run_bytes, behind_record, behind_run, end_none, end-some}
 use Rattle.rescue_walk.proofs.Pieces.{run-stop, run_on, run_end, next-run, next-record, Next, a_run, a_record, nexts}
 
-pub via : {A : Type 0} {x y z : A} → x ≡ y → x ≡ z → y ≡ z
-via p q = sym p ∙ q
-
 -- run_end
 pub record RunOn (s : List ℕ) (at e : ℕ) : Type 0 where
   pub within : e ≤ length s
   pub same : e + run_len (drop e s) ≡ at + run_len (drop at s)
 
 module _ (s : List ℕ) (at e : ℕ) (r : RunOn s at e) where
-  pub run-again : e < length s → record_end s e ≡ 0 → RunOn s at (e + 1)
-  run-again l z = let k = run_on s e l (end_none s e z) in record { within = omega arith; same = omega (arith, r.same) }
+  pub run-again : (o : Option ℕ) → o ≡ record_end s e → is_some o ≡ false → e < length s → RunOn s at (e + 1)
+  run-again (Some n) q b l = absurd (let f : ◌≡◌ {A = ℕ} 0 1 = cc in omega arith)
+  run-again None q b l = let k = run_on s e l (end_none s e (sym q)) in record { within = omega arith; same = omega (arith, r.same) }
 
-  pub run-found : (record_end s e ≡ 0 → ⊥) → e ≡ at + run_len (drop at s)
-  run-found z = let k = run-stop (drop e s) (end-some s e z).0 in omega (arith, r.same)
+  pub run-found : (o : Option ℕ) → o ≡ record_end s e → is_some o ≡ true → e ≡ at + run_len (drop at s)
+  run-found (Some n) q b = let k = run-stop (drop e s) (end-some s e n (sym q)).0 in omega (arith, r.same)
+  run-found None q b = absurd (let f : ◌≡◌ {A = ℕ} 0 1 = cc in omega arith)
 
-  pub run-over : length s ≤ e → e ≡ at + run_len (drop at s)
-  run-over l = let k = run_end s e l in omega (arith, r.same)
+  pub run-over : length s ≤ e → length s ≡ at + run_len (drop at s)
+  run-over l = let k = run_end s e l in omega (arith, r.within, r.same)
 
 -- next
 pub cursor_eq : {a b c a' b' c' : ℕ} → a ≡ a' → b ≡ b' → c ≡ c'
     → ◌≡◌ {A = Cursor} (record { at = a; kept = b; runs = c }) (record { at = a'; kept = b'; runs = c' })
 cursor_eq x y z = rw (x, y, z)
 
-module _ (s : List ℕ) (c : Cursor) (e : ℕ) (is : e ≡ record_end s c.at) where
-  pub run_is : e ≡ 0 → (m : ℕ) → m ≡ c.at + run_here s c → record { at = m; kept = c.kept; runs = c.runs + 1 } ≡ next_of s c
+module _ (s : List ℕ) (c : Cursor) (e : Option ℕ) (is : e ≡ record_end s c.at) where
+  pub run_is : e ≡ None → (m : ℕ) → m ≡ c.at + run_here s c → record { at = m; kept = c.kept; runs = c.runs + 1 } ≡ next_of s c
   run_is z m q = cursor_eq q refl refl ∙ sym (next-run s c (end_none s c.at (sym is ∙ z)))
 
-  pub end-behind : (e ≡ 0 → ⊥) → (0 < record_here s c) × (e ≡ c.at + record_here s c)
-  end-behind z = let k = end-some s c.at (λ q. z (is ∙ q)) in (k.0, is ∙ k.1)
+  module _ (n : ℕ) (z : e ≡ Some n) where
+    pub end-behind : (0 < record_here s c) × (n ≡ c.at + record_here s c)
+    end-behind = end-some s c.at n (sym is ∙ z)
 
-  pub not-before : (e ≡ 0 → ⊥) → c.at ≤ e
-  not-before z = let k = end-behind z in omega (arith, k.1)
+    pub not-before : c.at ≤ n
+    not-before = omega (arith, end-behind.1)
 
-  pub record_is : (e ≡ 0 → ⊥) → record { at = e; kept = c.kept + (e - c.at); runs = c.runs } ≡ next_of s c
-  record_is z = let k = end-behind z in cursor_eq k.1 (omega (arith, k.1)) refl ∙ sym (next-record s c k.0)
+    pub record_is : record { at = n; kept = c.kept + (n - c.at); runs = c.runs } ≡ next_of s c
+    record_is = let k = end-behind in cursor_eq k.1 (omega (arith, k.1)) refl ∙ sym (next-record s c k.0)
 
 -- count
 pub runs-two : (ps : List Piece) (p : ℕ) → length (runs_from p ps) ≡ 2 * run_count ps

@@ -1,7 +1,8 @@
 -- The walk piece by piece, as the code goes. Assumes nothing.
+use Rattle.std.specs.Prelude.{None, Some}
 use Prim.Native.Nat.{ℕ, zero, suc, ◌+◌, ◌≤◌, ◌<◌}
 use mathlib.Core.Path.{◌≡◌, refl, sym, ap, ◌∙◌}
-use mathlib.Core.Bool.{Bool, true, false}
+use mathlib.Core.Bool.{Bool, true, false, cond}
 use mathlib.Core.List.{List, [], ◌∷◌}
 use native.Mathlib.Numerals.{add-one}
 use native.Mathlib.Omega.{arith}
@@ -21,25 +22,21 @@ pos (suc m) f = omega arith
 
 -- a record's end
 module _ (s : List ℕ) (p : ℕ) where
-  end_of : (record_len (drop p s) ≡ 0 → ⊥) → record_end s p ≡ p + record_len (drop p s)
+  pub end_none : record_end s p ≡ None → record_len (drop p s) ≡ 0
   unfolding record_end
-  end_of f = rw (ne_eqb (record_len (drop p s)) 0 f)
-
-  no_end : record_len (drop p s) ≡ 0 → record_end s p ≡ 0
-  unfolding record_end
-  no_end e = rw (eq-eqb (record_len (drop p s)) 0 e)
-
-  pub end_none : record_end s p ≡ 0 → record_len (drop p s) ≡ 0
-  end_none z = go (eqb (record_len (drop p s)) 0) refl
+  end_none = go (eqb (record_len (drop p s)) 0) refl
     where
-      go : (b : Bool) → eqb (record_len (drop p s)) 0 ≡ b → record_len (drop p s) ≡ 0
-      go true e = eqb-true (record_len (drop p s)) 0 e
-      go false e = omega (arith, end_of (eqb-false (record_len (drop p s)) 0 e))
+      go : (b : Bool) → eqb (record_len (drop p s)) 0 ≡ b → cond b None (Some (p + record_len (drop p s))) ≡ None → record_len (drop p s) ≡ 0
+      go true e z = eqb-true (record_len (drop p s)) 0 e
+      go false e z = absurd (let f : ◌≡◌ {A = ℕ} 0 1 = cc in omega arith)
 
-  pub end-some : (record_end s p ≡ 0 → ⊥) → (0 < record_len (drop p s)) × (record_end s p ≡ p + record_len (drop p s))
-  end-some z =
-      let f : record_len (drop p s) ≡ 0 → ⊥ = λ e. z (no_end e) in
-      (pos (record_len (drop p s)) f, end_of f)
+  pub end-some : (n : ℕ) → record_end s p ≡ Some n → (0 < record_len (drop p s)) × (n ≡ p + record_len (drop p s))
+  unfolding record_end
+  end-some n = go (eqb (record_len (drop p s)) 0) refl
+    where
+      go : (b : Bool) → eqb (record_len (drop p s)) 0 ≡ b → cond b None (Some (p + record_len (drop p s))) ≡ Some n → (0 < record_len (drop p s)) × (n ≡ p + record_len (drop p s))
+      go true e z = absurd (let f : ◌≡◌ {A = ℕ} 0 1 = cc in omega arith)
+      go false e z = let f : n ≡ p + record_len (drop p s) = cc in (pos (record_len (drop p s)) (eqb-false (record_len (drop p s)) 0 e), f)
 
 -- a run's length
 pub run-stop : (s : List ℕ) → 0 < record_len s → run_len s ≡ 0

@@ -1,13 +1,13 @@
 -- The walk over a damaged script. Assumes nothing: these are definitions.
-use Rattle.std.specs.Prelude.{ℕ, zero, suc, ◌+◌, cond, List, [], ◌∷◌, ◌++◌, eqb, length, take, drop}
+use Rattle.std.specs.Prelude.{ℕ, zero, suc, ◌+◌, cond, List, [], ◌∷◌, ◌++◌, eqb, length, take, drop, Option, None, Some}
 use Rattle.bench_records.specs.Kinds.{head}
 use Rattle.bench_records.specs.Records.{record_at}
-use Rattle.bench_records.specs.declared.fields.Scan.{Scan}
+use Rattle.bench_records.specs.declared.fields.Record.{Record}
 
 -- the bytes of a record that was read, 0 for none
-unfoldable pub scan_len : Scan → ℕ
-scan_len (Scan.Is r) = head + r.length
-scan_len Scan.Bad = 0
+unfoldable pub scan_len : Option Record → ℕ
+scan_len (Some r) = head + r.length
+scan_len None = 0
 
 -- "if a whole record with mark, known kind and right body length starts here": its bytes, 0 where s begins with none
 unfoldable pub record_len : List ℕ → ℕ
@@ -65,6 +65,6 @@ unfoldable pub run_len : List ℕ → ℕ
 run_len [] = 0
 run_len (x ∷ s) = cond (eqb (record_len (x ∷ s)) 0) (suc (run_len s)) 0
 
--- the position behind the record at p, 0 where none starts there
-unfoldable pub record_end : List ℕ → ℕ → ℕ
-record_end s p = cond (eqb (record_len (drop p s)) 0) 0 (p + record_len (drop p s))
+-- the position behind the record at p, none where none starts there
+unfoldable pub record_end : List ℕ → ℕ → Option ℕ
+record_end s p = cond (eqb (record_len (drop p s)) 0) None (Some (p + record_len (drop p s)))

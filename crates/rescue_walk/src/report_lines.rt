@@ -18,12 +18,10 @@ fn put_lines(out: &mut [u8], at: usize, report: &[u64]) -> usize
     ensures value { result ≡ past_all out.old at (lines_in report.now) }
     ensures out_after { out.new ≡ put_all out.old at (lines_in report.now) }
 {
-    let half = report.len() / 2;
+    let (runs, _) = report.as_chunks::<2>();
     let mut p = at;
-    let mut i = 0;
-    while i < half {
-        p = put_line(out, p, report[2 * i], report[2 * i + 1]);
-        i += 1;
+    for [offset, length] in runs {
+        p = put_line(out, p, *offset, *length);
     }
     p
 }

@@ -18,7 +18,13 @@ pub const REPORT: usize = 2 * RUNS;
 // The longest text of a report: in each line two numbers of at most five digits, a space and a newline.
 pub const TEXT: usize = 12 * RUNS;
 
+// The refusals: the script is too long, or the output or the report has no room.
+const TOO_LONG: u64 = 1;
+
+const NO_ROOM: u64 = 15;
+
 // The refusal number or 0, the bytes written and the runs.
+// By hand: each caller prints the number, whether it is a refusal's or 0, so a Result would be taken apart to make it again.
 #[derive(Clone, Copy)]
 pub struct Rescued {
     pub number: u64,
@@ -48,14 +54,14 @@ pub fn rescue(input: &[u8], out: &mut [u8], report: &mut [u64]) -> Rescued
         report.old (runs input.now) }
 {
     if SCRIPT < input.len() {
-        return refused(1);
+        return refused(TOO_LONG);
     }
     let c = count(input);
     if out.len() < c.kept {
-        return refused(15);
+        return refused(NO_ROOM);
     }
     if report.len() < 2 * c.runs {
-        return refused(15);
+        return refused(NO_ROOM);
     }
     write(input, out, report);
     Rescued {

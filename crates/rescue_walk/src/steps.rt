@@ -3,24 +3,22 @@ ghost use Rattle.std.specs.Prelude.{◌≡◌, ◌+◌, ◌≤◌, ◌<◌, leng
 ghost use Rattle.rescue_walk.specs.Walk.{record_end, run_len};
 ghost use Rattle.rescue_walk.specs.Steps.{Reached, next_of, counted};
 
-use bench_records::{Scan, read_record};
+use bench_records::read_record;
 
 // Where the walk stands; the bytes kept and the runs before it.
-#[derive(Clone, Copy)]
+#[derive(Clone, Copy, Default)]
 pub(crate) struct Cursor {
     pub(crate) at: usize,
     pub(crate) kept: usize,
     pub(crate) runs: usize,
 }
 
-// The position behind the record that starts at `at`; 0 where none does.
-fn record_end(s: &[u8], at: usize) -> usize
+// The position behind the record that starts at `at`, if one does.
+fn record_end(s: &[u8], at: usize) -> Option<usize>
     ensures { result ≡ record_end s.now at }
 {
-    match read_record(s, at) {
-        Scan::Is(r) => r.body + r.length,
-        Scan::Bad => 0,
-    }
+    let r = read_record(s, at)?;
+    Some(r.body + r.length)
 }
 
 // The end of the run at `at`: the next record's start, or the script's end.
@@ -28,14 +26,12 @@ fn run_end(s: &[u8], at: usize) -> usize
     requires { at ≤ length s.now }
     ensures { result ≡ at + run_len (drop at s.now) }
 {
-    let mut e = at;
-    while e < s.len() {
-        if record_end(s, e) != 0 {
+    for e in at..s.len() {
+        if record_end(s, e).is_some() {
             return e;
         }
-        e += 1;
     }
-    e
+    s.len()
 }
 
 // Behind the next piece.
@@ -43,20 +39,17 @@ pub(crate) fn next(s: &[u8], c: Cursor) -> Cursor
     requires { Reached s.now c × (c.at < length s.now) }
     ensures { result ≡ next_of s.now c }
 {
-    let at = c.at;
-    let e = record_end(s, at);
-    if e == 0 {
-        let end = run_end(s, at);
-        return Cursor {
+    match record_end(s, c.at) {
+        Some(end) => Cursor {
             at: end,
-            kept: c.kept,
+            kept: c.kept + (end - c.at),
+            ..c
+        },
+        None => Cursor {
+            at: run_end(s, c.at),
             runs: c.runs + 1,
-        };
-    }
-    Cursor {
-        at: e,
-        kept: c.kept + (e - at),
-        runs: c.runs,
+            ..c
+        },
     }
 }
 
@@ -65,11 +58,8 @@ pub(crate) fn count(s: &[u8]) -> Cursor
     ensures value { result ≡ counted s.now }
     ensures runs_in_bounds { result.runs ≤ length s.now }
 {
-    let mut c = Cursor {
-        at: 0,
-        kept: 0,
-        runs: 0,
-    };
+    let mut c = Cursor::default();
+    // By hand: where the next piece begins only this one tells.
     while c.at < s.len() {
         c = next(s, c);
     }

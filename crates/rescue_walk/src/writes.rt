@@ -12,16 +12,14 @@ fn put_piece(s: &[u8], out: &mut [u8], report: &mut [u64], c: Cursor) -> Cursor
     ensures out_after { out.new ≡ out_next s.now out.old c }
     ensures report_after { report.new ≡ report_next s.now report.old c }
 {
-    let from = c.at;
     let n = next(s, c);
-    let size = n.at - from;
     if n.runs == c.runs {
-        wire_bytes::put_bytes(out, c.kept, &s[from..], size);
+        out[c.kept..n.kept].copy_from_slice(&s[c.at..n.at]);
         return n;
     }
     let i = 2 * c.runs;
-    report[i] = from as u64;
-    report[i + 1] = size as u64;
+    report[i] = c.at as u64;
+    report[i + 1] = (n.at - c.at) as u64;
     n
 }
 
@@ -31,11 +29,8 @@ pub(crate) fn write(s: &[u8], out: &mut [u8], report: &mut [u64])
     ensures out_after { out.new ≡ front out.old (rescued s.now) }
     ensures report_after { report.new ≡ front report.old (runs s.now) }
 {
-    let mut c = Cursor {
-        at: 0,
-        kept: 0,
-        runs: 0,
-    };
+    let mut c = Cursor::default();
+    // By hand: where the next piece begins only this one tells.
     while c.at < s.len() {
         c = put_piece(s, out, report, c);
     }

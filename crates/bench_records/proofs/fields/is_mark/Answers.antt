@@ -1,12 +1,10 @@
--- Both bytes are looked at where there is room for two.
-use Rattle.bench_records.proofs.Scans.{mark_first, mark_other, mark_cut}
+-- The mark stands in front of what follows `at`; past the end nothing does.
+use mathlib.Core.Path.{◌∙◌}
+use Rattle.bench_records.proofs.Scans.{mark-here, mark-past}
 use Rattle.bench_records.proofs.fields.is_mark.Goals as goal
 
-pub returns-then-s-at : goal.returns-then-s-at
-returns-then-s-at c = mark_first c.args.s.now c.args.at c.if-s-at.true
+pub returns-then-at-s : goal.returns-then-at-s
+returns-then-at-s c = c.starts_with.ensures.value ∙ mark-here c.args.s.now c.args.at
 
-pub returns-then-has_room : goal.returns-then-has_room
-returns-then-has_room c = mark_other c.args.s.now c.args.at c.if-s-at.false
-
-pub returns : goal.returns
-returns c = mark_cut c.args.s.now c.args.at _ c.has_room.ensures c.if-has_room.false
+pub returns-else-at-s : goal.returns-else-at-s
+returns-else-at-s c = mark-past c.args.s.now c.args.at c.if-at-s.false

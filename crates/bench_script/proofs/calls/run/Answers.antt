@@ -22,7 +22,7 @@ returns-in-Back c = rw (c.in-Back.is, c.alone-in-Back.ensures, c.back.ensures.va
 pub returns-in-Frame : goal.returns-in-Frame
 unfolding call_leaves alone
 returns-in-Frame c =
-    rw (c.in-Frame.is, c.alone-in-Frame.ensures, c.frame-x.ensures.value, c.frame-x.ensures.d_after, c.frame-x.ensures.out_after)
+    rw (c.in-Frame.is, c.alone-in-Frame.ensures, c.frame.ensures.value, c.frame.ensures.d_after, c.frame.ensures.out_after)
 
 pub returns-in-Plan : goal.returns-in-Plan
 unfolding call_leaves alone

@@ -1,10 +1,14 @@
 -- What was counted and what is left make up the whole.
+use mathlib.Core.Path.{◌≡◌}
 use native.Mathlib.Omega.{arith}
+use borrow.Author.Rules.{rules}
 use Rattle.rescue_walk.proofs.Loops.{counting_none, counting_next, counting_all}
 use Rattle.rescue_walk.proofs.steps.count.Goals as goal
 
 pub loop-c-init : goal.loop-c-init
-loop-c-init c = counting_none c.args.s.now
+loop-c-init c =
+    let e : c.default-c.result ≡ record { at = 0; kept = 0; runs = 0 } = search rules in
+    rw e (counting_none c.args.s.now)
 
 pub loop-c-smaller : goal.loop-c-smaller
 loop-c-smaller c =

@@ -1,10 +1,13 @@
 -- What is left to write makes the same of both slices as the whole does.
+use mathlib.Core.Path.{◌≡◌}
 use borrow.Author.Rules.{rules}
 use Rattle.rescue_walk.proofs.Writings.{writing_none, writing_room, writing_less, writing_next, writing_all}
 use Rattle.rescue_walk.proofs.writes.write.Goals as goal
 
 pub loop-c-init : goal.loop-c-init
-loop-c-init c = writing_none c.args.s.now c.args.out.now c.args.report.now
+loop-c-init c =
+    let e : c.default-c.result ≡ record { at = 0; kept = 0; runs = 0 } = search rules in
+    rw e (writing_none c.args.s.now c.args.out.now c.args.report.now)
 
 pub put_piece-c-requires : goal.put_piece-c-requires
 put_piece-c-requires c =
