@@ -1,14 +1,14 @@
 // A command seen by quantity: what it says of each, and its kind, aim and duration.
 ghost use Rattle.std.specs.Prelude.{◌≡◌};
 ghost use Rattle.device_store.specs.Quantities.{is_setpoint};
-ghost use Rattle.command_by_quantity.specs.Says.{current_field, is_of, field_at, says, kind_of, is_set, aim_of, setpoint_duration, duration_of};
+ghost use Rattle.command_by_quantity.specs.Says.{current_field, is_of, field_at, says, kind_of, is_set, aim_of, duration_of};
 
 use command_fields::{aim_field, limit_field, phase_field, setpoint_duration, setpoint_field};
 use device_store::{CURRENTS, LIMITS, direction_of, is_current, is_limit, phase_of};
-use wire_messages::{Command, CurrentLimits, Field, Setpoints};
+use wire_messages::{Command, CurrentLimits, Field};
 
 // What a command is about. Each kind is accepted or not by a setting of its own.
-#[derive(Clone, Copy)]
+#[derive(Clone, Copy, PartialEq, Eq)]
 pub enum Kind {
     Limits,
     Setpoints,
@@ -20,11 +20,11 @@ pub enum Kind {
 fn current_field(m: CurrentLimits, q: usize) -> Field
     ensures { result ≡ current_field m q }
 {
-    let phases = m.phases;
     if direction_of(q) as u64 == m.direction {
-        return phase_field(phases, phase_of(q));
+        phase_field(m.phases, phase_of(q))
+    } else {
+        Field::Absent
     }
-    Field::Absent
 }
 
 // The quantities behind the limits and before the currents.
@@ -53,23 +53,25 @@ fn field_at(c: Command, q: usize) -> Field
     let d = direction_of(q) as u64;
     match c {
         Command::SetLimit(m) => limit_field(m, d),
-        Command::ClearLimit(a) => aim_field(a, d),
         Command::SetSetpoint(m) => setpoint_field(m, d),
-        Command::ClearSetpoint(a) => aim_field(a, d),
         Command::SetCurrentLimits(m) => current_field(m, q),
-        Command::ClearCurrentLimits(a) => aim_field(a, d),
+        Command::ClearLimit(a) | Command::ClearSetpoint(a) | Command::ClearCurrentLimits(a) => {
+            aim_field(a, d)
+        }
         Command::Unserved(_) => Field::Absent,
     }
 }
 
 // What a command says of quantity q: nothing, that it be removed, or a number.
+#[tactic(auto, unfolding(crate::specs::Says::says))]
 pub fn says(c: Command, q: usize) -> Field
     ensures { result ≡ says c q }
 {
     if is_of(kind_of(c), q) {
-        return field_at(c, q);
+        field_at(c, q)
+    } else {
+        Field::Absent
     }
-    Field::Absent
 }
 
 // Which setting must accept the command.
@@ -77,12 +79,9 @@ pub fn kind_of(c: Command) -> Kind
     ensures { result ≡ kind_of c }
 {
     match c {
-        Command::SetLimit(_) => Kind::Limits,
-        Command::ClearLimit(_) => Kind::Limits,
-        Command::SetSetpoint(_) => Kind::Setpoints,
-        Command::ClearSetpoint(_) => Kind::Setpoints,
-        Command::SetCurrentLimits(_) => Kind::Currents,
-        Command::ClearCurrentLimits(_) => Kind::Currents,
+        Command::SetLimit(_) | Command::ClearLimit(_) => Kind::Limits,
+        Command::SetSetpoint(_) | Command::ClearSetpoint(_) => Kind::Setpoints,
+        Command::SetCurrentLimits(_) | Command::ClearCurrentLimits(_) => Kind::Currents,
         Command::Unserved(_) => Kind::Unserved,
     }
 }
@@ -91,15 +90,10 @@ pub fn kind_of(c: Command) -> Kind
 pub fn is_set(c: Command) -> bool
     ensures { result ≡ is_set c }
 {
-    match c {
-        Command::SetLimit(_) => true,
-        Command::ClearLimit(_) => false,
-        Command::SetSetpoint(_) => true,
-        Command::ClearSetpoint(_) => false,
-        Command::SetCurrentLimits(_) => true,
-        Command::ClearCurrentLimits(_) => false,
-        Command::Unserved(_) => false,
-    }
+    matches!(
+        c,
+        Command::SetLimit(_) | Command::SetSetpoint(_) | Command::SetCurrentLimits(_)
+    )
 }
 
 // The direction that a clear or a map of phases names. The other Set commands name directions by their fields alone.
@@ -107,21 +101,10 @@ pub fn aim_of(c: Command) -> Option<u64>
     ensures { result ≡ aim_of c }
 {
     match c {
-        Command::SetLimit(_) => None,
-        Command::ClearLimit(a) => a,
-        Command::SetSetpoint(_) => None,
-        Command::ClearSetpoint(a) => a,
+        Command::ClearLimit(a) | Command::ClearSetpoint(a) | Command::ClearCurrentLimits(a) => a,
         Command::SetCurrentLimits(m) => Some(m.direction),
-        Command::ClearCurrentLimits(a) => a,
-        Command::Unserved(_) => None,
+        Command::SetLimit(_) | Command::SetSetpoint(_) | Command::Unserved(_) => None,
     }
-}
-
-fn setpoint_time(m: Setpoints) -> u64
-    ensures { result ≡ setpoint_duration m.duration }
-{
-    let d = m.duration;
-    setpoint_duration(d)
 }
 
 // How long what a command sets holds, 0 until replaced. An omitted duration is 0, but for a setpoint.
@@ -130,11 +113,8 @@ pub fn duration_of(c: Command) -> u64
 {
     match c {
         Command::SetLimit(m) => m.duration,
-        Command::ClearLimit(_) => 0,
-        Command::SetSetpoint(m) => setpoint_time(m),
-        Command::ClearSetpoint(_) => 0,
+        Command::SetSetpoint(m) => setpoint_duration(m.duration),
         Command::SetCurrentLimits(m) => m.duration,
-        Command::ClearCurrentLimits(_) => 0,
-        Command::Unserved(_) => 0,
+        _ => 0, // a clear sets nothing
     }
 }

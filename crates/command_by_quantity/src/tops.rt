@@ -9,7 +9,8 @@ pub fn top_of(s: Settings, q: usize) -> u64
     ensures { result ≡ top_of s q }
 {
     if is_limit(q) {
-        return s.maxima[direction_of(q)];
+        s.maxima[direction_of(q)]
+    } else {
+        MOST
     }
-    MOST
 }

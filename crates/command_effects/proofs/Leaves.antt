@@ -9,6 +9,9 @@ use lib.Dec.{eqb}
 use lib.ListN.{length, get_or}
 use Rattle.wire_messages.specs.declared.Field.{Field}
 use Rattle.wire_messages.specs.declared.Phases.{Phases}
+use Rattle.wire_messages.specs.Options.{Aim}
+use Rattle.wire_messages.specs.declared.Limits.{Limits}
+use Rattle.wire_messages.specs.declared.Setpoints.{Setpoints}
 use Rattle.wire_messages.specs.declared.CurrentLimits.{CurrentLimits}
 use Rattle.wire_messages.specs.declared.Command.{Command}
 use Rattle.device_store.specs.Zones.{up_to, nothing}
@@ -16,13 +19,13 @@ use Rattle.device_store.specs.declared.Held.{Held}
 use Rattle.device_store.specs.declared.Settings.{Settings}
 use Rattle.device_store.proofs.Runs.{up_to-list, up_to-cong}
 use Rattle.device_store.specs.Quantities.{helds, is_limit, is_setpoint, is_current, direction_of, phase_of}
-use Rattle.command_by_quantity.specs.Says.{says, phase_field}
+use Rattle.command_by_quantity.specs.Says.{says, limit_field, setpoint_field, aim_field, phase_field}
 use Rattle.command_effects.specs.Obeys.{field_action, action, done}
 use Rattle.command_effects.specs.Fields.{left_by, with_two, with_phases, all_phases, helds_after}
 
 module _ (s : Settings) (end : ℕ) where
   -- what is left of every quantity, by what is said of it
-  abbrev pub left : (ℕ → Field) → List Held → List Held
+  abbrev left : (ℕ → Field) → List Held → List Held
   left f hs = up_to (λ q. left_by s (f q) q end (get_or hs q nothing)) helds
 
   abbrev mapped : Phases → ℕ → ℕ → Field
@@ -37,15 +40,15 @@ module _ (s : Settings) (end : ℕ) where
     each : hs ≡ up_to (λ q. get_or hs q nothing) helds
     each = sym (up_to-list (λ q. get_or hs q nothing) helds hs nothing whole (λ q h. refl))
 
-    pub left_limits : (f : ℕ → Field) → with_two s (f 0) (f 1) 0 end hs ≡ left (λ q. cond (is_limit q) (f (direction_of q)) Field.Absent) hs
+    left_limits : (f : ℕ → Field) → with_two s (f 0) (f 1) 0 end hs ≡ left (λ q. cond (is_limit q) (f (direction_of q)) Field.Absent) hs
     unfolding up_to with_two done field_action
     left_limits f = ap (λ (l : List Held). with_two s (f 0) (f 1) 0 end l) each
 
-    pub left_setpoints : (f : ℕ → Field) → with_two s (f 0) (f 1) 2 end hs ≡ left (λ q. cond (is_setpoint q) (f (direction_of q)) Field.Absent) hs
+    left_setpoints : (f : ℕ → Field) → with_two s (f 0) (f 1) 2 end hs ≡ left (λ q. cond (is_setpoint q) (f (direction_of q)) Field.Absent) hs
     unfolding up_to with_two done field_action
     left_setpoints f = ap (λ (l : List Held). with_two s (f 0) (f 1) 2 end l) each
 
-    pub left_currents : (f : ℕ → Field) → with_phases s (all_phases (f 1)) 5 end (with_phases s (all_phases (f 0)) 4 end hs)
+    left_currents : (f : ℕ → Field) → with_phases s (all_phases (f 1)) 5 end (with_phases s (all_phases (f 0)) 4 end hs)
         ≡ left (λ q. cond (is_current q) (f (direction_of q)) Field.Absent) hs
     unfolding up_to with_phases done field_action
     left_currents f = ap (λ (l : List Held). with_phases s (all_phases (f 1)) 5 end (with_phases s (all_phases (f 0)) 4 end l)) each
@@ -79,5 +82,29 @@ module _ (s : Settings) (end : ℕ) where
           each ∙ up_to-cong (λ q. get_or hs q nothing) (λ q. left_by s (mapped m.phases m.direction q) q end (get_or hs q nothing)) helds
           (λ q h. rw (ne_eqb (direction_of q) m.direction (λ e. omega arith)) (keeps (is_current q) (phase_field m.phases (phase_of q)) q (get_or hs q nothing)))
 
--- what a map of phases leaves, for a search
+    -- each command's fields leave what the command does
+    pub set_limit : (m : Limits) → with_two s (limit_field m 0) (limit_field m 1) 0 end hs ≡ helds_after s (Command.SetLimit m) end hs
+    unfolding helds_after action says
+    set_limit m = left_limits (limit_field m)
+
+    pub clear_limit : (a : Aim) → with_two s (aim_field a 0) (aim_field a 1) 0 end hs ≡ helds_after s (Command.ClearLimit a) end hs
+    unfolding helds_after action says
+    clear_limit a = left_limits (aim_field a)
+
+    pub set_setpoint : (m : Setpoints) → with_two s (setpoint_field m 0) (setpoint_field m 1) 2 end hs ≡ helds_after s (Command.SetSetpoint m) end hs
+    unfolding helds_after action says
+    set_setpoint m = left_setpoints (setpoint_field m)
+
+    pub clear_setpoint : (a : Aim) → with_two s (aim_field a 0) (aim_field a 1) 2 end hs ≡ helds_after s (Command.ClearSetpoint a) end hs
+    unfolding helds_after action says
+    clear_setpoint a = left_setpoints (aim_field a)
+
+    pub left_clear : (a : Aim)
+        → with_phases s (all_phases (aim_field a 1)) 5 end (with_phases s (all_phases (aim_field a 0)) 4 end hs) ≡ helds_after s (Command.ClearCurrentLimits a) end hs
+    unfolding helds_after action says
+    left_clear a = left_currents (aim_field a)
+
+-- what a map of phases leaves, and what the commands do, for a search
 pub ruleset maps = (left_consumption, left_production, left_elsewhere)
+
+pub ruleset lefts = (set_limit, clear_limit, set_setpoint, clear_setpoint, left_none)

@@ -7,31 +7,30 @@ ghost use Rattle.command_effects.specs.Fields.{left_by, with_two, with_phases, a
 use crate::actions::Action;
 use command_by_quantity::{duration_of, top_of};
 use command_fields::{aim_field, limit_field, natural_of, setpoint_field, until_of};
-use device_store::{CURRENTS, HELDS, Held, LIMITS, Settings, Zone, least};
+use device_store::{CURRENTS, HELDS, Held, LIMITS, Settings, Zone};
 use wire_messages::{Command, CurrentLimits, Field, Phases};
 
 // What is stored is never above the top.
+#[tactic(auto, unfolding(crate::specs::Obeys::field_action))]
 fn field_action(top: u64, f: Field) -> Action
     ensures { result ≡ field_action top f }
 {
     match f {
         Field::Absent => Action::Keep,
         Field::Null => Action::Remove,
-        Field::Value(v) => Action::Put(least(top, natural_of(v))),
+        Field::Value(v) => Action::Put(top.min(natural_of(v))),
     }
 }
 
 // A value is replaced together with its end.
+#[tactic(auto, unfolding(crate::specs::Obeys::done))]
 fn done(a: Action, until: u64, h: Held) -> Held
     ensures { result ≡ done a until h }
 {
     match a {
         Action::Keep => h,
         Action::Remove => Held { value: 0, until: 0 },
-        Action::Put(v) => Held {
-            value: v,
-            until: until,
-        },
+        Action::Put(value) => Held { value, until },
     }
 }
 
@@ -43,6 +42,7 @@ fn left_by(s: Settings, f: Field, q: usize, until: u64, h: Held) -> Held
 }
 
 // Two fields obeyed, of quantity q and of the next.
+#[tactic(auto, unfolding(crate::specs::Fields::with_two))]
 fn with_two(
     s: Settings,
     a: Field,
@@ -54,29 +54,23 @@ fn with_two(
     requires { q + 1 < helds }
     ensures { result ≡ with_two s a b q until old }
 {
-    let x = old[q];
-    let y = old[q + 1];
     let mut held = old;
-    held[q] = left_by(s, a, q, until, x);
-    held[q + 1] = left_by(s, b, q + 1, until, y);
+    held[q] = left_by(s, a, q, until, old[q]);
+    held[q + 1] = left_by(s, b, q + 1, until, old[q + 1]);
     held
 }
 
-// Three phases obeyed, of quantity q and of every second behind it.
+// Three phases obeyed, of quantity q and of every second behind it. A function of its own: one over any number of fields would
+// take a list and their distance, and walk it.
+#[tactic(auto, unfolding(crate::specs::Fields::with_phases))]
 fn with_phases(s: Settings, m: Phases, q: usize, until: u64, old: [Held; HELDS]) -> [Held; HELDS]
     requires { q + 4 < helds }
     ensures { result ≡ with_phases s m q until old }
 {
-    let a = m.a;
-    let b = m.b;
-    let c = m.c;
-    let x = old[q];
-    let y = old[q + 2];
-    let z = old[q + 4];
     let mut held = old;
-    held[q] = left_by(s, a, q, until, x);
-    held[q + 2] = left_by(s, b, q + 2, until, y);
-    held[q + 4] = left_by(s, c, q + 4, until, z);
+    held[q] = left_by(s, m.a, q, until, old[q]);
+    held[q + 2] = left_by(s, m.b, q + 2, until, old[q + 2]);
+    held[q + 4] = left_by(s, m.c, q + 4, until, old[q + 4]);
     held
 }
 
@@ -85,14 +79,11 @@ fn with_phases(s: Settings, m: Phases, q: usize, until: u64, old: [Held; HELDS])
 fn with_map(s: Settings, m: CurrentLimits, until: u64, old: [Held; HELDS]) -> [Held; HELDS]
     ensures { result ≡ helds_after s (Command.SetCurrentLimits m) until old }
 {
-    let phases = m.phases;
-    if m.direction == 0 {
-        return with_phases(s, phases, CURRENTS, until, old);
+    match m.direction {
+        0 => with_phases(s, m.phases, CURRENTS, until, old),
+        1 => with_phases(s, m.phases, CURRENTS + 1, until, old),
+        _ => old,
     }
-    if m.direction == 1 {
-        return with_phases(s, phases, CURRENTS + 1, until, old);
-    }
-    old
 }
 
 fn all_phases(f: Field) -> Phases
@@ -102,6 +93,7 @@ fn all_phases(f: Field) -> Phases
 }
 
 // A clear says the same of every phase.
+#[tactic(auto, using(crate::proofs::Leaves::left_clear))]
 fn without_currents(s: Settings, a: Option<u64>, until: u64, old: [Held; HELDS]) -> [Held; HELDS]
     ensures { result ≡ helds_after s (Command.ClearCurrentLimits a) until old }
 {
@@ -112,6 +104,7 @@ fn without_currents(s: Settings, a: Option<u64>, until: u64, old: [Held; HELDS])
 }
 
 // Only the quantities that the command has fields of are worked over.
+#[tactic(auto, using(crate::proofs::Leaves::lefts))]
 fn helds_after(s: Settings, c: Command, until: u64, old: [Held; HELDS]) -> [Held; HELDS]
     ensures { result ≡ helds_after s c until old }
 {
@@ -119,14 +112,8 @@ fn helds_after(s: Settings, c: Command, until: u64, old: [Held; HELDS]) -> [Held
         Command::SetLimit(m) => with_two(s, limit_field(m, 0), limit_field(m, 1), 0, until, old),
         Command::ClearLimit(a) => with_two(s, aim_field(a, 0), aim_field(a, 1), 0, until, old),
         Command::SetSetpoint(m) => {
-            with_two(
-                s,
-                setpoint_field(m, 0),
-                setpoint_field(m, 1),
-                LIMITS,
-                until,
-                old,
-            )
+            let consumption = setpoint_field(m, 0);
+            with_two(s, consumption, setpoint_field(m, 1), LIMITS, until, old)
         }
         Command::ClearSetpoint(a) => {
             with_two(s, aim_field(a, 0), aim_field(a, 1), LIMITS, until, old)
@@ -138,14 +125,12 @@ fn helds_after(s: Settings, c: Command, until: u64, old: [Held; HELDS]) -> [Held
 }
 
 // The zone's record once it has obeyed.
+#[tactic(auto, unfolding(crate::specs::Obeys::obeyed, device_store::specs::Zones::held_of, crate::specs::Fields::helds_after))]
 pub fn obeyed(s: Settings, c: Command, t: u64, zone: Zone) -> Zone
     ensures { result ≡ obeyed s c t zone }
 {
-    let old = zone.held;
-    let held = helds_after(s, c, until_of(t, duration_of(c)), old);
     Zone {
-        precedence: zone.precedence,
-        up: zone.up,
-        held: held,
+        held: helds_after(s, c, until_of(t, duration_of(c)), zone.held),
+        ..zone
     }
 }

@@ -35,10 +35,8 @@ fn current_in(values: [i64; VALUES], p: usize, d: u64) -> Option<u64>
     requires { p < phases }
     ensures { result ≡ current_in values p d }
 {
-    if d == 0 {
-        return stated(values[1 + CURRENTS + 2 * p]);
-    }
-    stated(values[2 + CURRENTS + 2 * p])
+    let first = if d == 0 { 1 } else { 2 };
+    stated(values[first + CURRENTS + 2 * p])
 }
 
 // SetCurrentLimits is answered with the currents of its direction that hold.

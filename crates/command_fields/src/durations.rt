@@ -10,12 +10,10 @@ pub fn until_of(n: u64, duration: u64) -> u64
     ensures { result ≡ until_of n duration }
 {
     if duration == 0 {
-        return MOST;
+        MOST
+    } else {
+        n.saturating_add(duration)
     }
-    if n < MOST - duration {
-        return n + duration;
-    }
-    MOST
 }
 
 // The seconds after which a setpoint ends whose duration was left out.
@@ -25,8 +23,5 @@ const FORGOTTEN: u64 = 3600;
 pub fn setpoint_duration(a: Option<u64>) -> u64
     ensures { result ≡ setpoint_duration a }
 {
-    match a {
-        None => FORGOTTEN,
-        Some(d) => d,
-    }
+    a.unwrap_or(FORGOTTEN)
 }

@@ -15,32 +15,21 @@ pub fn is_negative(v: i64) -> bool
 pub fn natural_of(v: i64) -> u64
     ensures { result ≡ natural v }
 {
-    if v < 0 {
-        return 0;
-    }
-    v as u64
+    u64::try_from(v).unwrap_or(0)
 }
 
 // Null names its quantity too.
 pub fn field_names(f: Field) -> bool
     ensures { result ≡ field_names f }
 {
-    match f {
-        Field::Absent => false,
-        Field::Null => true,
-        Field::Value(_) => true,
-    }
+    !matches!(f, Field::Absent)
 }
 
 // A field with a number that no value can be.
 pub fn field_negative(f: Field) -> bool
     ensures { result ≡ field_negative f }
 {
-    match f {
-        Field::Absent => false,
-        Field::Null => false,
-        Field::Value(v) => is_negative(v),
-    }
+    matches!(f, Field::Value(v) if v < 0)
 }
 
 // The rule for a single value: 0 means off.
@@ -55,20 +44,12 @@ fn is_too_low(minimum: u64, v: u64) -> bool
 pub fn field_too_low(minimum: u64, f: Field) -> bool
     ensures { result ≡ field_too_low minimum f }
 {
-    match f {
-        Field::Absent => false,
-        Field::Null => false,
-        Field::Value(v) => is_too_low(minimum, natural_of(v)),
-    }
+    matches!(f, Field::Value(v) if is_too_low(minimum, natural_of(v)))
 }
 
 // A field with a number that will be capped.
 pub fn field_above(top: u64, f: Field) -> bool
     ensures { result ≡ field_above top f }
 {
-    match f {
-        Field::Absent => false,
-        Field::Null => false,
-        Field::Value(v) => top < natural_of(v),
-    }
+    matches!(f, Field::Value(v) if top < natural_of(v))
 }

@@ -1,3 +1,3 @@
-mod Capped
+pub mod Capped
 -- What the proofs of several functions use.
 pub mod Quantities

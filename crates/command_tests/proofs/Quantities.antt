@@ -107,3 +107,8 @@ module _ (k : FieldTest) (s : Settings) where
     map-none n o =
         sym (some-none (mapped m.phases m.direction)
         (λ q. rw (ne_eqb (direction_of q) m.direction (λ e. omega arith)) (away (is_current q) (phase_field m.phases (phase_of q)) q)) helds)
+
+-- which quantities a map is asked about, and the other Set commands
+pub ruleset map_of = (map-consumption, map-production, map-none)
+
+pub ruleset of_fields = (of-limits, of_setpoints)

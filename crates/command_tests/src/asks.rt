@@ -10,6 +10,7 @@ use device_store::{CURRENTS, LIMITS, Settings, direction_of, is_current, phase_o
 use wire_messages::{Command, CurrentLimits, Field, Phases};
 
 // Named at all, below 0, of a direction that is not supported, of a phase from the count up, above the most that it may be.
+// By name, and no closure: the definitions `is_so` and `some_field_is` of specs/ are stated over these names.
 #[derive(Clone, Copy)]
 pub enum FieldTest {
     Named,
@@ -23,22 +24,14 @@ pub enum FieldTest {
 fn is_beyond(has: u64, f: Field, q: usize) -> bool
     ensures { result ≡ beyond has f q }
 {
-    if field_names(f) {
-        return !supports(has, direction_of(q) as u64);
-    }
-    false
+    field_names(f) && !supports(has, direction_of(q) as u64)
 }
 
 // A current that is named though its phase is not there.
 fn is_outside(count: u64, f: Field, q: usize) -> bool
     ensures { result ≡ outside count f q }
 {
-    if field_names(f) {
-        if is_current(q) {
-            return count <= phase_of(q) as u64;
-        }
-    }
-    false
+    field_names(f) && is_current(q) && count <= phase_of(q) as u64
 }
 
 fn is_so(k: FieldTest, s: Settings, f: Field, q: usize) -> bool
@@ -58,54 +51,39 @@ fn of_two(k: FieldTest, s: Settings, a: Field, b: Field, q: usize) -> bool
     requires { q < helds }
     ensures { result ≡ is_so k s a q || is_so k s b (q + 1) }
 {
-    if is_so(k, s, a, q) {
-        return true;
-    }
-    is_so(k, s, b, q + 1)
+    is_so(k, s, a, q) || is_so(k, s, b, q + 1)
 }
 
-// So of one of three phases, of quantity q and of every second behind it.
+// So of one of three phases, of quantity q and of every second behind it. A function of its own: one over any number of fields
+// would take a list and their distance.
 fn of_phases(k: FieldTest, s: Settings, m: Phases, q: usize) -> bool
     requires { q < helds }
     ensures { result ≡ is_so k s m.a q || (is_so k s m.b (q + 2) || is_so k s m.c (q + 4)) }
 {
-    let a = m.a;
-    let b = m.b;
-    let c = m.c;
-    if is_so(k, s, a, q) {
-        return true;
-    }
-    if is_so(k, s, b, q + 2) {
-        return true;
-    }
-    is_so(k, s, c, q + 4)
+    is_so(k, s, m.a, q) || is_so(k, s, m.b, q + 2) || is_so(k, s, m.c, q + 4)
 }
 
 // A map of a direction that is none says nothing.
+#[tactic(auto, using(crate::proofs::Quantities::map_of))]
 fn of_currents(k: FieldTest, s: Settings, m: CurrentLimits) -> bool
     ensures { result ≡ some_field_is k s (Command.SetCurrentLimits m) }
 {
-    let phases = m.phases;
-    if m.direction == 0 {
-        return of_phases(k, s, phases, CURRENTS);
+    match m.direction {
+        0 => of_phases(k, s, m.phases, CURRENTS),
+        1 => of_phases(k, s, m.phases, CURRENTS + 1),
+        _ => false,
     }
-    if m.direction == 1 {
-        return of_phases(k, s, phases, CURRENTS + 1);
-    }
-    false
 }
 
 // Whether it is so of some quantity of a Set command: only the quantities that its fields are of are asked.
+#[tactic(auto, using(crate::proofs::Quantities::of_fields))]
 pub fn some_field_is(k: FieldTest, s: Settings, c: Command) -> bool
     ensures { result ≡ is_set c && some_field_is k s c }
 {
     match c {
         Command::SetLimit(m) => of_two(k, s, limit_field(m, 0), limit_field(m, 1), 0),
-        Command::ClearLimit(_) => false,
         Command::SetSetpoint(m) => of_two(k, s, setpoint_field(m, 0), setpoint_field(m, 1), LIMITS),
-        Command::ClearSetpoint(_) => false,
         Command::SetCurrentLimits(m) => of_currents(k, s, m),
-        Command::ClearCurrentLimits(_) => false,
-        Command::Unserved(_) => false,
+        _ => false, // a clear has no field
     }
 }

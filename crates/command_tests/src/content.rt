@@ -25,72 +25,50 @@ fn accepts(s: Settings, k: Kind) -> bool
 fn aim_unsupported(has: u64, a: Option<u64>) -> bool
     ensures { result ≡ aim_unsupported has a }
 {
-    match a {
-        None => false,
-        Some(d) => !supports(has, d),
-    }
+    a.is_some_and(|d| !supports(has, d))
 }
 
+#[tactic(auto, unfolding(crate::specs::Content::unsupported))]
 fn is_unsupported(s: Settings, c: Command) -> bool
     ensures { result ≡ unsupported s c }
 {
-    if accepts(s, kind_of(c)) {
-        if aim_unsupported(s.directions, aim_of(c)) {
-            return true;
-        }
-        return some_field_is(FieldTest::UnsupportedDirection, s, c);
-    }
-    true
+    !accepts(s, kind_of(c))
+        || aim_unsupported(s.directions, aim_of(c))
+        || some_field_is(FieldTest::UnsupportedDirection, s, c)
 }
 
 // A number that is no command of this feature.
 pub fn is_unserved(c: Command) -> bool
     ensures { result ≡ is_unserved c }
 {
-    match kind_of(c) {
-        Kind::Limits => false,
-        Kind::Setpoints => false,
-        Kind::Currents => false,
-        Kind::Unserved => true,
-    }
+    matches!(kind_of(c), Kind::Unserved)
 }
 
 fn sets_limits(c: Command) -> bool
     ensures { result ≡ sets_limits c }
 {
-    match kind_of(c) {
-        Kind::Limits => is_set(c),
-        Kind::Setpoints => false,
-        Kind::Currents => is_set(c),
-        Kind::Unserved => false,
-    }
+    matches!(kind_of(c), Kind::Limits | Kind::Currents) && is_set(c)
 }
 
 // An override stops every Set command of limits, of power or current, and no other command.
 fn is_stopped(c: Command, overridden: u64) -> bool
     ensures { result ≡ sets_limits c && not (eqb overridden 0) }
 {
-    if sets_limits(c) {
-        return overridden != 0;
-    }
-    false
+    sets_limits(c) && overridden != 0
 }
 
+// A Set command that names nothing is invalid too.
+#[tactic(auto, unfolding(crate::specs::Content::invalid))]
 fn is_invalid(s: Settings, c: Command) -> bool
     ensures { result ≡ invalid s c }
 {
-    if is_set(c) {
-        if some_field_is(FieldTest::Negative, s, c) {
-            return true;
-        }
-        if some_field_is(FieldTest::Named, s, c) {
-            return some_field_is(FieldTest::MissingPhase, s, c);
-        }
-        return true; // nothing is named
-    }
-    false
+    is_set(c)
+        && (some_field_is(FieldTest::Negative, s, c)
+            || !some_field_is(FieldTest::Named, s, c)
+            || some_field_is(FieldTest::MissingPhase, s, c))
 }
 
+#[tactic(auto, unfolding(crate::specs::Content::below_the_minimum))]
 fn is_below_minimum(s: Settings, c: Command) -> bool
     ensures { result ≡ below_the_minimum s c }
 {
@@ -98,6 +76,7 @@ fn is_below_minimum(s: Settings, c: Command) -> bool
 }
 
 // What is asked of the command itself, once its zone is joined and up.
+#[tactic(auto, unfolding(refusals::specs::Refusals::first_of))]
 pub fn content_number(s: Settings, overridden: u64, c: Command) -> u64
     ensures { result ≡ first_of (content_tests s overridden c) }
 {
@@ -117,6 +96,7 @@ pub fn content_number(s: Settings, overridden: u64, c: Command) -> u64
 }
 
 // Some quantity's number is above its top.
+#[tactic(auto, using(crate::proofs::Capped::capped))]
 pub fn is_capped(s: Settings, c: Command) -> bool
     ensures { result ≡ is_capped s c }
 {
