@@ -9,7 +9,7 @@ ghost use Rattle.std.specs.Io.{ReadsAtMost};
 use std::io;
 use std::io::Read;
 
-// 4,096 zeros.
+// 4,096 zeros. Two functions and no size as a parameter: a caller would say the size again, and each is one expression.
 pub fn buffer() -> [u8; 4096]
     ensures { 4096 ≡ length result }
 {

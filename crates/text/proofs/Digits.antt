@@ -1,15 +1,14 @@
 -- Decimal digits: how many there are, and how they are stored. Assumes nothing.
-use Prim.Native.Nat.{ℕ, zero, suc, ◌+◌, ◌-◌, ◌*◌, ◌/◌, ◌%◌, ◌^◌, ◌≤◌, ◌<◌}
-use mathlib.Core.Path.{◌≡◌, refl, sym, ap, ◌∙◌}
+use Prim.Native.Nat.{ℕ, zero, suc, ◌+◌, ◌*◌, ◌/◌, ◌%◌, ◌^◌, ◌≤◌, ◌<◌}
+use mathlib.Core.Path.{◌≡◌, refl, sym, ◌∙◌}
 use mathlib.Core.List.{List, [], ◌∷◌}
 use native.Mathlib.Nat.{pow-suc}
 use native.Mathlib.Numerals.{add-one}
 use native.Mathlib.Omega.{arith}
 use lib.ListN.{length, set, length-append}
-use lib.Seq.{sets, set_comm}
 use borrow.Author.Tests.{lt-ltb, le-ltb}
 use Rattle.wire_bytes.specs.Bytes.{put}
-use Rattle.wire_bytes.proofs.PutLaws.{sets-append}
+use Rattle.wire_bytes.proofs.PutLaws.{put-last}
 use Rattle.text.specs.Text.{digits, width_in, decimal}
 
 pub digits-length : (w n : ℕ) → length (digits w n) ≡ w
@@ -24,15 +23,7 @@ decimal-length n w e = e ∙ sym (digits-length (width_in 19 n) n)
 pub minus_length : (n w : ℕ) → w ≡ width_in 19 n → 1 + w ≡ length (45 ∷ decimal n)
 minus_length n w e = omega (arith, decimal-length n w e)
 
--- counting: of n's digits w - 1 are counted, `rest` has the others, and up to f + 1 of them are looked for
-pub record Counted (n w rest f : ℕ) : Type 0 where
-  pub sum : w + f ≡ 20
-  pub whole : w + width_in f rest ≡ suc (width_in 19 n)
-  pub small : rest < 10 ^ suc f
-
-pub count-start : (n : ℕ) → n < 2 ^ 64 → Counted n 1 n 19
-count-start n h = record { sum = refl; whole = omega arith; small = omega arith }
-
+-- how many digits there are
 width_one : (f n : ℕ) → n < 10 → width_in f n ≡ 1
 unfolding width_in
 width_one zero n h = refl
@@ -42,31 +33,29 @@ width_more : (f n : ℕ) → 10 ≤ n → width_in (suc f) n ≡ suc (width_in f
 unfolding width_in
 width_more f n h = rw (le-ltb n 10 h)
 
-pub count_next : (n w rest f g : ℕ) → Counted n w rest f → 10 ≤ rest → g ≡ 20 - (w + 1) → Counted n (w + 1) (rest / 10) g
-count_next n w rest zero g x t e = absurd (omega (arith, x.small))
-count_next n w rest (suc f) g x t e =
-    let k : g ≡ f = omega (arith, x.sum) in
-    let s : rest < 10 ^ suc f * 10 = rw (pow-suc 10 (suc f)) at x.small in
-    rw k (record { sum = omega (arith, x.sum); whole = omega (arith, x.whole, width_more f rest t); small = omega arith })
+one_power : (k : ℕ) → 1 ≤ 10 ^ k
+one_power zero = omega arith
+one_power (suc k) = omega (arith, pow-suc 10 k, one_power k)
 
-pub count-end : (n w rest f : ℕ) → Counted n w rest f → rest < 10 → (w ≡ width_in 19 n) × (w ≤ 20)
-count-end n w rest f x t = (omega (arith, x.whole, width_one f rest t), omega (arith, x.sum))
+width_power : (f k n : ℕ) → k ≤ f → 10 ^ k ≤ n → n < 10 * 10 ^ k → k + 1 ≡ width_in f n
+width_power zero zero n l a b = sym (width_one zero n (omega arith))
+width_power zero (suc k) n l a b = absurd (omega arith)
+width_power (suc f) zero n l a b = sym (width_one (suc f) n (omega arith))
+width_power (suc f) (suc k) n l a b =
+    let h : 10 ^ k * 10 ≤ n = rw (pow-suc 10 k) at a in
+    let g : n < 10 * (10 ^ k * 10) = rw (pow-suc 10 k) at b in
+    omega (arith, width_more f n (omega (arith, one_power k)), width_power f k (n / 10) (omega arith) (omega arith) (omega arith))
 
--- a store behind a run of stores may come first
-set_first : (a s : List ℕ) (p k x : ℕ) → p + length a ≤ k → sets (set s k x) p a ≡ set (sets s p a) k x
-set_first [] s p k x h = refl
-set_first (y ∷ a) s p k x h =
-    ap (λ (l : List ℕ). sets l (suc p) a) (set_comm s k p x y (λ e. omega arith))
-    ∙ set_first a (set s p y) (suc p) k x (omega arith)
+pub width_log : (k n : ℕ) → k < 20 → 10 ^ k ≤ n → n < 10 * 10 ^ k → k + 1 ≡ width_in 19 n
+width_log k n l a b = width_power 19 k n (omega arith) a b
+
+pub width_zero : 1 ≡ width_in 19 0
+width_zero = sym (width_one 19 0 (omega arith))
 
 -- a number's last digit stored first, and then the others
 pub put_last : (s : List ℕ) (p i j v : ℕ) → i ≡ suc j → put (set s (p + j) (48 + v % 10)) p (digits j (v / 10)) ≡ put s p (digits i v)
-unfolding put digits
-put_last s p i j v e =
-    let n = digits-length j (v / 10) in
-    rw e (set_first (digits j (v / 10)) s p (p + j) (48 + v % 10) (omega arith)
-    ∙ ap (λ (k : ℕ). set (sets s p (digits j (v / 10))) (p + k) (48 + v % 10)) (sym n)
-    ∙ sym (sets-append (digits j (v / 10)) ((48 + v % 10) ∷ []) s p))
+unfolding digits
+put_last s p i j v e = rw e (put-last s (digits j (v / 10)) p j (48 + v % 10) (digits-length j (v / 10)))
 
 pub put-nothing : (s : List ℕ) (p i v : ℕ) → i ≡ 0 → put s p (digits i v) ≡ s
 unfolding put digits

@@ -1,5 +1,5 @@
 // Decimal and signed decimal.
-ghost use Rattle.std.specs.Prelude.{◌≡◌, [], ◌∷◌, ◌+◌, ◌≤◌, nat_abs, length};
+ghost use Rattle.std.specs.Prelude.{◌≡◌, [], ◌∷◌, ◌+◌, ◌≤◌, length};
 ghost use Rattle.wire_bytes.specs.Bytes.{put, put_whole, past_whole};
 ghost use Rattle.text.specs.Text.{digits, width_in, most_digits, decimal, signed};
 
@@ -8,31 +8,26 @@ use wire_bytes::has_room;
 // The most digits of a number.
 pub const DIGITS: usize = 20;
 
-// How many digits a number has.
+// How many digits a number has; 0 has one.
 fn width_of(n: u64) -> usize
     ensures value { result ≡ width_in 19 n }
     ensures upper_bound { result ≤ most_digits }
 {
-    let mut width: usize = 1;
-    let mut rest = n;
-    while 10 <= rest {
-        rest = rest / 10;
-        width += 1;
+    match n.checked_ilog10() {
+        Some(power) => power as usize + 1,
+        None => 1,
     }
-    width
 }
 
-// Stores the low `width` digits of `n`.
+// Stores the low `width` digits of `n`, the last one first.
 fn put_digits(out: &mut [u8], at: usize, width: usize, n: u64)
     requires { at + width ≤ length out.old }
     ensures { out.new ≡ put out.old at (digits width n) }
 {
-    let mut i = width;
     let mut rest = n;
-    while i > 0 {
-        i -= 1;
-        out[at + i] = (48 + rest % 10) as u8;
-        rest = rest / 10;
+    for i in (0..width).rev() {
+        out[at + i] = b'0' + (rest % 10) as u8;
+        rest /= 10;
     }
 }
 
@@ -63,23 +58,14 @@ fn put_minus(out: &mut [u8], at: usize, n: u64) -> usize
     at
 }
 
-// -1 - n fits where -n would not, at -2^63.
-fn magnitude(n: i64) -> u64
-    ensures { result ≡ nat_abs n }
-{
-    if n < 0 {
-        return 1 + (-1 - n) as u64;
-    }
-    n as u64
-}
-
 pub fn put_signed(out: &mut [u8], at: usize, n: i64) -> usize
     ensures value { result ≡ past_whole out.old at (signed n) }
     ensures out_after { out.new ≡ put_whole out.old at (signed n) }
 {
-    let m = magnitude(n);
+    let size = n.unsigned_abs();
     if n < 0 {
-        return put_minus(out, at, m);
+        put_minus(out, at, size)
+    } else {
+        put_decimal(out, at, size)
     }
-    put_decimal(out, at, m)
 }

@@ -3,24 +3,22 @@ ghost use Rattle.std.specs.Prelude.{◌≡◌, ◌+◌, ◌*◌, ◌<◌, ◌≤
 ghost use Rattle.wire_bytes.specs.Bytes.{put, put_whole, past_whole};
 ghost use Rattle.text.specs.Text.{hex_digit, hex};
 
+use wire_bytes::has_room;
+
 // Whether `n` pairs of digits fit at `at` into `len`.
 fn has_pairs(len: usize, at: usize, n: usize) -> bool
     ensures { result ≡ leb (at + 2 * n) len }
 {
-    if len < at {
-        return false;
-    }
-    n <= (len - at) / 2
+    n.checked_mul(2).is_some_and(|size| has_room(len, at, size))
 }
 
+// One digit, 0 to 9, then a to f.
+#[tactic(auto, unfolding(crate::specs::Text::hex_digit))]
 fn hex_digit(n: u8) -> u8
     requires { n < 16 }
     ensures { result ≡ hex_digit n }
 {
-    if n < 10 {
-        return 48 + n;
-    }
-    87 + n
+    if n < 10 { b'0' + n } else { b'a' - 10 + n }
 }
 
 fn put_pair(out: &mut [u8], at: usize, b: u8)
@@ -36,12 +34,8 @@ fn put_pairs(out: &mut [u8], at: usize, bytes: &[u8])
     requires { at + 2 * length bytes.now ≤ length out.old }
     ensures { out.new ≡ put out.old at (hex bytes.now) }
 {
-    let mut i = 0;
-    let mut p = at;
-    while i < bytes.len() {
-        put_pair(out, p, bytes[i]);
-        p += 2;
-        i += 1;
+    for (i, b) in bytes.iter().enumerate() {
+        put_pair(out, at + 2 * i, *b);
     }
 }
 

@@ -1,14 +1,8 @@
 -- From the last digit to the first, what is left to put makes the whole.
-use Prim.Native.Nat.{◌≤◌}
-use mathlib.Core.Path.{◌≡◌}
-use lib.ListN.{length}
+use Rattle.std.proofs.Common.{◌≡◌}
 use Rattle.wire_bytes.specs.Bytes.{put}
 use Rattle.text.specs.Text.{digits}
 use Rattle.text.proofs.numbers.put_digits.Given as goal
 
 abbrev pub invariant-loop-i : goal.invariant-loop-i
-invariant-loop-i l =
-    (put l.out l.at (digits l.i l.rest) ≡ put l.initial.out l.at (digits l.width l.n)) × (l.i ≤ l.width) × (length l.out ≡ length l.initial.out)
-
-abbrev pub decreases-loop-i : goal.decreases-loop-i
-decreases-loop-i l = l.i
+invariant-loop-i l = put l.out l.at (digits l.i l.rest) ≡ put l.initial.out l.at (digits l.width l.n)

@@ -1,12 +1,9 @@
--- A digit is counted each time that the rest is ten or more.
-use mathlib.Core.Path.{refl}
-use native.Mathlib.Omega.{arith}
-use Rattle.text.proofs.Digits.{count_next, count-end}
+-- The power of ten at or below a number counts its digits but one; 0 has one digit.
+use Rattle.text.proofs.Digits.{width_log, width_zero}
 use Rattle.text.proofs.numbers.width_of.Goals as goal
 
-pub loop-rest-preserved : goal.loop-rest-preserved
-loop-rest-preserved c = count_next _ _ _ _ _ c.loop-rest.invariant (omega arith) refl
+pub returns-in-Some-clause-value : goal.returns-in-Some-clause-value
+returns-in-Some-clause-value c = width_log c.in-Some.power c.args.n c.in-Some.ensures.bound c.in-Some.ensures.power_le c.in-Some.ensures.next_power_gt
 
-pub returns : goal.returns
-returns c =
-    let both = count-end _ _ _ _ c.loop-rest.invariant (omega arith) in record { value = both.0; upper_bound = both.1 }
+pub returns-in-None-clause-value : goal.returns-in-None-clause-value
+returns-in-None-clause-value c = rw c.in-None.ensures.none width_zero
