@@ -10,10 +10,10 @@ use lib.Seq.{sets, sets-eq, drop-length}
 use lib.Dec.{eqb}
 use borrow.Author.Tests.{eq-eqb, ne_eqb}
 use Rattle.wire_bytes.specs.Bytes.{Bytes}
-use Rattle.wire_heads.specs.Head.{head_at}
+use Rattle.std.specs.Prelude.{Some, None}
+use Rattle.wire_heads.specs.Head.{HeadRead, head_is, head_at}
 use Rattle.wire_cbor.specs.Item.{Item, got, item_at, encode, payload_of, is_some, levels}
 use Rattle.wire_cbor.specs.Find.{seek_at}
-use Rattle.wire_heads.specs.declared.reading.Head.{Head}
 use Rattle.wire_cbor.proofs.Payload.{payload_exact}
 use Rattle.wire_cbor.proofs.Complete.{item_reads_back}
 use Rattle.wire_cbor.proofs.Seen.{read_head_of}
@@ -44,14 +44,14 @@ rows_long s d (r ∷ rs) n q cs e =
     let y = rows_long s d rs w.left on m.0 m.1 in
     rw (← m.2) (omega (arith, length-append b.0 m.0))
 
-payload_long : (s : List ℕ) (h : Head) (cs : List Cell) → payload_at s h ≡ some cs → length cs ≡ 36
+payload_long : (s : List ℕ) (h : HeadRead) (cs : List Cell) → payload_at s h ≡ some cs → length cs ≡ 36
 unfolding payload_at
-payload_long s (Head.Is m n q) cs e = go (eqb m 5) e
+payload_long s (Some h) cs e = go (eqb h.major 5) e
   where
-    go : (b : Bool) → cond b (rows_at s 6 rows n q) none ≡ some cs → length cs ≡ 36
-    go true x = rows_long s 6 rows n q cs x ∙ table-long.1
+    go : (b : Bool) → cond b (rows_at s 6 rows h.arg h.next) none ≡ some cs → length cs ≡ 36
+    go true x = rows_long s 6 rows h.arg h.next cs x ∙ table-long.1
     go false x = absurd (no_value x)
-payload_long s Head.Bad cs e = absurd (no_value e)
+payload_long s None cs e = absurd (no_value e)
 
 -- all places at once
 sets-whole : (ws vs : List ℕ) → length vs ≡ length ws → sets ws 0 vs ≡ vs
@@ -118,12 +118,12 @@ module _ (s before : List ℕ) (b : Bool) (be : b ≡ length_fits s) where
           let y = stays 3 (rw (sym be ∙ f, sym te ∙ g, c) refl) (λ y. omega arith) in
           (y.0, kept ∙ y.1)
 
-module _ (s : List ℕ) (ws ws' : List ℕ) (i : ℕ) (h : Head) (he : h ≡ head_at s 0) where
-  pub payload_no_head : h ≡ Head.Bad → Filled (payload_at s (head_at s 0)) i ws false ws'
+module _ (s : List ℕ) (ws ws' : List ℕ) (i : ℕ) (h : HeadRead) (he : h ≡ head_at s 0) where
+  pub payload_no_head : h ≡ None → Filled (payload_at s (head_at s 0)) i ws false ws'
   unfolding payload_at Filled
   payload_no_head e = rw (← he, e) refl
 
-  module _ (m n q : ℕ) (e : h ≡ Head.Is m n q) where
+  module _ (m n q : ℕ) (e : h ≡ head_is m n q) where
     pub payload_no_map : (m ≡ 5 → ⊥) → Filled (payload_at s (head_at s 0)) i ws false ws'
     unfolding payload_at Filled
     payload_no_map z = rw (← he, e, ne_eqb m 5 z) refl

@@ -9,12 +9,11 @@ use lib.Seq.{sets}
 use lib.Dec.{eqb, leb, ltb}
 use lib.IntN.{ℤ, pos, negsuc}
 use borrow.Author.Tests.{eq-eqb, ne_eqb}
-use Rattle.wire_heads.specs.Head.{head_at}
-use Rattle.wire_cbor.specs.Item.{Item, Got, got, bad, item_at, end_of, past_of}
+use Rattle.std.specs.Prelude.{None, unwrap_or}
+use Rattle.wire_heads.specs.Head.{HeadRead, head_is, head_at}
+use Rattle.wire_cbor.specs.Item.{Item, Got, got, bad, EndRead, item_at, end_of, past_of}
 use Rattle.wire_cbor.specs.Find.{seek_at}
 use Rattle.wire_cbor.specs.Scan.{head}
-use Rattle.wire_heads.specs.declared.reading.Head.{Head}
-use Rattle.wire_cbor.specs.declared.items.End.{End}
 use Rattle.wire_cbor.specs.declared.pairs.Stop.{Stop}
 use Rattle.measurement_table.specs.Cells.{Cell, blanks}
 use Rattle.measurement_table.specs.Words.{place, place_of, flat}
@@ -67,11 +66,11 @@ module _ (g : Range) (m n : ℕ) where
 
 -- PLACES
 module _ (s : List ℕ) (g : Range) (at : ℕ) (there : Bool) where
-  pub cell-no_head : there ≡ true → (h : Head) → h ≡ head_at s at → h ≡ Head.Bad → place 3 0 ≡ place_or (cell_at s g there at)
+  pub cell-no_head : there ≡ true → (h : HeadRead) → h ≡ head_at s at → h ≡ None → place 3 0 ≡ place_or (cell_at s g there at)
   unfolding place_or cell_at number_from
   cell-no_head t h e z = rw (t, ← e, z)
 
-  pub cell-head : there ≡ true → (h : Head) → h ≡ head_at s at → (m n q : ℕ) → h ≡ Head.Is m n q
+  pub cell-head : there ≡ true → (h : HeadRead) → h ≡ head_at s at → (m n q : ℕ) → h ≡ head_is m n q
       → (r : Place) → r ≡ place_or (map (λ z. some z) (number_by g m n)) → r ≡ place_or (cell_at s g there at)
   unfolding cell_at number_from
   cell-head t h e m n q z r f = rw (t, ← e, z) f
@@ -81,21 +80,13 @@ module _ (s : List ℕ) (g : Range) (at : ℕ) (there : Bool) where
   cell-absent t = rw t
 
 module _ (s : List ℕ) (d at : ℕ) (there : Bool) where
-  pub next-bad : there ≡ true → (h : End) → h ≡ end_of (item_at s d at) → h ≡ End.Bad → 0 ≡ next_at s d there at
+  pub next_past : there ≡ true → (h : EndRead) → h ≡ end_of (item_at s d at) → unwrap_or h 0 ≡ next_at s d there at
   unfolding next_at
-  next-bad t h e z = rw t (go (item_at s d at) (sym z ∙ e))
+  next_past t h e = rw (t, e) (go (item_at s d at))
     where
-      go : (g : Got Item) → End.Bad ≡ end_of g → 0 ≡ past_of g
-      go (got i x) y = absurd (let w : ◌≡◌ {A = ℕ} 0 1 = cc in omega arith)
-      go bad y = refl
-
-  pub next_past : there ≡ true → (h : End) → h ≡ end_of (item_at s d at) → (x : ℕ) → h ≡ End.At x → x ≡ next_at s d there at
-  unfolding next_at
-  next_past t h e x z = rw t (go (item_at s d at) (sym z ∙ e))
-    where
-      go : (g : Got Item) → End.At x ≡ end_of g → x ≡ past_of g
-      go (got i w) y = cc
-      go bad y = absurd (let w : ◌≡◌ {A = ℕ} 0 1 = cc in omega arith)
+      go : (g : Got Item) → unwrap_or (end_of g) 0 ≡ past_of g
+      go (got i x) = refl
+      go bad = refl
 
   pub next_here : there ≡ false → at ≡ next_at s d there at
   unfolding next_at
@@ -167,12 +158,12 @@ pub cells_start : (s : List ℕ) (d : ℕ) (g : Range) (w n q i : ℕ) (words : 
     → Filled (cells_at s d g (w - 0) 0 n q) (2 * (i + 0)) words ok ws → Filled (cells_at s d g w 0 n q) (2 * i) words ok ws
 cells_start s d g w n q i words ok ws h = let a : i + 0 ≡ i = omega arith in let b : w - 0 ≡ w = omega arith in rw (a, b) at h
 
-module _ (s : List ℕ) (g : Range) (w at i : ℕ) (ws ws' : List ℕ) (h : Head) (he : h ≡ head_at s at) where
-  pub phases-no_head : h ≡ Head.Bad → Filled (phases_from s 6 g w (head_at s at)) i ws false ws'
+module _ (s : List ℕ) (g : Range) (w at i : ℕ) (ws ws' : List ℕ) (h : HeadRead) (he : h ≡ head_at s at) where
+  pub phases-no_head : h ≡ None → Filled (phases_from s 6 g w (head_at s at)) i ws false ws'
   unfolding phases_from Filled
   phases-no_head e = rw (← he, e) refl
 
-  module _ (m n q : ℕ) (e : h ≡ Head.Is m n q) where
+  module _ (m n q : ℕ) (e : h ≡ head_is m n q) where
     pub phases-no_map : (m ≡ 5 → ⊥) → Filled (phases_from s 6 g w (head_at s at)) i ws false ws'
     unfolding phases_from Filled
     phases-no_map z = rw (← he, e, ne_eqb m 5 z) refl

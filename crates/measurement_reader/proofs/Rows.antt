@@ -10,9 +10,9 @@ use lib.ListN.{length, get_or, drop}
 use lib.Seq.{sets, drop-cons}
 use lib.Dec.{eqb}
 use borrow.Author.Tests.{eq-eqb, ne_eqb, eqb-true}
-use Rattle.wire_heads.specs.Head.{head_at}
+use Rattle.std.specs.Prelude.{Some, None}
+use Rattle.wire_heads.specs.Head.{HeadRead, head_at}
 use Rattle.wire_cbor.specs.Find.{seek_at}
-use Rattle.wire_heads.specs.declared.reading.Head.{Head}
 use Rattle.wire_cbor.specs.declared.pairs.Stop.{Stop}
 use Rattle.wire_fields.proofs.Joined.{no_both}
 use Rattle.measurement_reader.proofs.Options.{no_value, same-inside, bind-parts, map-part}
@@ -65,15 +65,15 @@ cells_long s d g (suc w) p n q cs e =
     let r = cells_long s d g w (p + 1) (seek_at s d p n q).left (next_at s d (seek_at s d p n q).there (seek_at s d p n q).at) m.0 m.1 in
     rw (← m.2) (ap suc r)
 
-phases-long : (s : List ℕ) (d : ℕ) (g : Range) (w : ℕ) (h : Head) (cs : List Cell) → phases_from s d g w h ≡ some cs → length cs ≡ w
+phases-long : (s : List ℕ) (d : ℕ) (g : Range) (w : ℕ) (h : HeadRead) (cs : List Cell) → phases_from s d g w h ≡ some cs → length cs ≡ w
 unfolding phases_from
-phases-long s d g w (Head.Is m n q) cs e = go (eqb m 5) (eqb n 0) e
+phases-long s d g w (Some h) cs e = go (eqb h.major 5) (eqb h.arg 0) e
   where
-    go : (a b : Bool) → cond a (cond b none (cells_at s d g w 0 n q)) none ≡ some cs → length cs ≡ w
+    go : (a b : Bool) → cond a (cond b none (cells_at s d g w 0 h.arg h.next)) none ≡ some cs → length cs ≡ w
     go true true x = absurd (no_value x)
-    go true false x = cells_long s d g w 0 n q cs x
+    go true false x = cells_long s d g w 0 h.arg h.next cs x
     go false b x = absurd (no_value x)
-phases-long s d g w Head.Bad cs e = absurd (no_value e)
+phases-long s d g w None cs e = absurd (no_value e)
 
 blanks-long : (n : ℕ) → length (blanks n) ≡ n
 unfolding blanks

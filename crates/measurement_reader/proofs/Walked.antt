@@ -11,14 +11,14 @@ use lib.Dec.{eqb, ltb}
 use lib.IntN.{ℤ}
 use borrow.Author.Tests.{eqb-true, ne_eqb, lt-ltb, ltb-true}
 use Rattle.wire_bytes.specs.Bytes.{Bytes}
-use Rattle.wire_heads.specs.Head.{head_at, head_len}
+use Rattle.wire_heads.specs.Head.{head_is, head_at, head_len}
 use Rattle.wire_cbor.specs.Item.{Item, Pairs, got, item_at, pairs_at, count_pairs}
 use Rattle.wire_cbor.specs.Find.{value_of, seek_at}
 use Rattle.wire_cbor.specs.Encodings.{Walking, Sought}
-use Rattle.wire_heads.specs.declared.reading.Head.{Head}
 use Rattle.wire_cbor.specs.declared.pairs.Stop.{Stop}
 use Rattle.wire_cbor.proofs.Seen.{major_of, arg_of, read_head_of, pairs-step, value_here, value_there}
 use Rattle.wire_bytes.proofs.Order.{below}
+use Rattle.wire_heads.proofs.HeadLaws.{head_parts}
 use Rattle.wire_cbor.proofs.Walks.{walk-starts, seek_exact}
 use Rattle.wire_fields.specs.Ranges.{number_in}
 use Rattle.wire_fields.specs.ByPhase.{keys_below}
@@ -55,9 +55,9 @@ some-above t k ps i le e = go (keys_below t ps) refl
     go false x = refl
 
 -- a map with a pair has a count above zero
-counted : (s : List ℕ) → Bytes s → (d p e j : ℕ) (i : Item) (ps : Pairs) → item_at s (suc d) p ≡ got (Item.map (Pairs.pair j i ps)) e → (n q : ℕ) → head_at s p ≡ Head.Is 5 n q → n ≡ suc (count_pairs ps)
+counted : (s : List ℕ) → Bytes s → (d p e j : ℕ) (i : Item) (ps : Pairs) → item_at s (suc d) p ≡ got (Item.map (Pairs.pair j i ps)) e → (n q : ℕ) → head_at s p ≡ head_is 5 n q → n ≡ suc (count_pairs ps)
 unfolding count_pairs
-counted s ok d p e j i ps h n q x = let y = read_head_of s ok (suc d) p e (Item.map (Pairs.pair j i ps)) h in cc
+counted s ok d p e j i ps h n q x = let y = read_head_of s ok (suc d) p e (Item.map (Pairs.pair j i ps)) h in (head_parts 5 n q 5 _ _ (sym x ∙ y)).1
 
 blank-row : (r : Row) (b : Bool) → eqb r.1 1 ≡ b → ◌≡◌ {A = Option (List Cell)} (cond b (some (none ∷ [])) (some (blanks r.1))) (some (blanks r.1))
 unfolding blanks
@@ -69,7 +69,7 @@ module _ (s : List ℕ) (ok : Bytes s) where
   unfolding number_from number_by number_in
   number-exact g d p e i h = rw (read_head_of s ok d p e i h) (go i)
     where
-      go : (j : Item) → number_from g (Head.Is (major_of j) (arg_of j) (p + head_len (arg_of j))) ≡ number_in g j
+      go : (j : Item) → number_from g (head_is (major_of j) (arg_of j) (p + head_len (arg_of j))) ≡ number_in g j
       go (Item.uint v) = refl
       go (Item.nint v) = refl
       go (Item.bytes b) = refl

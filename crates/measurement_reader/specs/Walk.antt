@@ -1,10 +1,10 @@
 -- No concern of a client: the walk over a payload, the rows of the table beside the pairs of the map, by positions. The contracts of private functions cite
 -- it; the contract of the reader cites the tree (measurement_table, Payload). Assumes nothing: these are definitions.
 use Rattle.std.specs.Prelude.{ℕ, zero, suc, ◌+◌, ◌≡◌, Bool, true, false, cond, List, [], ◌∷◌, ◌++◌, eqb, ℤ, pos, negsuc}
+use Rattle.std.specs.Prelude.{Some, None}
 use Rattle.std.proofs.Math.Option.{Option, some, none, bind, map}
 use Rattle.std.proofs.lemmas.List.Edits.{sets}
-use Rattle.wire_heads.specs.Head.{head_at}
-use Rattle.wire_heads.specs.declared.reading.Head.{Head}
+use Rattle.wire_heads.specs.Head.{HeadRead, head_at}
 use Rattle.wire_cbor.specs.Item.{item_at, past_of}
 use Rattle.wire_cbor.specs.Find.{seek_at}
 use Rattle.wire_fields.specs.Ranges.{when_within}
@@ -31,9 +31,9 @@ Filled none i ws ok ws' = ok ≡ false
 unfoldable pub number_by : Range → ℕ → ℕ → Option ℤ
 number_by g m n = cond (eqb m 0) (when_within g (pos n)) (cond (eqb m 1) (when_within g (negsuc n)) none)
 
-unfoldable pub number_from : Range → Head → Option ℤ
-number_from g (Head.Is m n e) = number_by g m n
-number_from g Head.Bad = none
+unfoldable pub number_from : Range → HeadRead → Option ℤ
+number_from g (Some h) = number_by g h.major h.arg
+number_from g None = none
 
 -- a cell whose value a walk found at `at`, or did not find
 unfoldable pub cell_at : List ℕ → Range → Bool → ℕ → Option Cell
@@ -51,9 +51,9 @@ cells_at s d g (suc w) p n q =
     bind (cell_at s g (seek_at s d p n q).there (seek_at s d p n q).at)
     (λ c. map (λ cs. c ∷ cs) (cells_at s d g w (p + 1) (seek_at s d p n q).left (next_at s d (seek_at s d p n q).there (seek_at s d p n q).at)))
 
-unfoldable pub phases_from : List ℕ → ℕ → Range → ℕ → Head → Option (List Cell)
-phases_from s d g w (Head.Is m n q) = cond (eqb m 5) (cond (eqb n 0) none (cells_at s d g w 0 n q)) none
-phases_from s d g w Head.Bad = none
+unfoldable pub phases_from : List ℕ → ℕ → Range → ℕ → HeadRead → Option (List Cell)
+phases_from s d g w (Some h) = cond (eqb h.major 5) (cond (eqb h.arg 0) none (cells_at s d g w 0 h.arg h.next)) none
+phases_from s d g w None = none
 
 -- a row whose value a walk found, or did not
 unfoldable pub row_at : List ℕ → ℕ → Row → Bool → ℕ → Option (List Cell)
@@ -70,6 +70,6 @@ rows_at s d (r ∷ rs) n q =
     (rows_at s d rs (seek_at s (suc d) r.0 n q).left (next_at s (suc d) (seek_at s (suc d) r.0 n q).there (seek_at s (suc d) r.0 n q).at)))
 
 -- the rows of a payload that is a map, by its head
-unfoldable pub payload_at : List ℕ → Head → Option (List Cell)
-payload_at s (Head.Is m n q) = cond (eqb m 5) (rows_at s 6 rows n q) none
-payload_at s Head.Bad = none
+unfoldable pub payload_at : List ℕ → HeadRead → Option (List Cell)
+payload_at s (Some h) = cond (eqb h.major 5) (rows_at s 6 rows h.arg h.next) none
+payload_at s None = none

@@ -19,11 +19,7 @@ const NOT_READ: Place = Place {
 fn number_of(range: Range, major: u64, n: u64) -> Place
     ensures { result ≡ place_or (map (λ z. some z) (number_by range major n)) }
 {
-    let head = KeyHead {
-        major: major,
-        arg: n,
-    };
-    if !is_in(head, range) {
+    if !is_in(KeyHead { major, arg: n }, range) {
         return NOT_READ;
     }
     if major == 0 {

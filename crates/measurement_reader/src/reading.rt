@@ -13,10 +13,7 @@ const LONGEST: usize = 2048;
 fn has_length(n: usize) -> bool
     ensures { result ≡ (leb 1 n && leb n 2048) }
 {
-    if n == 0 {
-        return false;
-    }
-    n <= LONGEST
+    (1..=LONGEST).contains(&n)
 }
 
 // Whether a payload is one item. By the pass that checks every frame, so that the checker beneath it has no other caller, which

@@ -21,10 +21,8 @@ fn put_blanks(words: &mut Words, at: usize, n: usize)
     requires { at + n ≤ 36 }
     ensures { words.new ≡ sets words.old (2 * at) (flat (blanks n)) }
 {
-    let mut i = 0;
-    while i < n {
+    for i in 0..n {
         put_place(words, at + i, Place { mark: 0, size: 0 });
-        i += 1;
     }
 }
 
@@ -43,8 +41,7 @@ fn cells_into(
 {
     let mut p = at;
     let mut left = n;
-    let mut k: usize = 0;
-    while k < width {
+    for k in 0..width {
         let w = wire_cbor::seek(s, p, left, k as u64, INNER);
         let c = cell_at(s, range, w.there, w.at);
         if c.mark == REFUSED {
@@ -53,7 +50,6 @@ fn cells_into(
         put_place(words, place + k, c);
         p = next_at(s, INNER, w.there, w.at);
         left = w.left;
-        k += 1;
     }
     left == 0
 }
@@ -112,9 +108,8 @@ pub(crate) fn rows_into(s: &[u8], at: usize, n: u64, words: &mut Words) -> bool
 {
     let mut p = at;
     let mut left = n;
-    let mut i: usize = 0;
     let mut place: usize = 0;
-    while i < ROWS {
+    for i in 0..ROWS {
         let row = row_at(i);
         let w = wire_cbor::seek(s, p, left, row.0 as u64, OUTER);
         if !row_into(s, row, w.there, w.at, place, words) {
@@ -123,7 +118,6 @@ pub(crate) fn rows_into(s: &[u8], at: usize, n: u64, words: &mut Words) -> bool
         p = next_at(s, OUTER, w.there, w.at);
         left = w.left;
         place += row.1 as usize;
-        i += 1;
     }
     true
 }

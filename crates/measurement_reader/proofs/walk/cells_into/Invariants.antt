@@ -10,6 +10,3 @@ invariant-loop-k l =
     (l.k ≤ l.width)
     × ((ok : Bool) (ws : List ℕ) → Filled (cells_at l.s 6 l.range (l.width - l.k) l.k l.left l.p) (2 * (l.place + l.k)) l.words ok ws → Filled
     (cells_at l.s 6 l.range l.width 0 l.n l.at) (2 * l.place) l.initial.words ok ws)
-
-abbrev pub decreases-loop-k : goal.decreases-loop-k
-decreases-loop-k l = l.width - l.k

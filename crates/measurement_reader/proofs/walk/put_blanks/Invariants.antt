@@ -9,6 +9,3 @@ use Rattle.measurement_reader.proofs.walk.put_blanks.Given as goal
 abbrev pub invariant-loop-i : goal.invariant-loop-i
 invariant-loop-i l =
     (l.i ≤ l.n) × (sets l.words (2 * (l.at + l.i)) (flat (blanks (l.n - l.i))) ≡ sets l.initial.words (2 * l.at) (flat (blanks l.n)))
-
-abbrev pub decreases-loop-i : goal.decreases-loop-i
-decreases-loop-i l = l.n - l.i

@@ -1,5 +1,5 @@
 -- What is left of the table makes the whole; its rows have 36 places.
-use Prim.Native.Nat.{◌+◌, ◌*◌, ◌-◌, ◌≤◌, ℕ}
+use Prim.Native.Nat.{◌+◌, ◌*◌, ◌≤◌, ℕ}
 use mathlib.Core.Path.{◌≡◌}
 use mathlib.Core.Bool.{Bool}
 use mathlib.Core.List.{List}
@@ -12,6 +12,3 @@ abbrev pub invariant-loop-i : goal.invariant-loop-i
 invariant-loop-i l =
     (l.i ≤ 24) × (l.place + places (drop l.i rows) ≡ 36)
     × ((ok : Bool) (ws : List ℕ) → Filled (rows_at l.s 6 (drop l.i rows) l.left l.p) (2 * l.place) l.words ok ws → Filled (rows_at l.s 6 rows l.n l.at) 0 l.initial.words ok ws)
-
-abbrev pub decreases-loop-i : goal.decreases-loop-i
-decreases-loop-i l = 24 - l.i
