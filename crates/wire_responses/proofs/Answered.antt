@@ -1,36 +1,35 @@
 -- A response, from its parts. Assumes nothing.
+use Rattle.std.specs.Prelude
+use Rattle.std.specs.Prelude.{None, Some}
 use Prim.Native.Nat.{ℕ}
-use mathlib.Core.Path.{◌≡◌, refl, sym, ap, ◌∙◌}
-use mathlib.Core.Bool.{Bool, true, false, ◌&&◌}
+use mathlib.Core.Path.{◌≡◌, refl, ap, ◌∙◌}
+use mathlib.Core.Bool.{Bool, true, false, cond}
 use mathlib.Core.List.{List}
+use mathlib.Core.Option
 use mathlib.Core.Option.{Option, some, none, bind}
 use native.Mathlib.Omega.{arith}
 use lib.Dec.{eqb}
-use borrow.Author.Tests.{eq-eqb, ne_eqb}
 use Rattle.wire_cbor.specs.Item.{Item, Pairs, payload_of, is_some}
 use Rattle.wire_cbor.specs.Find.{value_of}
-use Rattle.wire_cbor.specs.Scan.{key_head_of, pairs_in, followed, map_at, key_heads_of, words_of, key_head_at}
-use Rattle.wire_cbor.specs.declared.heads.KeyHead.{KeyHead}
-use Rattle.wire_messages.specs.Options.{Amount}
+use Rattle.wire_cbor.specs.Scan.{key_head_of, pairs_in, followed, map_at, key_heads_of, words_of}
+use Rattle.wire_messages.specs.declared.LimitResult.{LimitResult}
+use Rattle.wire_messages.specs.declared.SetpointResult.{SetpointResult}
+use Rattle.wire_messages.specs.declared.CurrentResult.{CurrentResult}
 use Rattle.wire_messages.specs.declared.Outcome.{Outcome}
 use Rattle.wire_messages.specs.declared.Response.{Response}
 use Rattle.wire_prefix.specs.Prefix.{framed, payload_in}
-use Rattle.wire_fields.specs.Fields.{number_up_to, truth, map_in, needed, most32, most_value, success_in}
+use Rattle.wire_fields.specs.Fields.{number_up_to, map_in, needed, most32, most_value, success_in}
 use Rattle.wire_messages.specs.Numbers.{served_command}
 use Rattle.wire_responses.specs.Responses.{is_status, stands, status_in, limit_result_in, setpoint_result_in, current_result_in, outcome_in}
 use Rattle.wire_responses.specs.Responses.{no_result, result_in, response_in, answer_of, answer_in, answer_from, read_response}
-use Rattle.wire_fields.specs.KeyHeads.{found, Reads, UintReads, MapReads, amount_of, Shown, Inside}
+use Rattle.wire_fields.specs.KeyHeads.{found, when_ok, given, and_then, Shown, Inside}
+use Rattle.wire_fields.specs.Seen.{uint_read, map_seen}
 use Rattle.wire_responses.specs.KeyHeads.{result_path, InResult, OutcomeReads, ResultReads, BodyReads, result_from}
-use Rattle.wire_fields.specs.ByPhase.{currents_in, PhasesRead}
-use Rattle.wire_fields.specs.declared.phases.Amounts.{Amounts}
-use Rattle.wire_messages.specs.declared.CurrentResult.{CurrentResult}
+use Rattle.wire_responses.specs.Seen.{limit_result_seen, setpoint_result_seen, current_result_seen, outcome_seen, result_seen, status_seen, response_seen, answer_seen}
 use Rattle.wire_responses.specs.declared.reading.Answer.{Answer}
-use Rattle.wire_responses.specs.declared.reading.Effect.{Effect}
-use Rattle.wire_responses.specs.declared.reading.Targets.{Targets}
-use Rattle.wire_responses.specs.declared.reading.Result.{Result}
-use Rattle.wire_fields.proofs.Joined.{is-some, is_none, via, and_left, and_right}
-use Rattle.wire_fields.proofs.ByKeyHead.{reads-by}
-use Rattle.wire_fields.proofs.Parts.{shown, top, then, last}
+use Rattle.wire_fields.proofs.Joined.{is-some, is_none, via}
+use Rattle.wire_fields.proofs.BySeen.{found_given, bind_given, uint_at, amount_at, truth_at, success_at, map_at_head, currents_at}
+use Rattle.wire_fields.proofs.Parts.{shown, top}
 
 -- NOTHING
 absent-key_head : (o : Option Item) → no_result o ≡ found (eqb (key_head_of o).major 8) Outcome.Nothing
@@ -44,167 +43,120 @@ absent-key_head (some (Item.array is)) = refl
 absent-key_head (some (Item.map m)) = refl
 absent-key_head (some (Item.simple v)) = refl
 
-pub absent-reads : (k : KeyHead) → Reads k no_result (eqb k.major 8) Outcome.Nothing
-absent-reads k = reads-by _ (λ k. eqb k.major 8) (λ k. Outcome.Nothing) absent-key_head k _ refl
+-- an answer kept as F makes it
+map_given : {X Y : Type 0} (F : X → Y) (r : Prelude.Option X) → Option.map F (given r) ≡ given (and_then r (λ x. Some (F x)))
+map_given F (Some x) = refl
+map_given F None = refl
+
+given_again : (r : Prelude.Option Outcome) → r ≡ result_from (given r)
+given_again (Some o) = refl
+given_again None = refl
+
+answer_given : (r : Prelude.Option Response) → answer_seen r ≡ answer_of (given r)
+answer_given (Some x) = refl
+answer_given None = refl
+
+success_given : (b : Bool) → Option.map (λ (t : Bool). Outcome.Success) (given (when_ok b true)) ≡ given (when_ok b Outcome.Success)
+success_given true = refl
+success_given false = refl
+
+-- BY WHAT IS SEEN: each reader is that of the definition
+absent_at : (o : Option Item) → no_result o ≡ given (when_ok (eqb (key_head_of o).major 8) Outcome.Nothing)
+absent_at o = absent-key_head o ∙ found_given _ _
+
+status_at : (o : Option Item) → status_in o ≡ given (and_then (uint_read 14 (key_head_of o)) (λ s. when_ok (is_status s) s))
+unfolding status_in
+status_at o = bind_given _ _ _ (uint_at 14 o) (λ s. found_given (is_status s) s)
+
+-- an outcome, from the results
+module _ (c : ℕ) (m : Pairs) (l : Prelude.Option LimitResult) (t : Prelude.Option SetpointResult) (u : Prelude.Option CurrentResult) (b : Bool)
+    (le : limit_result_in m ≡ given l) (te : setpoint_result_in m ≡ given t) (ue : current_result_in m ≡ given u) (be : success_in (value_of m 1) ≡ given (when_ok b true)) where
+  abbrev made : Prelude.Option Outcome
+  made =
+      cond (eqb c 1) (and_then l (λ x. Some (Outcome.Limit x)))
+      (cond (eqb c 3) (and_then t (λ x. Some (Outcome.Setpoint x))) (cond (eqb c 5) (and_then u (λ x. Some (Outcome.Current x))) (when_ok b Outcome.Success)))
+
+  outcome_made : outcome_in c m ≡ given made
+  unfolding outcome_in
+  outcome_made = rw (le, te, ue, be) (go (eqb c 1) (eqb c 3) (eqb c 5)) where
+    go : (p q r : Bool) → cond p (Option.map Outcome.Limit (given l)) (cond q (Option.map Outcome.Setpoint (given t))
+        (cond r (Option.map Outcome.Current (given u)) (Option.map (λ (x : Bool). Outcome.Success) (given (when_ok b true)))))
+        ≡ given (cond p (and_then l (λ x. Some (Outcome.Limit x))) (cond q (and_then t (λ x. Some (Outcome.Setpoint x)))
+        (cond r (and_then u (λ x. Some (Outcome.Current x))) (when_ok b Outcome.Success))))
+    go true q r = map_given _ l
+    go false true r = map_given _ t
+    go false false true = map_given _ u
+    go false false false = success_given b
 
 module _ (ws : List ℕ) where
-  -- RESULTS
-  module _ (j k l m n : KeyHead) (je : j ≡ key_head_at ws 1 1) (ke : k ≡ key_head_at ws 1 2) (le : l ≡ key_head_at ws 1 3) (me : m ≡ key_head_at ws 1 4) (ne : n ≡ key_head_at ws 1 5)
-      (a s c p r : Bool) (ar : Reads j (needed truth) a (eqb j.arg 21)) (sr : UintReads k true 4 s)
-      (cr : UintReads l false most_value c) (pr : UintReads m false most_value p) (rr : UintReads n false 4 r) where
-    pub effect_reads : (ok : Bool) → ok ≡ (a && (s && (c && (p && r)))) → (x y z : Amount) → x ≡ amount_of l → y ≡ amount_of m → z ≡ amount_of n
-        → Inside ws 1 limit_result_in ok (record { applied = eqb j.arg 21; state = k.arg; consumption = x; production = y; reason = z })
-    unfolding Inside limit_result_in UintReads Reads
-    effect_reads ok e x y z xe ye ze path ps h =
-        rw (e, xe, ye, ze)
-        (then (eqb j.arg 21) _ _ a _ (ar _ (je ∙ shown ws path ps h 1 1 (omega arith) (omega arith)))
-        (then k.arg _ _ s _ (sr _ (ke ∙ shown ws path ps h 1 2 (omega arith) (omega arith)))
-        (then (amount_of l) _ _ c _ (cr _ (le ∙ shown ws path ps h 1 3 (omega arith) (omega arith)))
-        (then (amount_of m) _ _ p _ (pr _ (me ∙ shown ws path ps h 1 4 (omega arith) (omega arith)))
-        (last (amount_of n) _ r (rr _ (ne ∙ shown ws path ps h 1 5 (omega arith) (omega arith))))))))
+  pub limit_reads : Inside ws 1 limit_result_in (limit_result_seen ws)
+  unfolding Inside limit_result_in limit_result_seen
+  limit_reads path ps h =
+      let at = λ (k : ℕ). shown ws path ps h 1 k in
+      rw (at 1 (omega arith) (omega arith), at 2 (omega arith) (omega arith), at 3 (omega arith) (omega arith), at 4 (omega arith) (omega arith), at 5 (omega arith) (omega arith))
+      (bind_given _ _ _ (truth_at _) (λ a. bind_given _ _ _ (uint_at 4 _) (λ s. bind_given _ _ _ (amount_at most_value _) (λ c. bind_given _ _ _ (amount_at most_value _)
+      (λ p. bind_given _ _ _ (amount_at 4 _) (λ r. refl))))))
 
-  module _ (j k l : KeyHead) (je : j ≡ key_head_at ws 1 1) (ke : k ≡ key_head_at ws 1 2) (le : l ≡ key_head_at ws 1 3)
-      (a c p : Bool) (ar : Reads j success_in a true) (cr : UintReads k false most_value c) (pr : UintReads l false most_value p) where
-    pub targets_read : (ok : Bool) → ok ≡ (a && (c && p)) → (x y : Amount) → x ≡ amount_of k → y ≡ amount_of l → Inside ws 1 setpoint_result_in ok (record { consumption = x; production = y })
-    unfolding Inside setpoint_result_in UintReads Reads
-    targets_read ok e x y xe ye path ps h =
-        rw (e, xe, ye)
-        (then true _ _ a _ (ar _ (je ∙ shown ws path ps h 1 1 (omega arith) (omega arith)))
-        (then (amount_of k) _ _ c _ (cr _ (ke ∙ shown ws path ps h 1 2 (omega arith) (omega arith)))
-        (last (amount_of l) _ p (pr _ (le ∙ shown ws path ps h 1 3 (omega arith) (omega arith))))))
+  pub setpoint_reads : Inside ws 1 setpoint_result_in (setpoint_result_seen ws)
+  unfolding Inside setpoint_result_in setpoint_result_seen
+  setpoint_reads path ps h =
+      let at = λ (k : ℕ). shown ws path ps h 1 k in
+      rw (at 1 (omega arith) (omega arith), at 2 (omega arith) (omega arith), at 3 (omega arith) (omega arith))
+      (bind_given _ _ _ (success_at _) (λ t. bind_given _ _ _ (amount_at most_value _) (λ c. bind_given _ _ _ (amount_at most_value _) (λ p. refl))))
 
-  module _ (j k l m n : KeyHead) (je : j ≡ key_head_at ws 1 1) (ke : k ≡ key_head_at ws 1 2) (le : l ≡ key_head_at ws 2 0) (me : m ≡ key_head_at ws 2 1) (ne : n ≡ key_head_at ws 2 2)
-      (a b : Bool) (x : CurrentResult) (ar : Reads j success_in a true) (br : PhasesRead k l m n (currents_in most_value) b x) where
-    pub current-reads : (ok : Bool) → ok ≡ (a && b) → InResult ws current_result_in ok x
-    unfolding InResult current_result_in PhasesRead Reads map_at followed
-    current-reads ok e ps h =
-        rw e
-        (then true _ _ a _ (ar _ (je ∙ shown ws result_path ps h 1 1 (omega arith) (omega arith)))
-        (br _ (ke ∙ shown ws result_path ps h 1 2 (omega arith) (omega arith)) (le ∙ shown ws result_path ps h 2 0 (omega arith) (omega arith))
-        (me ∙ shown ws result_path ps h 2 1 (omega arith) (omega arith)) (ne ∙ shown ws result_path ps h 2 2 (omega arith) (omega arith))))
+  -- the phases stand at the second level of the path
+  pub current_reads : InResult ws current_result_in (current_result_seen ws)
+  unfolding InResult current_result_in current_result_seen map_at followed
+  current_reads ps h =
+      let at = shown ws result_path ps h in
+      rw (at 1 1 (omega arith) (omega arith), at 1 2 (omega arith) (omega arith), at 2 0 (omega arith) (omega arith), at 2 1 (omega arith) (omega arith), at 2 2 (omega arith) (omega arith))
+      (bind_given _ _ _ (success_at _) (λ t. currents_at most_value _))
 
-  module _ (c : ℕ) where
-    module _ (v : Effect) (r : Inside ws 1 limit_result_in v.ok v.result) (e : c ≡ 1) where
-      pub effect_is : v.ok ≡ true → OutcomeReads ws c (Result.Is (Outcome.Limit v.result))
-      unfolding OutcomeReads Inside outcome_in
-      effect_is y ps h = rw (eq-eqb c 1 e, r result_path ps h, y) refl
+  module _ (c : ℕ) (ps : Pairs) (h : Shown ws result_path ps) where
+    outcome_given : outcome_in c (map_at 1 result_path ps) ≡ given (outcome_seen ws c)
+    unfolding outcome_seen Inside InResult
+    outcome_given =
+        outcome_made c (map_at 1 result_path ps) _ _ _ _ (limit_reads result_path ps h) (setpoint_reads result_path ps h) (current_reads ps h)
+        (rw (shown ws result_path ps h 1 1 (omega arith) (omega arith)) (success_at _))
 
-      pub effect_wrong : v.ok ≡ false → OutcomeReads ws c Result.Wrong
-      unfolding OutcomeReads Inside outcome_in
-      effect_wrong y ps h = rw (eq-eqb c 1 e, r result_path ps h, y) refl
+    result_given : (status : ℕ) → result_in c status (value_of ps 3) ≡ given (result_seen ws c status)
+    unfolding result_in result_seen bind map_at followed
+    result_given status = rw (top ws result_path ps h 3 (omega arith)) (go (stands c status)) where
+      o : Option Item
+      o = value_of ps 3
 
-    module _ (v : Targets) (r : Inside ws 1 setpoint_result_in v.ok v.result) (e : c ≡ 3) where
-      pub targets_are : v.ok ≡ true → OutcomeReads ws c (Result.Is (Outcome.Setpoint v.result))
-      unfolding OutcomeReads Inside outcome_in
-      targets_are y ps h = rw (ne_eqb c 1 (λ z. omega arith), eq-eqb c 3 e, r result_path ps h, y) refl
+      there : (b : Bool) → bind (found b (pairs_in o)) (outcome_in c) ≡ given (cond b (outcome_seen ws c) None)
+      there true = outcome_given
+      there false = refl
 
-      pub targets_wrong : v.ok ≡ false → OutcomeReads ws c Result.Wrong
-      unfolding OutcomeReads Inside outcome_in
-      targets_wrong y ps h = rw (ne_eqb c 1 (λ z. omega arith), eq-eqb c 3 e, r result_path ps h, y) refl
+      go : (b : Bool) → cond b (bind (needed map_in o) (outcome_in c)) (no_result o)
+          ≡ given (cond b (cond (map_seen (key_head_of o)) (outcome_seen ws c) None) (when_ok (eqb (key_head_of o).major 8) Outcome.Nothing))
+      go true = rw (map_at_head o) (there (map_seen (key_head_of o)))
+      go false = absent_at o
 
-    module _ (v : Amounts) (r : InResult ws current_result_in v.ok v.result) (e : c ≡ 5) where
-      pub current-is : v.ok ≡ true → OutcomeReads ws c (Result.Is (Outcome.Current v.result))
-      unfolding OutcomeReads InResult outcome_in
-      current-is y ps h = rw (ne_eqb c 1 (λ z. omega arith), ne_eqb c 3 (λ z. omega arith), eq-eqb c 5 e, r ps h, y) refl
+    pub response_given : response_in c ps ≡ given (response_seen ws c)
+    unfolding response_in response_seen status_seen
+    response_given =
+        rw (top ws result_path ps h 1 (omega arith), top ws result_path ps h 2 (omega arith))
+        (bind_given _ _ _ (uint_at most32 _) (λ i. bind_given _ _ _ (status_at _) (λ s. bind_given _ _ _ (result_given s) (λ o. refl))))
 
-      pub current-wrong : v.ok ≡ false → OutcomeReads ws c Result.Wrong
-      unfolding OutcomeReads InResult outcome_in
-      current-wrong y ps h = rw (ne_eqb c 1 (λ z. omega arith), ne_eqb c 3 (λ z. omega arith), eq-eqb c 5 e, r ps h, y) refl
+  pub outcome_reads : (c : ℕ) → OutcomeReads ws c (outcome_seen ws c)
+  unfolding OutcomeReads
+  outcome_reads c ps h = rw (outcome_given c ps h) (given_again _)
 
-    module _ (k : KeyHead) (ke : k ≡ key_head_at ws 1 1) (t : Bool) (r : Reads k success_in t true) (a : c ≡ 1 → ⊥) (b : c ≡ 3 → ⊥) (d : c ≡ 5 → ⊥) where
-      pub success_is : t ≡ true → OutcomeReads ws c (Result.Is Outcome.Success)
-      unfolding OutcomeReads Reads outcome_in
-      success_is y ps h = rw (ne_eqb c 1 a, ne_eqb c 3 b, ne_eqb c 5 d, r _ (ke ∙ shown ws result_path ps h 1 1 (omega arith) (omega arith)), y) refl
+  pub result_reads : (c status : ℕ) → ResultReads ws c status (result_seen ws c status)
+  unfolding ResultReads
+  result_reads c status ps h = rw (result_given c ps h status) (given_again _)
 
-      pub success_wrong : t ≡ false → OutcomeReads ws c Result.Wrong
-      unfolding OutcomeReads Reads outcome_in
-      success_wrong y ps h = rw (ne_eqb c 1 a, ne_eqb c 3 b, ne_eqb c 5 d, r _ (ke ∙ shown ws result_path ps h 1 1 (omega arith) (omega arith)), y) refl
-
-  -- WHAT STANDS UNDER KEY 3
-  module _ (c status : ℕ) (k : KeyHead) (ke : k ≡ key_head_at ws 0 3) (t : Bool) (te : t ≡ stands c status) where
-    module _ (y : t ≡ true) (m : Bool) (mr : MapReads k m) where
-      pub result_no_map : m ≡ false → ResultReads ws c status Result.Wrong
-      unfolding ResultReads MapReads result_in bind
-      result_no_map q ps h = rw (via te y, mr _ (ke ∙ top ws result_path ps h 3 (omega arith)), q) refl
-
-      pub result_is : m ≡ true → (r : Result) → OutcomeReads ws c r → ResultReads ws c status r
-      unfolding ResultReads OutcomeReads MapReads result_in bind map_at followed
-      result_is q r o ps h = o ps h ∙ rw (via te y, mr _ (ke ∙ top ws result_path ps h 3 (omega arith)), q) refl
-
-    module _ (y : t ≡ false) (n : Bool) (nr : Reads k no_result n Outcome.Nothing) where
-      pub result_none : n ≡ true → ResultReads ws c status (Result.Is Outcome.Nothing)
-      unfolding ResultReads Reads result_in
-      result_none q ps h = rw (via te y, nr _ (ke ∙ top ws result_path ps h 3 (omega arith)), q) refl
-
-      pub result_elsewhere : n ≡ false → ResultReads ws c status Result.Wrong
-      unfolding ResultReads Reads result_in
-      result_elsewhere q ps h = rw (via te y, nr _ (ke ∙ top ws result_path ps h 3 (omega arith)), q) refl
-
--- THE BODY
-is_outcome : (o : Option Outcome) (x : Outcome) → Result.Is x ≡ result_from o → o ≡ some x
-is_outcome (some d) x e = cc
-is_outcome none x e = absurd (let z : ◌≡◌ {A = ℕ} 0 1 = cc in omega arith)
-
-no_outcome : (o : Option Outcome) → Result.Wrong ≡ result_from o → o ≡ none
-no_outcome (some d) e = absurd (let z : ◌≡◌ {A = ℕ} 0 1 = cc in omega arith)
-no_outcome none e = refl
-
-status_found : (o : Option Item) (ok b : Bool) (v : ℕ) → b ≡ is_status v → needed (number_up_to 14) o ≡ found ok v → status_in o ≡ found (ok && b) v
-unfolding status_in bind
-status_found o true true v e h = rw (h, ← e) refl
-status_found o true false v e h = rw (h, ← e) refl
-status_found o false b v e h = rw h refl
-
--- what is read or not
-found_of : (o : Option Outcome) → (r : Bool) × (x : Outcome) × (o ≡ found r x)
-found_of (some x) = (true, x, refl)
-found_of none = (false, Outcome.Nothing, refl)
-
-not_first : (a q r : Bool) → (a && q) ≡ false → (a && (q && r)) ≡ false
-not_first true q r e = rw e refl
-not_first false q r e = refl
-
-all_first : (a q r : Bool) → (a && q) ≡ true → (a && (q && r)) ≡ r
-all_first a q r e = rw (and_left a q e, and_right a q e) refl
+  pub body_reads : (c : ℕ) → BodyReads ws c (answer_seen (response_seen ws c))
+  unfolding BodyReads
+  body_reads c ps h = rw (response_given c ps h) (answer_given _)
 
 -- a response by its parts
 pub all_parts : (c : ℕ) (ps : Pairs) (i : ℕ) → needed (number_up_to most32) (value_of ps 1) ≡ some i → (n : ℕ) → status_in (value_of ps 2) ≡ some n
     → (o : Outcome) → result_in c n (value_of ps 3) ≡ some o → response_in c ps ≡ some (record { id = i; status = n; outcome = o })
 unfolding response_in bind
 all_parts c ps i e n f o g = rw (e, f, g) refl
-
-module _ (ws : List ℕ) (c : ℕ) (k l : KeyHead) (ke : k ≡ key_head_at ws 0 1) (le : l ≡ key_head_at ws 0 2) (a b s : Bool)
-    (ar : UintReads k true most32 a) (br : UintReads l true 14 b) (se : s ≡ is_status l.arg) (t : Bool) (te : t ≡ (a && (b && s))) where
-  abbrev whole : Outcome → Response
-  whole o = record { id = k.arg; status = l.arg; outcome = o }
-
-  -- the id and the status are there, then the result
-  from-result : (path : ℕ) (ps : Pairs) → Shown ws path ps → (r : Bool) (o : Outcome) → result_in c l.arg (value_of ps 3) ≡ found r o
-      → response_in c ps ≡ found (a && ((b && s) && r)) (whole o)
-  unfolding response_in UintReads Reads
-  from-result path ps h r o e =
-      then k.arg _ _ a _ (ar _ (ke ∙ top ws path ps h 1 (omega arith)))
-      (then l.arg _ _ (b && s) _ (status_found (value_of ps 2) b s l.arg se (br _ (le ∙ top ws path ps h 2 (omega arith))))
-      (last o _ r e))
-
-  pub body_wrong : t ≡ false → BodyReads ws c (Answer.Refused 3)
-  unfolding BodyReads
-  body_wrong y ps h =
-      let f = found_of (result_in c l.arg (value_of ps 3)) in
-      sym (ap answer_of (from-result result_path ps h f.0 f.1 f.2 ∙ ap (λ (x : Bool). found x (whole f.1)) (not_first a (b && s) f.0 (via te y))))
-
-  module _ (y : t ≡ true) (r : Result) (h : ResultReads ws c l.arg r) where
-    body_by : (ps : Pairs) → Shown ws result_path ps → (g : Bool) (o : Outcome) → result_in c l.arg (value_of ps 3) ≡ found g o
-        → answer_of (found g (whole o)) ≡ answer_of (response_in c ps)
-    body_by ps q g o e = sym (ap answer_of (from-result result_path ps q g o e ∙ ap (λ (x : Bool). found x (whole o)) (all_first a (b && s) g (via te y))))
-
-    pub body_is : (o : Outcome) → r ≡ Result.Is o → BodyReads ws c (Answer.Is (whole o))
-    unfolding BodyReads ResultReads
-    body_is o q ps z = body_by ps z true o (is_outcome (result_in c l.arg (value_of ps 3)) o (sym q ∙ h ps z))
-
-    pub body_no_result : r ≡ Result.Wrong → BodyReads ws c (Answer.Refused 3)
-    unfolding BodyReads ResultReads
-    body_no_result q ps z = body_by ps z false Outcome.Nothing (no_outcome (result_in c l.arg (value_of ps 3)) (sym q ∙ h ps z))
 
 -- FRAMES
 pub answer-map_of : (c : ℕ) (frame : List ℕ) (i : Item) (m : Pairs) → framed frame ≡ true → payload_of (payload_in frame) ≡ some i → map_in i ≡ some m → answer_from c frame ≡ answer_of (response_in c m)

@@ -1,4 +1,3 @@
 -- What the proofs of several functions use.
 pub mod Answered
 pub mod Encoded
-pub mod Numbered

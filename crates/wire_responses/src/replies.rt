@@ -14,7 +14,7 @@ pub fn reply_to(r: Request, number: u64, outcome: Outcome) -> Response
     Response {
         id: r.id,
         status: number,
-        outcome: outcome,
+        outcome,
     }
 }
 

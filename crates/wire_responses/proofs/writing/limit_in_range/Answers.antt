@@ -1,7 +1,0 @@
--- Joined one after the other.
-use Rattle.wire_responses.specs.WrittenResponses.{limit_in_range}
-use Rattle.wire_responses.proofs.writing.limit_in_range.Goals as goal
-
-pub returns : goal.returns
-unfolding limit_in_range
-returns c = rw (c.all4.ensures, c.amount_up_to.ensures, c.amount_up_to-2.ensures, c.amount_up_to-3.ensures)
