@@ -1,13 +1,12 @@
 -- Bytes moved to the front of a buffer, and what a fill keeps there. Assumes nothing.
-use Prim.Native.Nat.{ℕ, zero, suc, ◌+◌, ◌-◌, ◌<◌, ◌≤◌}
+use Prim.Native.Nat.{ℕ, zero, suc, ◌+◌, ◌-◌, ◌≤◌}
 use mathlib.Core.Path.{◌≡◌, sym, ap, ◌∙◌}
 use mathlib.Core.Bool.{false, and-false}
 use mathlib.Core.List.{List, [], ◌∷◌, ◌++◌}
-use native.Mathlib.Numerals.{add-one}
 use native.Mathlib.Omega.{arith}
 use lib.Dec.{ltb}
-use lib.ListN.{length, get_or, take, drop, set, length-drop, take-append-drop}
-use lib.Seq.{paste, paste-zero, paste-suc, length-paste, length-take-le, get_or-append-add, get_or-drop, take_at, take-take, take-nil}
+use lib.ListN.{length, take, drop, length-drop, take-append-drop}
+use lib.Seq.{paste, length-take-le, take_at, take-take, take-nil}
 use Rattle.bench_records.specs.Kinds.{longest}
 use Rattle.bench_stream.specs.Buffer.{bytes_in, shifted, is_short}
 use Rattle.bench_stream.specs.Laws.{Fetches, Unrun}
@@ -15,29 +14,8 @@ use Rattle.bench_stream.proofs.Stops.{not_short}
 
 module _ (buf : List ℕ) (from to : ℕ) (order : from ≤ to) (within : to ≤ length buf) where
   -- i bytes stand at the front, the buffer behind them as it was
-  abbrev pub moved : ℕ → List ℕ
+  abbrev moved : ℕ → List ℕ
   moved i = paste buf 0 (drop from buf) i
-
-  pub moved_none : buf ≡ moved 0
-  moved_none = paste-zero buf 0 (drop from buf)
-
-  pub moved_length : (i : ℕ) → i ≤ to - from → length (moved i) ≡ length buf
-  moved_length i h = length-paste buf 0 (drop from buf) i (omega arith) (omega (arith, length-drop from buf))
-
-  -- the byte that is moved next is still where it was
-  next-byte : (i : ℕ) → i < to - from → get_or (moved i) (from + i) 0 ≡ get_or (drop from buf) i 0
-  next-byte i h =
-      let l = length-take-le i (drop from buf) (omega (arith, length-drop from buf)) in
-      let e : from + i ≡ length (take i (drop from buf)) + from = omega arith in
-      let k : 0 + i + from ≡ from + i = omega arith in
-      ap (λ (n : ℕ). get_or (moved i) n 0) e ∙ get_or-append-add (take i (drop from buf)) (drop (0 + i) buf) from 0
-      ∙ get_or-drop (0 + i) buf from 0 ∙ ap (λ (n : ℕ). get_or buf n 0) k ∙ sym (get_or-drop from buf i 0)
-
-  pub moved-next : (i : ℕ) → i < to - from → set (moved i) i (get_or (moved i) (from + i) 0) ≡ moved (i + 1)
-  moved-next i h =
-      let z : 0 + i ≡ i = omega arith in
-      rw (next-byte i h, add-one i)
-      (ap (λ (n : ℕ). set (moved i) n (get_or (drop from buf) i 0)) (sym z) ∙ paste-suc buf 0 (drop from buf) i 0 (omega arith) (omega (arith, length-drop from buf)))
 
   pub moved_all : moved (to - from) ≡ shifted buf from to
   unfolding bytes_in shifted

@@ -1,4 +1,5 @@
 -- Where a record is ready, and where none is. Assumes nothing.
+use Rattle.std.specs.Prelude.{Some}
 use Prim.Native.Nat.{ℕ, ◌+◌, ◌-◌, ◌<◌, ◌≤◌}
 use mathlib.Core.Path.{◌≡◌, refl, sym, ◌∙◌}
 use mathlib.Core.Logic.{⊎_elim}
@@ -12,7 +13,6 @@ use Rattle.wire_bytes.proofs.Order.{below}
 use Rattle.bench_records.specs.Kinds.{longest}
 use Rattle.bench_records.specs.Records.{record_at}
 use Rattle.bench_records.specs.declared.fields.Record.{Record}
-use Rattle.bench_records.specs.declared.fields.Scan.{Scan}
 use Rattle.bench_records.proofs.Scans.{both, record_within}
 use Rattle.bench_script.specs.Bench.{answer_room}
 use Rattle.bench_stream.specs.declared.pieces.Place.{Place}
@@ -37,9 +37,12 @@ module _ (s : List ℕ) (p : ℕ) where
   unfolding is_told
   told-short h = rw (lt-leb (p + longest) (length s) h)
 
-  pub told-whole : (r : Record) → record_at s p ≡ Scan.Is r → is_told s p ≡ true
+  pub told-whole : (r : Record) → record_at s p ≡ Some r → is_told s p ≡ true
   unfolding is_record
   told-whole r e = ⊎_elim (λ lt. told-short lt ∙ rw e) told-long (below (length s) (p + longest))
+
+pub not_so : false ≡ true → ⊥
+not_so e = let z : ◌≡◌ {A = ℕ} 0 1 = cc in omega arith
 
 -- READY
 module _ (s : List ℕ) (last : Bool) (page : ℕ) (p : Place) where

@@ -1,4 +1,5 @@
 -- A whole record of a piece is the same one, and does the same, with whatever comes behind the piece. Assumes nothing.
+use Rattle.std.specs.Prelude.{None, Some}
 use Prim.Native.Nat.{ℕ, zero, suc, ◌+◌, ◌<◌, ◌≤◌}
 use mathlib.Core.Path.{◌≡◌, refl, ap}
 use mathlib.Core.Bool.{Bool, true, false, cond, ◌&&◌}
@@ -13,9 +14,8 @@ use Rattle.wire_bytes.specs.Bytes.{number_at}
 use Rattle.bench_records.specs.Kinds.{head, join, leave, lost, back, frame, plan, override, clear, move, kinds, right_length, right_body}
 use Rattle.bench_records.specs.Records.{is_mark, fields_at, good, record_at}
 use Rattle.bench_records.specs.declared.fields.Record.{Record}
-use Rattle.bench_records.specs.declared.fields.Scan.{Scan}
 use Rattle.bench_records.proofs.Scans.{both, record_within}
-use Rattle.bench_script.specs.Runs.{call_of, body_of, record_leaves, scan_leaves, step_leaves, step_from, step_answer}
+use Rattle.bench_script.specs.Runs.{call_of, body_of, record_leaves, scan_leaves, step_leaves, step_answer}
 use Rattle.bench_script.specs.declared.calls.Call.{Call}
 
 -- a body's bytes that its call does not read make no difference
@@ -92,19 +92,19 @@ module _ (s more : List ℕ) (p : ℕ) (fits : p + head ≤ length s) where
       rw (mark_same, a.0, b.0, le-leb (r.body + r.length) (length (s ++ more)) (omega (arith, c, length-append s more)))
 
 -- a record that was read is good
-good_of : (s : List ℕ) (p : ℕ) (r : Record) → record_at s p ≡ Scan.Is r → (good s p (fields_at s p) ≡ true) × (fields_at s p ≡ r)
+good_of : (s : List ℕ) (p : ℕ) (r : Record) → record_at s p ≡ Some r → (good s p (fields_at s p) ≡ true) × (fields_at s p ≡ r)
 unfolding record_at
 good_of s p r e = go (good s p (fields_at s p)) refl e
   where
-    go : (b : Bool) → good s p (fields_at s p) ≡ b → cond b (Scan.Is (fields_at s p)) Scan.Bad ≡ Scan.Is r → (good s p (fields_at s p) ≡ true) × (fields_at s p ≡ r)
+    go : (b : Bool) → good s p (fields_at s p) ≡ b → cond b (Some (fields_at s p)) None ≡ Some r → (good s p (fields_at s p) ≡ true) × (fields_at s p ≡ r)
     go true g w = (g, (cc))
     go false g w = absurd (let z : ◌≡◌ {A = ℕ} 0 1 = cc in omega arith)
 
-module _ (s more : List ℕ) (p : ℕ) (r : Record) (is : record_at s p ≡ Scan.Is r) where
+module _ (s more : List ℕ) (p : ℕ) (r : Record) (is : record_at s p ≡ Some r) where
   within : (r.body ≡ p + head) × (r.body + r.length ≤ length s)
   within = record_within s p r is
 
-  pub stays : record_at (s ++ more) p ≡ Scan.Is r
+  pub stays : record_at (s ++ more) p ≡ Some r
   unfolding record_at
   stays =
       let k = good_of s p r is in
@@ -140,8 +140,3 @@ module _ (s more : List ℕ) (p : ℕ) (r : Record) (is : record_at s p ≡ Scan
     pub answer-stays : step_answer ws (s ++ more) p out rows ≡ step_answer ws s p out rows
     unfolding step_answer
     answer-stays = rw (leaves_stay, stays, is)
-
-    -- and the next record starts within s
-    pub next-within : (step_answer ws s p out rows).next ≤ length s
-    unfolding step_answer step_from
-    next-within = rw is within.1

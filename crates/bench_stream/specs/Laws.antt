@@ -1,11 +1,10 @@
 -- What is proved of the driver. The proof of WholeRuns is whole-runs, in proofs/, and so for the others.
 -- Assumes nothing: these are statements.
-use Rattle.std.specs.Prelude.{ℕ, ◌+◌, ◌≤◌, ◌<◌, ◌≡◌, Bool, true, false, cond, List, [], ◌++◌, eqb, length, take, drop}
+use Rattle.std.specs.Prelude.{ℕ, ◌+◌, ◌≤◌, ◌<◌, ◌≡◌, Bool, true, false, cond, List, [], ◌++◌, eqb, length, take, drop, Some}
 use Rattle.text.specs.Pieces.{joined}
 use Rattle.bench_records.specs.Kinds.{longest}
 use Rattle.bench_records.specs.Records.{record_at}
 use Rattle.bench_records.specs.declared.fields.Record.{Record}
-use Rattle.bench_records.specs.declared.fields.Scan.{Scan}
 use Rattle.bench_script.specs.Bench.{script, stopped, answer_room}
 use Rattle.bench_stream.specs.declared.input.Input.{Input}
 use Rattle.bench_stream.specs.declared.pieces.Place.{Place}
@@ -15,7 +14,7 @@ use Rattle.bench_stream.specs.Ready.{is_ready, PieceRun, goes_on}
 -- a whole record of a piece is run where its answer has room, whether or not more comes
 abbrev pub WholeRuns : Type 0
 WholeRuns =
-    (s : List ℕ) (last : Bool) (page : ℕ) (p : Place) (r : Record) → record_at s p.from ≡ Scan.Is r → p.at + answer_room ≤ page
+    (s : List ℕ) (last : Bool) (page : ℕ) (p : Place) (r : Record) → record_at s p.from ≡ Some r → p.at + answer_room ≤ page
     → is_ready s last page p ≡ true
 
 -- in the last piece every record is, whole or not: a cut one is bad

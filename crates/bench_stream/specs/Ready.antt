@@ -1,15 +1,14 @@
 -- Which records of a piece are run, and where a run stops. Assumes nothing: these are definitions.
-use Rattle.std.specs.Prelude.{ℕ, ◌+◌, ◌≤◌, ◌≡◌, Bool, true, false, ◌&&◌, ◌||◌, List, [], ◌++◌, ltb, leb, length, drop}
+use Rattle.std.specs.Prelude.{ℕ, ◌+◌, ◌≤◌, ◌≡◌, Bool, true, false, ◌&&◌, ◌||◌, List, [], ◌++◌, ltb, leb, length, drop, Option, is_some}
 use Rattle.bench_records.specs.Kinds.{longest}
 use Rattle.bench_records.specs.Records.{record_at}
-use Rattle.bench_records.specs.declared.fields.Scan.{Scan}
 use Rattle.bench_script.specs.Bench.{script, answer_room, remaining, Comes}
+use Rattle.bench_records.specs.declared.fields.Record.{Record}
 use Rattle.bench_stream.specs.declared.pieces.Place.{Place}
 
 -- a whole record was read
-unfoldable pub is_record : Scan → Bool
-is_record (Scan.Is r) = true
-is_record Scan.Bad = false
+unfoldable pub is_record : Option Record → Bool
+is_record x = is_some x
 
 -- the record at p can be told, whatever comes behind the piece: it is whole, or no record is longer than what is left
 unfoldable pub is_told : List ℕ → ℕ → Bool

@@ -1,7 +1,7 @@
 // What of a script is read and not yet run.
 ghost use Rattle.std.specs.Prelude.{◌≡◌, ◌+◌, ◌-◌, ◌≤◌, length, take, IfOk, OnErr, MatchResult};
 ghost use Rattle.std.specs.Io.KnownBytes.{ConsumesCount};
-ghost use Rattle.bench_stream.specs.Buffer.{bytes_in, shifted, is_short, Filled, Takes};
+ghost use Rattle.bench_stream.specs.Buffer.{bytes_in, is_short, Filled, Takes};
 
 use std::io;
 use std::io::Read;
@@ -14,28 +14,12 @@ pub(crate) struct Input {
     pub(crate) left: u64,
 }
 
-// Moves the bytes from `from` to `to` to the front.
-fn shift(buf: &mut [u8], from: usize, to: usize)
-    requires { (from ≤ to) × (to ≤ length buf.old) }
-    ensures { buf.new ≡ shifted buf.old from to }
-{
-    let n = to - from;
-    let mut i = 0;
-    while i < n {
-        buf[i] = buf[from + i];
-        i += 1;
-    }
-}
-
 // The end of the next read: no more than the buffer holds, and no more than may be read.
 fn read_end(len: usize, to: usize, left: u64) -> usize
     requires { to ≤ len }
     ensures { (to ≤ result) × (result ≤ len) × (result ≤ to + left) }
 {
-    if left < (len - to) as u64 {
-        return to + left as usize;
-    }
-    len
+    to + left.min((len - to) as u64) as usize
 }
 
 // One read behind `to`: how many bytes it brought, 0 at the end of the input. What stands before stays, also where it fails.
@@ -64,26 +48,20 @@ pub(crate) fn fill<R: Read>(input: &mut R, buf: &mut [u8], x: Input) -> io::Resu
     ensures taken { MatchResult result (λ y. Takes (R.remaining input.old) (R.remaining input.new) y.left x.left)
         (λ _. Takes (R.remaining input.old) (R.remaining input.new) 0 x.left) }
 {
-    let from = x.from;
-    let end = x.to;
-    shift(buf, from, end);
-    let mut to = end - from;
+    buf.copy_within(x.from..x.to, 0);
+    let mut to = x.to - x.from;
     let mut left = x.left;
     while is_short(to, left) {
         let n = read_more(input, buf, to, left)?;
         if n == 0 {
             return Ok(Input {
                 from: 0,
-                to: to,
+                to,
                 left: 0,
             });
         }
         to += n;
         left -= n as u64;
     }
-    Ok(Input {
-        from: 0,
-        to: to,
-        left: left,
-    })
+    Ok(Input { from: 0, to, left })
 }

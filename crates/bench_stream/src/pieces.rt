@@ -1,10 +1,9 @@
 // The records of one piece of a script.
 ghost use Rattle.std.specs.Prelude.{◌≡◌, true, false, List, [], ◌++◌, ℕ, ◌+◌, ◌≤◌, ◌<◌, leb, length, drop};
-ghost use Rattle.bench_records.specs.Records.{record_at};
 ghost use Rattle.bench_script.specs.Bench.{script, frame_room, rows_room, answer_room, remaining, Comes};
-ghost use Rattle.bench_stream.specs.Ready.{is_record, is_told, is_ready, PieceRun};
+ghost use Rattle.bench_stream.specs.Ready.{is_told, is_ready, PieceRun};
 
-use bench_records::{LONGEST, Scan, read_record};
+use bench_records::{LONGEST, read_record};
 use kernel::{PLAN, State};
 
 // A number's digits, and the byte behind them.
@@ -36,18 +35,17 @@ fn next(
         → Comes page.old p.at (script d.old (drop p.from s.now ++ more))
         page.new result.at (remaining result.good d.new (drop result.from s.now ++ more)) }
 {
-    let x = bench_script::step(d, s, p.from, out, rows);
-    if x.good {
+    let Some(x) = bench_script::step(d, s, p.from, out, rows) else {
         return Place {
-            from: x.next,
-            at: bench_script::print_answer(page, p.at, x.number, rows, x.count),
-            good: true,
+            from: s.len(),
+            at: p.at,
+            good: false,
         };
-    }
+    };
     Place {
-        from: s.len(),
-        at: p.at,
-        good: false,
+        from: x.next,
+        at: bench_script::print_answer(page, p.at, x.number, rows, x.count),
+        good: true,
     }
 }
 
@@ -58,36 +56,20 @@ fn has_page(at: usize, len: usize) -> bool
     at <= len && ANSWER <= len - at
 }
 
-// Whether a whole record stands at `at`.
-fn is_record(s: &[u8], at: usize) -> bool
-    ensures { result ≡ is_record (record_at s.now at) }
-{
-    match read_record(s, at) {
-        Scan::Is(_) => true,
-        Scan::Bad => false,
-    }
-}
-
 // Whether the record at `at` can be told, whatever comes behind the piece.
-#[tactic(auto, unfolding(crate::specs::Ready::is_told))]
+#[tactic(auto, unfolding(crate::specs::Ready::is_told, crate::specs::Ready::is_record))]
 fn is_told(s: &[u8], at: usize) -> bool
     requires { at ≤ length s.now }
     ensures { result ≡ is_told s.now at }
 {
-    LONGEST <= s.len() - at || is_record(s, at)
+    LONGEST <= s.len() - at || read_record(s, at).is_some()
 }
 
 // Whether the record at `p` is run.
 fn is_ready(s: &[u8], last: bool, page: usize, p: Place) -> bool
     ensures { result ≡ is_ready s.now last page p }
 {
-    if s.len() <= p.from {
-        return false;
-    }
-    if has_page(p.at, page) {
-        return last || is_told(s, p.from);
-    }
-    false
+    p.from < s.len() && has_page(p.at, page) && (last || is_told(s, p.from))
 }
 
 // Runs the records at the front of `s` and prints their answers from the front of `page`, as long as one is ready.
@@ -107,6 +89,7 @@ pub(crate) fn run(
         at: 0,
         good: true,
     };
+    // By hand: where the next record begins only this one tells.
     while is_ready(s, last, page.len(), p) {
         p = next(d, s, p, page, out, rows);
     }

@@ -19,14 +19,13 @@ pub struct Ended {
 
 // Writes the answers on a page, and the last line where a record was bad.
 fn show<W: Write>(output: &mut W, page: &[u8], p: Place) -> io::Result<()> {
-    let at = p.at;
-    if at <= page.len() {
-        output.write_all(&page[..at])?;
+    if let Some(answers) = page.get(..p.at) {
+        output.write_all(answers)?;
     }
-    if p.good {
-        return Ok(());
+    if !p.good {
+        output.write_all(b"bad record\n")?;
     }
-    output.write_all(b"bad record\n")
+    Ok(())
 }
 
 // A piece in which nothing was run is the last.
@@ -59,22 +58,15 @@ fn play_with<R: Read, W: Write>(
     };
     loop {
         x = fill(input, buf, x)?;
-        let to = x.to;
-        let left = x.left;
-        let p = run(d, &buf[..to], left == 0, page, out, rows);
+        let p = run(d, &buf[..x.to], x.left == 0, page, out, rows);
         show(output, page, p)?;
-        if goes_on(p) {
-            x = Input {
-                from: p.from,
-                to: to,
-                left: left,
-            };
-        } else {
+        if !goes_on(p) {
             return Ok(Ended {
-                left: left,
+                left: x.left,
                 good: p.good,
             });
         }
+        x.from = p.from;
     }
 }
 

@@ -29,7 +29,7 @@ loop-x-smaller g c =
     let within = w.within in
     let h : c.in_ok-x.x.to ≤ length c.fill.new.buf = omega (arith, within) in
     let l = length-take-le c.in_ok-x.x.to c.fill.new.buf h in
-    omega (arith, l, c.run-p.ensures.within, w.counted, goes_some c.run-p.result (sym c.goes_on.ensures ∙ c.if-goes_on.true))
+    omega (arith, l, c.run-p.ensures.within, w.counted, goes_some c.run-p.result (sym c.goes_on.ensures ∙ c.if-not-goes_on.false))
 
 pub loop-x-preserved : goal.loop-x-preserved
 loop-x-preserved g c =
@@ -47,16 +47,16 @@ loop-x-preserved g c =
       takes_then _ _ _ _ _ _ c.loop-x.invariant.7 c.in_ok-x.ensures.taken,
     )
 
-pub returns-else-goes_on-clause-ended : goal.returns-else-goes_on-clause-ended
-returns-else-goes_on-clause-ended g c =
+pub returns-then-not-goes_on-clause-ended : goal.returns-then-not-goes_on-clause-ended
+returns-then-not-goes_on-clause-ended g c =
     let w = c.in_ok-x.ensures.filled in
     let within = w.within in
     let h : c.in_ok-x.x.to ≤ length c.fill.new.buf = omega (arith, within) in
     let l = length-take-le c.in_ok-x.x.to c.fill.new.buf h in (
       omega (arith, w.counted, c.loop-x.invariant.6),
       λ y. read_all _ _ c.in_ok-x.x.to c.in_ok-x.x.left _ c.run-p.result _ _ (sym l) w.enough
-          (omega (arith, c.requires.2, c.loop-x.invariant.3)) c.run-p.ensures (sym c.goes_on.ensures ∙ c.if-goes_on.false) y,
+          (omega (arith, c.requires.2, c.loop-x.invariant.3)) c.run-p.ensures (sym c.goes_on.ensures ∙ c.if-not-goes_on.true) y,
     )
 
-pub returns-else-goes_on-clause-taken : goal.returns-else-goes_on-clause-taken
-returns-else-goes_on-clause-taken g c = takes_then _ _ _ _ _ _ c.loop-x.invariant.7 c.in_ok-x.ensures.taken
+pub returns-then-not-goes_on-clause-taken : goal.returns-then-not-goes_on-clause-taken
+returns-then-not-goes_on-clause-taken g c = takes_then _ _ _ _ _ _ c.loop-x.invariant.7 c.in_ok-x.ensures.taken
