@@ -17,13 +17,11 @@ pub struct FlatField {
 pub fn field_of(f: FlatField) -> Field
     ensures { result ≡ field_of f }
 {
-    if f.kind == 1 {
-        return Field::Null;
+    match f.kind {
+        1 => Field::Null,
+        2 => Field::Value(f.value),
+        _ => Field::Absent,
     }
-    if f.kind == 2 {
-        return Field::Value(f.value);
-    }
-    Field::Absent
 }
 
 // The same of a setpoint, which has no null.
@@ -31,10 +29,7 @@ pub fn field_of(f: FlatField) -> Field
 pub fn target_of(f: FlatField) -> Option<i64>
     ensures { result ≡ target_of f }
 {
-    if f.kind == 2 {
-        return Some(f.value);
-    }
-    None
+    (f.kind == 2).then_some(f.value)
 }
 
 // What a clear names: one direction, or both.
@@ -42,10 +37,7 @@ pub fn target_of(f: FlatField) -> Option<i64>
 pub fn aim_of(has: bool, direction: u64) -> Option<u64>
     ensures { result ≡ aim_of has direction }
 {
-    if has {
-        return Some(direction);
-    }
-    None
+    has.then_some(direction)
 }
 
 // A duration that is to be left out, and is 0; any other is written, a 0 too.
@@ -53,7 +45,7 @@ pub fn aim_of(has: bool, direction: u64) -> Option<u64>
 pub fn setpoint_time(omitted: bool, duration: u64) -> Option<u64>
     ensures { result ≡ setpoint_time omitted duration }
 {
-    if omitted & (duration == 0) {
+    if omitted && duration == 0 {
         return None;
     }
     Some(duration)
@@ -64,7 +56,7 @@ pub fn setpoint_time(omitted: bool, duration: u64) -> Option<u64>
 pub fn are_limit_kinds(a: u64, b: u64) -> bool
     ensures { result ≡ (limit_kind a && limit_kind b) }
 {
-    (a < 3) & (b < 3)
+    a < 3 && b < 3
 }
 
 // Kinds that SetCurrentLimits' phases have.
@@ -72,21 +64,21 @@ pub fn are_limit_kinds(a: u64, b: u64) -> bool
 pub fn are_phase_kinds(a: u64, b: u64, c: u64) -> bool
     ensures { result ≡ (limit_kind a && (limit_kind b && limit_kind c)) }
 {
-    (a < 3) & ((b < 3) & (c < 3))
+    a < 3 && b < 3 && c < 3
 }
 
 #[tactic(auto, unfolding(crate::specs::Fields::setpoint_kind))]
 fn is_setpoint_kind(k: u64) -> bool
     ensures { result ≡ setpoint_kind k }
 {
-    (k == 0) | (k == 2)
+    k == 0 || k == 2
 }
 
 // Kinds that SetSetpoint's fields have: no null.
 pub fn are_setpoint_kinds(a: u64, b: u64) -> bool
     ensures { result ≡ (setpoint_kind a && setpoint_kind b) }
 {
-    is_setpoint_kind(a) & is_setpoint_kind(b)
+    is_setpoint_kind(a) && is_setpoint_kind(b)
 }
 
 // An absent field for C.
@@ -104,7 +96,7 @@ pub fn flat_field(f: Field) -> FlatField
     match f {
         Field::Absent => no_field(),
         Field::Null => FlatField { kind: 1, value: 0 },
-        Field::Value(v) => FlatField { kind: 2, value: v },
+        Field::Value(value) => FlatField { kind: 2, value },
     }
 }
 
@@ -115,7 +107,7 @@ pub fn flat_target(f: Option<i64>) -> FlatField
 {
     match f {
         None => no_field(),
-        Some(v) => FlatField { kind: 2, value: v },
+        Some(value) => FlatField { kind: 2, value },
     }
 }
 
@@ -123,37 +115,25 @@ pub fn flat_target(f: Option<i64>) -> FlatField
 pub fn has_aim(a: Option<u64>) -> bool
     ensures { result ≡ has_aim a }
 {
-    match a {
-        None => false,
-        Some(_) => true,
-    }
+    a.is_some()
 }
 
 pub fn aimed(a: Option<u64>) -> u64
     ensures { result ≡ aimed a }
 {
-    match a {
-        None => 0,
-        Some(d) => d,
-    }
+    a.unwrap_or(0)
 }
 
 // A setpoint's duration as a number, 0 where it is left out.
 pub fn time_of(a: Option<u64>) -> u64
     ensures { result ≡ time_of a }
 {
-    match a {
-        None => 0,
-        Some(d) => d,
-    }
+    a.unwrap_or(0)
 }
 
 // Whether a setpoint's duration is left out.
 pub fn is_omitted(a: Option<u64>) -> bool
     ensures { result ≡ is_omitted a }
 {
-    match a {
-        None => true,
-        Some(_) => false,
-    }
+    a.is_none()
 }

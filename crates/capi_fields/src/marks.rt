@@ -12,8 +12,5 @@ pub fn is_yes(w: u64) -> bool
 pub fn word_of(b: bool) -> u64
     ensures { result ≡ cond b 1 0 }
 {
-    if b {
-        return 1;
-    }
-    0
+    u64::from(b)
 }

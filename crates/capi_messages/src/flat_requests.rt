@@ -1,15 +1,18 @@
 // Requests: flat structs of numbers, and the kernel's requests from them and to them.
 ghost use Rattle.std.specs.Prelude.{◌≡◌};
 ghost use Rattle.wire_messages.specs.declared.Command.{Command};
-ghost use Rattle.capi_messages.specs.Requests.{limits_of, setpoints_of, phases_of, currents_of, current_command, command_of, request_of};
-ghost use Rattle.capi_messages.specs.Requests.{flat_set, flat_currents, flat_clear, flat_request, request_in, request_words, request_values};
+ghost use Rattle.capi_messages.specs.Requests.{limits_of, setpoints_of, phases_of, currents_of, command_of, request_of};
+ghost use Rattle.capi_messages.specs.Requests.{flat_clear, flat_request, request_in, request_words, request_values};
 
 use capi_fields::{
     FlatField, aim_of, aimed, are_limit_kinds, are_phase_kinds, are_setpoint_kinds, field_of,
     flat_field, flat_target, has_aim, is_omitted, is_yes, no_field, setpoint_time, target_of,
     time_of, word_of,
 };
-use wire_messages::{Command, CurrentLimits, Limits, Phases, Request, Setpoints};
+use wire_messages::{
+    CLEAR_CURRENT_LIMITS, CLEAR_LIMIT, CLEAR_SETPOINT, Command, CurrentLimits, Limits, Phases,
+    Request, SET_CURRENT_LIMITS, SET_LIMIT, SET_SETPOINT, Setpoints,
+};
 
 // Words of a request: id, endpoint, feature, command, the fields' kinds, duration, cause, directed, direction, the phases' kinds, omitted.
 pub const REQUEST: usize = 14;
@@ -37,45 +40,42 @@ pub struct FlatRequest {
     pub omitted: bool,
 }
 
+#[tactic(auto, unfolding(crate::specs::Requests::limits_of))]
 fn limits_of(q: FlatRequest) -> Limits
     ensures { result ≡ limits_of q }
 {
-    let a = q.consumption;
-    let b = q.production;
     Limits {
-        consumption: field_of(a),
-        production: field_of(b),
+        consumption: field_of(q.consumption),
+        production: field_of(q.production),
         duration: q.duration,
         cause: q.cause,
     }
 }
 
+#[tactic(auto, unfolding(crate::specs::Requests::setpoints_of))]
 fn setpoints_of(q: FlatRequest) -> Setpoints
     ensures { result ≡ setpoints_of q }
 {
-    let a = q.consumption;
-    let b = q.production;
     Setpoints {
-        consumption: target_of(a),
-        production: target_of(b),
+        consumption: target_of(q.consumption),
+        production: target_of(q.production),
         duration: setpoint_time(q.omitted, q.duration),
         cause: q.cause,
     }
 }
 
+#[tactic(auto, unfolding(crate::specs::Requests::phases_of))]
 fn phases_of(q: FlatRequest) -> Phases
     ensures { result ≡ phases_of q }
 {
-    let a = q.a;
-    let b = q.b;
-    let c = q.c;
     Phases {
-        a: field_of(a),
-        b: field_of(b),
-        c: field_of(c),
+        a: field_of(q.a),
+        b: field_of(q.b),
+        c: field_of(q.c),
     }
 }
 
+#[tactic(auto, unfolding(crate::specs::Requests::currents_of))]
 fn currents_of(q: FlatRequest) -> CurrentLimits
     ensures { result ≡ currents_of q }
 {
@@ -87,48 +87,31 @@ fn currents_of(q: FlatRequest) -> CurrentLimits
     }
 }
 
-fn current_command(q: FlatRequest) -> Command
-    ensures { result ≡ current_command q }
-{
-    if are_phase_kinds(q.a.kind, q.b.kind, q.c.kind) {
-        return Command::SetCurrentLimits(currents_of(q));
-    }
-    Command::Unserved(65536)
-}
+// The number of a command that no wire holds.
+const NO_COMMAND: u64 = 65536;
 
 // A kind that the command does not have makes a command that no wire holds.
+#[tactic(auto, unfolding(crate::specs::Requests::command_of, crate::specs::Requests::current_command))]
 fn command_of(q: FlatRequest) -> Command
     ensures { result ≡ command_of q }
 {
-    let a = q.consumption.kind;
-    let b = q.production.kind;
-    if q.command == 1 {
-        if are_limit_kinds(a, b) {
-            return Command::SetLimit(limits_of(q));
+    let (a, b) = (q.consumption.kind, q.production.kind);
+    let aim = aim_of(q.directed, q.direction);
+    match q.command {
+        SET_LIMIT if are_limit_kinds(a, b) => Command::SetLimit(limits_of(q)),
+        CLEAR_LIMIT => Command::ClearLimit(aim),
+        SET_SETPOINT if are_setpoint_kinds(a, b) => Command::SetSetpoint(setpoints_of(q)),
+        CLEAR_SETPOINT => Command::ClearSetpoint(aim),
+        SET_CURRENT_LIMITS if are_phase_kinds(q.a.kind, q.b.kind, q.c.kind) => {
+            Command::SetCurrentLimits(currents_of(q))
         }
-        return Command::Unserved(65536);
+        CLEAR_CURRENT_LIMITS => Command::ClearCurrentLimits(aim),
+        SET_LIMIT | SET_SETPOINT | SET_CURRENT_LIMITS => Command::Unserved(NO_COMMAND),
+        n => Command::Unserved(n),
     }
-    if q.command == 2 {
-        return Command::ClearLimit(aim_of(q.directed, q.direction));
-    }
-    if q.command == 3 {
-        if are_setpoint_kinds(a, b) {
-            return Command::SetSetpoint(setpoints_of(q));
-        }
-        return Command::Unserved(65536);
-    }
-    if q.command == 4 {
-        return Command::ClearSetpoint(aim_of(q.directed, q.direction));
-    }
-    if q.command == 5 {
-        return current_command(q);
-    }
-    if q.command == 6 {
-        return Command::ClearCurrentLimits(aim_of(q.directed, q.direction));
-    }
-    Command::Unserved(q.command)
 }
 
+#[tactic(auto, unfolding(crate::specs::Requests::request_of))]
 pub fn request_of(q: FlatRequest) -> Request
     ensures { result ≡ request_of q }
 {
@@ -140,134 +123,88 @@ pub fn request_of(q: FlatRequest) -> Request
     }
 }
 
-fn flat_set(
-    r: Request,
-    command: u64,
-    a: FlatField,
-    b: FlatField,
-    duration: u64,
-    omitted: bool,
-    cause: u64,
-) -> FlatRequest
-    ensures { result ≡ flat_set r command a b duration omitted cause }
-{
-    let none = no_field();
-    FlatRequest {
-        id: r.id,
-        endpoint: r.endpoint,
-        feature: r.feature,
-        command: command,
-        consumption: a,
-        production: b,
-        duration: duration,
-        cause: cause,
-        directed: false,
-        direction: 0,
-        a: none,
-        b: none,
-        c: none,
-        omitted: omitted,
-    }
-}
-
-fn flat_currents(r: Request, m: CurrentLimits, f: Phases) -> FlatRequest
-    ensures { result ≡ flat_currents r m f }
-{
-    let a = f.a;
-    let b = f.b;
-    let c = f.c;
-    let none = no_field();
-    FlatRequest {
-        id: r.id,
-        endpoint: r.endpoint,
-        feature: r.feature,
-        command: 5,
-        consumption: none,
-        production: none,
-        duration: m.duration,
-        cause: m.cause,
-        directed: false,
-        direction: m.direction,
-        a: flat_field(a),
-        b: flat_field(b),
-        c: flat_field(c),
-        omitted: false,
-    }
-}
-
+// A request with no parameters but what a clear names.
+#[tactic(auto, unfolding(crate::specs::Requests::flat_clear))]
 fn flat_clear(r: Request, command: u64, a: Option<u64>) -> FlatRequest
     ensures { result ≡ flat_clear r command a }
 {
-    let none = no_field();
     FlatRequest {
         id: r.id,
         endpoint: r.endpoint,
         feature: r.feature,
-        command: command,
-        consumption: none,
-        production: none,
+        command,
+        consumption: no_field(),
+        production: no_field(),
         duration: 0,
         cause: 0,
         directed: has_aim(a),
         direction: aimed(a),
-        a: none,
-        b: none,
-        c: none,
+        a: no_field(),
+        b: no_field(),
+        c: no_field(),
         omitted: false,
     }
 }
 
+#[tactic(auto, unfolding(crate::specs::Requests::flat_request, crate::specs::Requests::flat_set, crate::specs::Requests::flat_clear))]
 fn flat_limits(r: Request, m: Limits) -> FlatRequest
     ensures { result ≡ flat_request r (Command.SetLimit m) }
 {
-    let a = m.consumption;
-    let b = m.production;
-    flat_set(
-        r,
-        1,
-        flat_field(a),
-        flat_field(b),
-        m.duration,
-        false,
-        m.cause,
-    )
+    FlatRequest {
+        consumption: flat_field(m.consumption),
+        production: flat_field(m.production),
+        duration: m.duration,
+        cause: m.cause,
+        ..flat_clear(r, SET_LIMIT, None)
+    }
 }
 
+#[tactic(auto, unfolding(crate::specs::Requests::flat_request, crate::specs::Requests::flat_set, crate::specs::Requests::flat_clear))]
 fn flat_setpoints(r: Request, m: Setpoints) -> FlatRequest
     ensures { result ≡ flat_request r (Command.SetSetpoint m) }
 {
-    let a = m.consumption;
-    let b = m.production;
-    let d = m.duration;
-    flat_set(
-        r,
-        3,
-        flat_target(a),
-        flat_target(b),
-        time_of(d),
-        is_omitted(d),
-        m.cause,
-    )
+    FlatRequest {
+        consumption: flat_target(m.consumption),
+        production: flat_target(m.production),
+        duration: time_of(m.duration),
+        omitted: is_omitted(m.duration),
+        cause: m.cause,
+        ..flat_clear(r, SET_SETPOINT, None)
+    }
 }
 
+#[tactic(auto, unfolding(crate::specs::Requests::flat_request, crate::specs::Requests::flat_currents, crate::specs::Requests::flat_clear))]
+fn flat_currents(r: Request, m: CurrentLimits) -> FlatRequest
+    ensures { result ≡ flat_request r (Command.SetCurrentLimits m) }
+{
+    FlatRequest {
+        duration: m.duration,
+        cause: m.cause,
+        direction: m.direction,
+        a: flat_field(m.phases.a),
+        b: flat_field(m.phases.b),
+        c: flat_field(m.phases.c),
+        ..flat_clear(r, SET_CURRENT_LIMITS, None)
+    }
+}
+
+#[tactic(auto, unfolding(crate::specs::Requests::flat_request))]
 pub fn flat_request(r: Request, c: Command) -> FlatRequest
     ensures { result ≡ flat_request r c }
 {
     match c {
         Command::SetLimit(m) => flat_limits(r, m),
-        Command::ClearLimit(a) => flat_clear(r, 2, a),
+        Command::ClearLimit(a) => flat_clear(r, CLEAR_LIMIT, a),
         Command::SetSetpoint(m) => flat_setpoints(r, m),
-        Command::ClearSetpoint(a) => flat_clear(r, 4, a),
-        Command::SetCurrentLimits(m) => {
-            let f = m.phases;
-            flat_currents(r, m, f)
-        }
-        Command::ClearCurrentLimits(a) => flat_clear(r, 6, a),
+        Command::ClearSetpoint(a) => flat_clear(r, CLEAR_SETPOINT, a),
+        Command::SetCurrentLimits(m) => flat_currents(r, m),
+        Command::ClearCurrentLimits(a) => flat_clear(r, CLEAR_CURRENT_LIMITS, a),
         Command::Unserved(n) => flat_clear(r, n, None),
     }
 }
 
 // A flat request from its words and values.
+#[tactic(auto, unfolding(crate::specs::Requests::request_in))]
 pub fn request_in(w: [u64; REQUEST], v: [i64; FIELDS]) -> FlatRequest
     ensures { result ≡ request_in w v }
 {
@@ -304,6 +241,7 @@ pub fn request_in(w: [u64; REQUEST], v: [i64; FIELDS]) -> FlatRequest
     }
 }
 
+#[tactic(auto, unfolding(crate::specs::Requests::request_words))]
 pub fn request_words(q: FlatRequest) -> [u64; REQUEST]
     ensures { result ≡ request_words q }
 {
@@ -325,6 +263,7 @@ pub fn request_words(q: FlatRequest) -> [u64; REQUEST]
     ]
 }
 
+#[tactic(auto, unfolding(crate::specs::Requests::request_values))]
 pub fn request_values(q: FlatRequest) -> [i64; FIELDS]
     ensures { result ≡ request_values q }
 {

@@ -1,10 +1,14 @@
 // Responses: flat structs of numbers, and the kernel's responses from them and to them.
-ghost use Rattle.std.specs.Prelude.{◌≡◌, not, ◌||◌, eqb};
+ghost use Rattle.std.specs.Prelude.{◌≡◌, true, not, ◌||◌, eqb};
+ghost use Rattle.wire_messages.specs.declared.Outcome.{Outcome};
 ghost use Rattle.capi_messages.specs.Responses.{limit_of, setpoint_of, current_of, outcome_of, response_of};
-ghost use Rattle.capi_messages.specs.Responses.{flat, flat_current, flat_response, response_in, response_words, response_values};
+ghost use Rattle.capi_messages.specs.Responses.{flat, flat_response, response_in, response_words, response_values};
 
 use capi_fields::{amount_of, flat_amount, is_yes, word_of};
-use wire_messages::{CurrentResult, LimitResult, Outcome, Response, SetpointResult};
+use wire_messages::{
+    CurrentResult, LimitResult, Outcome, Response, SET_CURRENT_LIMITS, SET_LIMIT, SET_SETPOINT,
+    SetpointResult,
+};
 
 // Words of a response: id, status, result, applied, state.
 pub const RESPONSE: usize = 5;
@@ -28,6 +32,7 @@ pub struct FlatResponse {
     pub c: i64,
 }
 
+#[tactic(auto, unfolding(crate::specs::Responses::limit_of))]
 fn limit_of(p: FlatResponse) -> LimitResult
     ensures { result ≡ limit_of p }
 {
@@ -40,6 +45,7 @@ fn limit_of(p: FlatResponse) -> LimitResult
     }
 }
 
+#[tactic(auto, unfolding(crate::specs::Responses::setpoint_of))]
 fn setpoint_of(p: FlatResponse) -> SetpointResult
     ensures { result ≡ setpoint_of p }
 {
@@ -49,6 +55,7 @@ fn setpoint_of(p: FlatResponse) -> SetpointResult
     }
 }
 
+#[tactic(auto, unfolding(crate::specs::Responses::current_of))]
 fn current_of(p: FlatResponse) -> CurrentResult
     ensures { result ≡ current_of p }
 {
@@ -62,28 +69,25 @@ fn current_of(p: FlatResponse) -> CurrentResult
 fn is_limit(command: u64, applied: bool) -> bool
     ensures { result ≡ (eqb command 1 || not applied) }
 {
-    (command == 1) | !applied
+    command == SET_LIMIT || !applied
 }
 
 #[tactic(auto, unfolding(crate::specs::Responses::outcome_of))]
 fn outcome_of(command: u64, p: FlatResponse) -> Outcome
     ensures { result ≡ outcome_of command p }
 {
-    if p.result {
-        if is_limit(command, p.applied) {
-            return Outcome::Limit(limit_of(p));
-        }
-        if command == 3 {
-            return Outcome::Setpoint(setpoint_of(p));
-        }
-        if command == 5 {
-            return Outcome::Current(current_of(p));
-        }
-        return Outcome::Success;
+    if !p.result {
+        return Outcome::Nothing;
     }
-    Outcome::Nothing
+    match command {
+        _ if is_limit(command, p.applied) => Outcome::Limit(limit_of(p)),
+        SET_SETPOINT => Outcome::Setpoint(setpoint_of(p)),
+        SET_CURRENT_LIMITS => Outcome::Current(current_of(p)),
+        _ => Outcome::Success,
+    }
 }
 
+#[tactic(auto, unfolding(crate::specs::Responses::response_of))]
 pub fn response_of(command: u64, p: FlatResponse) -> Response
     ensures { result ≡ response_of command p }
 {
@@ -94,40 +98,11 @@ pub fn response_of(command: u64, p: FlatResponse) -> Response
     }
 }
 
-// A flat response of these parts and no current; what is absent shows as -1.
-fn flat(
-    r: Response,
-    res: bool,
-    applied: bool,
-    state: u64,
-    a: Option<u64>,
-    b: Option<u64>,
-    why: Option<u64>,
-) -> FlatResponse
-    ensures { result ≡ flat r res applied state a b why }
+// A flat response to a command that succeeded and shows no value: what is absent is -1.
+#[tactic(auto, unfolding(crate::specs::Responses::flat, capi_fields::specs::Amounts::flat_amount))]
+fn bare(r: Response) -> FlatResponse
+    ensures { result ≡ flat r true true 0 None None None }
 {
-    FlatResponse {
-        id: r.id,
-        status: r.status,
-        result: res,
-        applied: applied,
-        state: state,
-        consumption: flat_amount(a),
-        production: flat_amount(b),
-        reason: flat_amount(why),
-        a: -1,
-        b: -1,
-        c: -1,
-    }
-}
-
-// The currents of a direction, by phase.
-fn flat_current(r: Response, l: CurrentResult) -> FlatResponse
-    ensures { result ≡ flat_current r l }
-{
-    let a = l.a;
-    let b = l.b;
-    let c = l.c;
     FlatResponse {
         id: r.id,
         status: r.status,
@@ -137,35 +112,69 @@ fn flat_current(r: Response, l: CurrentResult) -> FlatResponse
         consumption: -1,
         production: -1,
         reason: -1,
-        a: flat_amount(a),
-        b: flat_amount(b),
-        c: flat_amount(c),
+        a: -1,
+        b: -1,
+        c: -1,
     }
 }
 
+#[tactic(auto, unfolding(crate::specs::Responses::flat_response, crate::specs::Responses::flat, capi_fields::specs::Amounts::flat_amount))]
+fn flat_limit(r: Response, l: LimitResult) -> FlatResponse
+    ensures { result ≡ flat_response r (Outcome.Limit l) }
+{
+    FlatResponse {
+        applied: l.applied,
+        state: l.state,
+        consumption: flat_amount(l.consumption),
+        production: flat_amount(l.production),
+        reason: flat_amount(l.reason),
+        ..bare(r)
+    }
+}
+
+#[tactic(auto, unfolding(crate::specs::Responses::flat_response, crate::specs::Responses::flat, capi_fields::specs::Amounts::flat_amount))]
+fn flat_setpoint(r: Response, l: SetpointResult) -> FlatResponse
+    ensures { result ≡ flat_response r (Outcome.Setpoint l) }
+{
+    FlatResponse {
+        consumption: flat_amount(l.consumption),
+        production: flat_amount(l.production),
+        ..bare(r)
+    }
+}
+
+// The currents of a direction, by phase.
+#[tactic(auto, unfolding(crate::specs::Responses::flat_response, crate::specs::Responses::flat, crate::specs::Responses::flat_current, capi_fields::specs::Amounts::flat_amount))]
+fn flat_current(r: Response, l: CurrentResult) -> FlatResponse
+    ensures { result ≡ flat_response r (Outcome.Current l) }
+{
+    FlatResponse {
+        a: flat_amount(l.a),
+        b: flat_amount(l.b),
+        c: flat_amount(l.c),
+        ..bare(r)
+    }
+}
+
+#[tactic(auto, unfolding(crate::specs::Responses::flat_response, crate::specs::Responses::flat, capi_fields::specs::Amounts::flat_amount))]
 pub fn flat_response(r: Response, o: Outcome) -> FlatResponse
     ensures { result ≡ flat_response r o }
 {
-    let none = None;
     match o {
-        Outcome::Nothing => flat(r, false, false, 0, none, none, none),
-        Outcome::Limit(l) => {
-            let a = l.consumption;
-            let b = l.production;
-            let why = l.reason;
-            flat(r, true, l.applied, l.state, a, b, why)
-        }
-        Outcome::Setpoint(l) => {
-            let a = l.consumption;
-            let b = l.production;
-            flat(r, true, true, 0, a, b, none)
-        }
+        Outcome::Nothing => FlatResponse {
+            result: false,
+            applied: false,
+            ..bare(r)
+        },
+        Outcome::Limit(l) => flat_limit(r, l),
+        Outcome::Setpoint(l) => flat_setpoint(r, l),
         Outcome::Current(l) => flat_current(r, l),
-        Outcome::Success => flat(r, true, true, 0, none, none, none),
+        Outcome::Success => bare(r),
     }
 }
 
 // A flat response from its words and values.
+#[tactic(auto, unfolding(crate::specs::Responses::response_in))]
 pub fn response_in(w: [u64; RESPONSE], v: [i64; AMOUNTS]) -> FlatResponse
     ensures { result ≡ response_in w v }
 {
@@ -184,6 +193,7 @@ pub fn response_in(w: [u64; RESPONSE], v: [i64; AMOUNTS]) -> FlatResponse
     }
 }
 
+#[tactic(auto, unfolding(crate::specs::Responses::response_words))]
 pub fn response_words(p: FlatResponse) -> [u64; RESPONSE]
     ensures { result ≡ response_words p }
 {
@@ -196,6 +206,7 @@ pub fn response_words(p: FlatResponse) -> [u64; RESPONSE]
     ]
 }
 
+#[tactic(auto, unfolding(crate::specs::Responses::response_values))]
 pub fn response_values(p: FlatResponse) -> [i64; AMOUNTS]
     ensures { result ≡ response_values p }
 {

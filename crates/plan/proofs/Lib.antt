@@ -3,6 +3,5 @@ pub mod IsPlan
 pub mod Due
 pub mod Quiet
 pub mod Walk
-pub mod Written
 pub mod Find
 pub mod Answers

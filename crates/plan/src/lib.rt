@@ -24,10 +24,7 @@ pub struct Planned {
 fn has_room(d: &State, t: u64, room: usize) -> bool
     ensures { result ≡ leb (length (plan_of (situation_of d.now) t) * row_size) room }
 {
-    if room < PLAN {
-        return counts::count(d, t) * ROW <= room;
-    }
-    true
+    PLAN <= room || counts::count(d, t) * ROW <= room
 }
 
 // The rows go straight into the lent slice: that they have room is known before the first is written. The device is
@@ -38,14 +35,14 @@ pub fn plan(d: &State, rows: &mut [i64]) -> Planned
 {
     let t = clock(d);
     if has_room(d, t, rows.len()) {
-        let count = rows::find(d, t, rows);
-        return Planned {
+        Planned {
             number: 0,
-            count: count as u64,
-        };
-    }
-    Planned {
-        number: NO_SPACE,
-        count: 0,
+            count: rows::find(d, t, rows) as u64,
+        }
+    } else {
+        Planned {
+            number: NO_SPACE,
+            count: 0,
+        }
     }
 }

@@ -21,11 +21,9 @@ fn put_row(out: &mut [i64], at: usize, t: u64, values: [i64; VALUES])
     ensures { out.new ≡ sets out.old at (pos t ∷ values) }
 {
     out[at] = t as i64;
-    let mut i = 0;
-    while i < VALUES {
-        let v = values[i];
-        out[at + 1 + i] = v;
-        i += 1;
+    // By hand: `copy_from_slice` lowers to a form of module that bin/archive does not know, and so no board would build.
+    for (i, v) in values.iter().enumerate() {
+        out[at + 1 + i] = *v;
     }
 }
 
@@ -37,13 +35,13 @@ pub fn find(d: &State, t: u64, out: &mut [i64]) -> usize
 {
     let mut count = 0;
     let mut v = view_at(d, t);
+    // By hand: it goes from due second to due second, and no list holds those.
     while v.next < END {
         let due = v.next;
         let last = v.values;
         v = view_at(d, due);
-        let values = v.values;
-        if !alike(values, last) {
-            put_row(out, count * ROW, due, values);
+        if !alike(v.values, last) {
+            put_row(out, count * ROW, due, v.values);
             count += 1;
         }
     }

@@ -3,7 +3,7 @@ use Prim.Native.Nat.{ℕ, zero, suc, ◌≤◌, ◌<◌}
 use mathlib.Core.Bool.{Bool, true, false, cond}
 use mathlib.Core.Path.{◌≡◌, refl, ap, ◌∙◌}
 use mathlib.Core.List.{List, [], ◌∷◌}
-use mathlib.Core.Option.{Option, none, some}
+use Rattle.std.specs.Prelude.{Option, None, Some}
 use native.Mathlib.Nat.{le_of_suc-le-suc}
 use native.Mathlib.Omega.{arith}
 use borrow.Author.Tests.{lt-ltb, ltb-true}
@@ -23,12 +23,12 @@ abbrev Row : Type 0
 Row = ℕ × List ℤ
 
 -- a row that is found is past the second that was asked for
-past : (rs : List Row) (t : ℕ) (r : Row) → next_of t rs ≡ some r → t < r.0
+past : (rs : List Row) (t : ℕ) (r : Row) → next_of t rs ≡ Some r → t < r.0
 unfolding next_of
 past [] t r e = absurd (let z : ◌≡◌ {A = ℕ} 0 1 = cc in omega arith)
 past (x ∷ rs) t r e = go (ltb t x.0) refl e (past rs t r)
   where
-    go : (b : Bool) → ltb t x.0 ≡ b → cond b (some x) (next_of t rs) ≡ some r → (next_of t rs ≡ some r → t < r.0) → t < r.0
+    go : (b : Bool) → ltb t x.0 ≡ b → cond b (Some x) (next_of t rs) ≡ Some r → (next_of t rs ≡ Some r → t < r.0) → t < r.0
     go true l f rest = let same : x ≡ r = cc in let h : t < x.0 = ltb-true t x.0 l in omega (arith, ap (λ (y : Row). y.0) same)
     go false l f rest = rest f
 
@@ -41,8 +41,8 @@ over x rs (suc n) t h =
   where
     go : (o : Option Row) → next_of t rs ≡ o → ((u : ℕ) → x.0 ≤ u → row_by_row (λ t. next_of t (x ∷ rs)) n u ≡ row_by_row (λ t. next_of t rs) n u)
         → onward o (row_by_row (λ t. next_of t (x ∷ rs)) n) ≡ onward o (row_by_row (λ t. next_of t rs) n)
-    go none e rest = refl
-    go (some r) e rest = ap (λ (l : List Row). r ∷ l) (rest r.0 (omega (arith, past rs t r e)))
+    go None e rest = refl
+    go (Some r) e rest = ap (λ (l : List Row). r ∷ l) (rest r.0 (omega (arith, past rs t r e)))
 
 walked : (rs : List Row) (a n : ℕ) → Ascending a rs → length rs ≤ n → row_by_row (λ t. next_of t rs) n a ≡ rs
 unfolding row_by_row onward next_of Ascending

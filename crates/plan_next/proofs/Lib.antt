@@ -1,4 +1,3 @@
 pub mod Later
 pub mod Seek
-pub mod Filled
 pub mod ByRow

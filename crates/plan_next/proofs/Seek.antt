@@ -3,7 +3,7 @@ use Prim.Native.Nat.{ℕ, ◌<◌, ◌≤◌}
 use mathlib.Core.Bool.{true, false}
 use mathlib.Core.Path.{◌≡◌, sym, ap, ◌∙◌}
 use mathlib.Core.List.{List, [], ◌∷◌}
-use mathlib.Core.Option.{none, some}
+use Rattle.std.specs.Prelude.{None, Some}
 use borrow.Author.Tests.{lt-ltb, le-ltb}
 use Rattle.device_store.specs.Sizes.{end}
 use Rattle.device_holds.specs.Holds.{Situation, situation_of, values_at}
@@ -34,7 +34,7 @@ module _ {ws : List ℕ} {t : ℕ} {v : View} (so_far : Seeking ws t v) where
   unfolding step
   seeking_none h = sym so_far.whole ∙ rw (le-ltb v.next end h)
 
-  pub seeking_end : end ≤ v.next → none ≡ first_row (plan_of s t)
+  pub seeking_end : end ≤ v.next → None ≡ first_row (plan_of s t)
   unfolding first_row
   seeking_end h = rw (seeking_none h)
 
@@ -60,6 +60,6 @@ module _ {ws : List ℕ} {t : ℕ} {v : View} (so_far : Seeking ws t v) where
     row_new : alike w.values v.values ≡ false → plan_of s t ≡ (v.next, w.values) ∷ plan_of s v.next
     row_new e = sym so_far.whole ∙ left_new (rw values-here at e) ∙ rw values-here
 
-    pub seeking_found : alike w.values v.values ≡ false → some (v.next, w.values) ≡ first_row (plan_of s t)
+    pub seeking_found : alike w.values v.values ≡ false → Some (v.next, w.values) ≡ first_row (plan_of s t)
     unfolding first_row
     seeking_found e = rw (row_new e)

@@ -1,6 +1,5 @@
 -- Walked row by row the next rows are the plan, and each is the first row of the plan that would be made at that second.
-use Rattle.std.specs.Prelude.{ℕ, zero, suc, ◌≤◌, ◌≡◌, List, [], ◌∷◌, ℤ, length}
-use Rattle.std.proofs.Math.Option.{Option, none, some}
+use Rattle.std.specs.Prelude.{ℕ, zero, suc, ◌≤◌, ◌≡◌, List, [], ◌∷◌, ℤ, length, Option, None, Some}
 use Rattle.device_store.specs.Words.{clock_of}
 use Rattle.device_holds.specs.Holds.{situation_of}
 use Rattle.plan.specs.Rows.{last}
@@ -9,8 +8,8 @@ use Rattle.plan_next.specs.Next.{next_of, first_row}
 
 -- a row that was found, and what is found from its second on
 unfoldable pub onward : Option (ℕ × List ℤ) → (ℕ → List (ℕ × List ℤ)) → List (ℕ × List ℤ)
-onward none rest = []
-onward (some r) rest = r ∷ rest r.0
+onward None rest = []
+onward (Some r) rest = r ∷ rest r.0
 
 -- the next row after t, then the next after that row's second, at most n of them
 unfoldable pub row_by_row : (ℕ → Option (ℕ × List ℤ)) → ℕ → ℕ → List (ℕ × List ℤ)

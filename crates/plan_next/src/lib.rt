@@ -2,11 +2,10 @@
 #![tactic(auto)]
 
 ghost use Rattle.std.specs.Prelude.{◌≡◌, ◌∷◌, ◌<◌, pos};
-ghost use Rattle.std.proofs.Math.Option.{none};
 ghost use Rattle.device_store.specs.Sizes.{end};
 ghost use Rattle.device_holds.specs.Holds.{situation_of};
 ghost use Rattle.plan.specs.Plan.{plan_of};
-ghost use Rattle.plan_next.specs.Next.{first_row, answer_of, next_answer};
+ghost use Rattle.plan_next.specs.Next.{first_row, row_numbers, answer_with, next_answer};
 
 use device_holds::{alike, view_at};
 use device_rules::is_late;
@@ -23,13 +22,15 @@ pub struct Answer {
     pub row: [i64; ROW],
 }
 
-fn no_row(number: u64) -> Answer
-    ensures { result ≡ answer_of number none }
+// A number, and a row where there is one.
+#[tactic(auto, unfolding(crate::specs::Next::answer_with))]
+fn answered(number: u64, row: Option<[i64; ROW]>) -> Answer
+    ensures { result ≡ answer_with number row }
 {
     Answer {
-        number: number,
-        count: 0,
-        row: [-1; ROW],
+        number,
+        count: u64::from(row.is_some()),
+        row: row.unwrap_or([-1; ROW]),
     }
 }
 
@@ -39,43 +40,36 @@ fn row_of(t: u64, values: [i64; VALUES]) -> [i64; ROW]
     ensures { result ≡ pos t ∷ values }
 {
     let mut row = [t as i64; ROW];
-    let mut i = 0;
-    while i < VALUES {
-        let v = values[i];
-        row[i + 1] = v;
-        i += 1;
-    }
+    row[1..].copy_from_slice(&values);
     row
 }
 
 // Walks from due to due, up to the first second whose values differ from the last.
-fn first_change(d: &State, t: u64) -> Answer
-    ensures { result ≡ answer_of 0 (first_row (plan_of (situation_of d.now) t)) }
+fn first_change(d: &State, t: u64) -> Option<[i64; ROW]>
+    ensures { result ≡ row_numbers (first_row (plan_of (situation_of d.now) t)) }
 {
     let mut v = view_at(d, t);
+    // By hand: it goes from due second to due second, and no list holds those.
     while v.next < END {
         let due = v.next;
         let last = v.values;
         v = view_at(d, due);
-        let values = v.values;
-        if !alike(values, last) {
-            return Answer {
-                number: 0,
-                count: 1,
-                row: row_of(due, values),
-            };
+        if !alike(v.values, last) {
+            return Some(row_of(due, v.values));
         }
     }
-    no_row(0)
+    None
 }
 
 // The first row of the plan with a second above t: 5 before the device's own second and past the end.
+#[tactic(auto, using(crate::proofs::Later::answers))]
 pub fn next_row(d: &State, t: u64) -> Answer
     ensures { result ≡ next_answer d.now t }
 {
     let own = clock(d);
     if is_late(own, t) {
-        return no_row(BAD_TIME);
+        answered(BAD_TIME, None)
+    } else {
+        answered(0, first_change(d, t))
     }
-    first_change(d, t)
 }

@@ -48,6 +48,9 @@ module _ (ws : List ℕ) (room : ℕ) where
   unfolding plain_answer plain_number
   answer-done n e h = rw (plain-length (situation_of ws) (clock_of ws), le-ltb room many (omega arith)) (ap (λ (k : ℕ). record { number = 0; count = k }) e)
 
+-- how the answer ends, for a search
+pub ruleset answers = (answer-full, answer-done)
+
 pub length-written : (ws : List ℕ) (k : ℕ) (ys : List Row) → length (written ws k ys) ≡ length ys
 unfolding written
 length-written ws zero ys = refl

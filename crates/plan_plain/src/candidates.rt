@@ -18,32 +18,30 @@ fn expiry(d: &State, i: usize, q: usize) -> u64
     ensures { result ≡ expiry_at (zones_of d.now) i q }
 {
     if id_at(d, i) == 0 {
-        return 0;
+        0
+    } else {
+        held_at(d, i, q).until
     }
-    held_at(d, i, q).until
 }
 
 // The failsafe end, END where it lies past it. The sum of any two words could pass the largest.
+#[tactic(auto, unfolding(crate::specs::Candidates::failsafe_end))]
 fn failsafe_end(since: u64, duration: u64) -> u64
     ensures { result ≡ failsafe_end since duration }
 {
-    if since < END {
-        if duration < END - since {
-            return since + duration;
-        }
-        return END;
-    }
-    END
+    since.saturating_add(duration).min(END)
 }
 
 // Candidate k: the expiries slot by slot, then the failsafe end.
+#[tactic(auto, unfolding(crate::specs::Candidates::candidate_at))]
 fn candidate(d: &State, k: usize) -> u64
     ensures { result ≡ candidate_at (situation_of d.now) k }
 {
     if k < EXPIRIES {
-        return expiry(d, k / HELDS, k % HELDS);
+        expiry(d, k / HELDS, k % HELDS)
+    } else {
+        failsafe_end(since(d), settings_at(d).duration)
     }
-    failsafe_end(since(d), settings_at(d).duration)
 }
 
 // The nearer of `best` and, where it lies past t, c.
@@ -51,13 +49,7 @@ fn candidate(d: &State, k: usize) -> u64
 fn nearer(t: u64, best: u64, c: u64) -> u64
     ensures { result ≡ nearer t best c }
 {
-    if t < c {
-        if c < best {
-            return c;
-        }
-        return best;
-    }
-    best
+    if t < c && c < best { c } else { best }
 }
 
 // The least candidate past t, END where there is none before it.
@@ -65,10 +57,8 @@ pub fn next_after(d: &State, t: u64) -> u64
     ensures { result ≡ nearest t (candidates_of (situation_of d.now)) }
 {
     let mut best = END;
-    let mut k = 0;
-    while k < CANDIDATES {
+    for k in 0..CANDIDATES {
         best = nearer(t, best, candidate(d, k));
-        k += 1;
     }
     best
 }

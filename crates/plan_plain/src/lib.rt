@@ -43,13 +43,10 @@ pub fn plain_plan(d: &State, rows: &mut [Row]) -> Planned
     ensures { (result ≡ plain_answer d.now (length rows.old)) × (rows.new ≡ plain_slice d.now rows.old) }
 {
     let p = records::planned(d, rows.len());
-    let n = p.count;
     let mut r = records::first_record(d);
-    let mut i = 0usize;
-    while i < n {
+    for i in 0..p.count {
         rows[i] = r;
         r = records::next_record(d, r);
-        i += 1;
     }
     p
 }

@@ -36,12 +36,14 @@ fn record_at(d: &State, t: u64) -> Row
 }
 
 // The record of the first row, and of the row after a record's. Past the last row it is of no use, and not written.
+#[tactic(auto, unfolding(crate::specs::Records::record_after))]
 pub fn first_record(d: &State) -> Row
     ensures { result ≡ record_after d.now (clock_of d.now) }
 {
     record_at(d, next_row(d, clock(d)))
 }
 
+#[tactic(auto, unfolding(crate::specs::Records::record_after))]
 pub fn next_record(d: &State, last: Row) -> Row
     ensures { result ≡ record_after d.now last.second }
 {
@@ -49,18 +51,20 @@ pub fn next_record(d: &State, last: Row) -> Row
 }
 
 // The answer where there is room for so many records.
+#[tactic(auto, using(crate::proofs::Fill::answers))]
 pub fn planned(d: &State, room: usize) -> Planned
     ensures { result ≡ plain_answer d.now room }
 {
     let n = count(d);
     if room < n {
-        return Planned {
+        Planned {
             number: NO_SPACE,
             count: 0,
-        };
-    }
-    Planned {
-        number: 0,
-        count: n,
+        }
+    } else {
+        Planned {
+            number: 0,
+            count: n,
+        }
     }
 }

@@ -7,7 +7,7 @@ use Rattle.plan_plain.proofs.Fill.{written-slice, none_written, next-written, fi
 use Rattle.plan_plain.proofs.plain_plan.Goals as goal
 
 pub loop-i-init : goal.loop-i-init
-loop-i-init c = (omega arith, none_written _ _, c.first_record-r.ensures ∙ first-no _)
+loop-i-init c = (none_written _ _, c.first_record-r.ensures ∙ first-no _)
 
 pub offset_bounds-rows-i : goal.offset_bounds-rows-i
 offset_bounds-rows-i c =
@@ -21,12 +21,11 @@ bounds-rows-i c =
 
 pub loop-i-preserved : goal.loop-i-preserved
 loop-i-preserved c = (
-  omega arith,
-  rw (c.loop-i.invariant.1, c.loop-i.invariant.2) (next-written _ _ _),
-  c.next_record-r.ensures ∙ rw c.loop-i.invariant.2 (next-no _ _),
+  rw (c.loop-i.invariant.0, c.loop-i.invariant.1) (next-written _ _ _),
+  c.next_record-r.ensures ∙ rw c.loop-i.invariant.1 (next-no _ _),
 )
 
 pub returns : goal.returns
 returns c =
     let all : c.loop-i.i ≡ c.planned-p.result.count = omega arith in
-    (c.planned-p.ensures, c.loop-i.invariant.1 ∙ rw (all, c.planned-p.ensures) (written-slice _ _).0)
+    (c.planned-p.ensures, c.loop-i.invariant.0 ∙ rw (all, c.planned-p.ensures) (written-slice _ _).0)

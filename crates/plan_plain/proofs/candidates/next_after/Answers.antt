@@ -10,16 +10,13 @@ use Rattle.plan_plain.proofs.Nearest.{met_more}
 use Rattle.plan_plain.proofs.candidates.next_after.Goals as goal
 
 pub loop-k-init : goal.loop-k-init
-unfolding candidates_of nearest up_to
-loop-k-init c = (omega arith, refl)
+unfolding up_to
+loop-k-init c = refl
 
 pub loop-k-preserved : goal.loop-k-preserved
-unfolding candidates_of nearest up_to
-loop-k-preserved c = (
-  omega arith,
-  met_more (situation_of c.args.d.now) c.args.t c.loop-k.k _ _ _ c.loop-k.invariant.1 c.candidate.ensures c.nearer-best.ensures,
-)
+loop-k-preserved c =
+    met_more (situation_of c.args.d.now) c.args.t c.loop-k.k _ _ _ c.loop-k.invariant c.candidate.ensures c.nearer-best.ensures
 
 pub returns : goal.returns
-unfolding candidates_of nearest up_to
-returns c = let e : c.loop-k.k ≡ expiries + 1 = omega arith in rw e at c.loop-k.invariant.1
+unfolding candidates_of nearest
+returns c = let e : c.loop-k.k ≡ expiries + 1 = omega arith in rw e at c.loop-k.invariant
