@@ -124,7 +124,7 @@ function function_name(l) { l = up_to_parameters(l); sub(/^[^@]*@"?/, "", l); su
 # a pointer that a value of two holds, as an optional reference: like one that is read, nothing is known of it
 /^  %r[0-9]+ = extractvalue \{ [^{}]+ \} %r[0-9]+, [01]$/ { line[NR] = $0; next }
 /^  %r[0-9]+ = insertvalue \{ [^{}]+ \} (%r[0-9]+|undef|poison), [a-z0-9]+ [^ ]+, [01]$/ { line[NR] = $0; next }
-/^  ret \{ [^{}]+ \} %r[0-9]+$/ { line[NR] = $0; next }
+/^  ret (ptr|\{ [^{}]+ \}) %[ar][0-9]+$/ { line[NR] = $0; next }
 is_export && /^  %r[0-9]+ = icmp eq ptr %a[0-9]+, null$/ { line[NR] = $0; next } # of a slice, which an export puts together
 /(^|[^a-z])ptr([^a-z]|$)/ { refuse("a pointer in a line of another form: " $0) }
 { line[NR] = $0 }
