@@ -29,6 +29,7 @@ pub fn read_full<R: Read>(input: &mut R, buf: &mut [u8]) -> io::Result<usize>
     ensures { ReadsAtMost result buf.new }
 {
     let mut done = 0;
+    // By hand: each read says how far it came, and the library's `read_exact` fails where the input ends.
     while done < buf.len() {
         let n = input.read(&mut buf[done..])?;
         if n == 0 {

@@ -4,7 +4,8 @@ ghost use Rattle.receiver.specs.Receive.{is_open, record_at, length_at, refusal}
 
 use wire_prefix::{FRAME, PREFIX};
 
-// `have` bytes stand in the room; once the prefix is whole the frame has `need`, and 0 before. `closed` is 0 or 1.
+// `have` bytes stand in the room; once the prefix is whole the frame has `need`, and 0 before. `closed` is 0 or 1,
+// and no bool, since C reads it as one word.
 #[repr(C)]
 #[derive(Clone, Copy)]
 pub struct Record {

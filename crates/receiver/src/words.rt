@@ -2,10 +2,10 @@
 ghost use Rattle.std.specs.Prelude.{◌≡◌};
 ghost use Rattle.std.proofs.lemmas.List.Edits.{sets};
 ghost use Rattle.receiver.specs.Receive.{received};
-ghost use Rattle.receiver.specs.Words.{record_in, record_words, words_left, counts_left};
+ghost use Rattle.receiver.specs.Words.{record_in, record_words, answer_words, words_left, counts_left};
 
 use crate::calls::step;
-use crate::record::Record;
+use crate::record::{Answer, Record};
 
 // How many words a record has: have, need, closed.
 pub const RECORD: usize = 3;
@@ -13,6 +13,7 @@ pub const RECORD: usize = 3;
 // How many words an answer has beside its number: bytes taken, length of the frame.
 pub const COUNTS: usize = 2;
 
+#[tactic(auto, unfolding(crate::specs::Words::record_in))]
 fn record_in(words: &[u64; RECORD]) -> Record
     ensures { result ≡ record_in words.now }
 {
@@ -23,12 +24,18 @@ fn record_in(words: &[u64; RECORD]) -> Record
     }
 }
 
+#[tactic(auto, unfolding(crate::specs::Words::record_words))]
 fn put_record(words: &mut [u64; RECORD], r: Record)
     ensures { words.new ≡ sets words.old 0 (record_words r) }
 {
-    words[0] = r.have as u64;
-    words[1] = r.need as u64;
-    words[2] = r.closed;
+    *words = [r.have as u64, r.need as u64, r.closed];
+}
+
+#[tactic(auto, unfolding(crate::specs::Words::answer_words))]
+fn put_counts(counts: &mut [u64; COUNTS], a: Answer)
+    ensures { counts.new ≡ sets counts.old 0 (answer_words a) }
+{
+    *counts = [a.taken as u64, a.length as u64];
 }
 
 // Takes bytes of a scrap up to the end of one frame, as `receive`; the record and the answer's counts are lent words.
@@ -43,10 +50,8 @@ pub fn receive_words(
     ensures room_after { room.new ≡ (received (record_in words.old) room.old scrap.now).room }
     ensures counts_after { counts.new ≡ counts_left counts.old words.old room.old scrap.now }
 {
-    let r = record_in(words);
-    let x = step(r, room, scrap);
+    let x = step(record_in(words), room, scrap);
     put_record(words, x.after);
-    counts[0] = x.answer.taken as u64;
-    counts[1] = x.answer.length as u64;
+    put_counts(counts, x.answer);
     x.answer.number
 }

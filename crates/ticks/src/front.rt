@@ -10,7 +10,8 @@ const END: u64 = 1099511627775;
 // A step of so many milliseconds, or more, is one back.
 const BACK: u32 = 2147483648;
 
-// Whether a reading was accepted yet; the last one that was, the seconds it gave and the milliseconds left over.
+// Whether a reading was accepted yet; the last one that was, the seconds it gave and the milliseconds left over. A flag beside
+// values and no Option: C may lend any four words, and the theorems on ticks in kernel_laws and demands name these fields.
 #[derive(Clone, Copy)]
 pub struct Front {
     pub begun: bool,

@@ -5,7 +5,7 @@ ghost use Rattle.ticks.specs.Words.{front_in, front_words, kept, answer, reading
 
 use crate::front::{Front, Reading, read_tick};
 
-// What a reading answers: 0 or the refusal number; the seconds, -1 beside a refusal.
+// What a reading answers: 0 or the refusal number; the seconds, -1 beside a refusal. Two numbers, as C gets them.
 #[derive(Clone, Copy)]
 pub struct Answer {
     pub number: u64,

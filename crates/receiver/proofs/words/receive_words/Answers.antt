@@ -4,7 +4,7 @@ use Rattle.receiver.proofs.words.receive_words.Goals as goal
 
 pub returns : goal.returns
 returns c =
-    let both =
-    worded c.args.words.now c.args.room.now c.args.scrap.now c.args.counts.now _ _ _ _ c.record_in-r.ensures c.step-x.ensures
-    c.put_record.ensures in
-    record { value = both.0; words_after = both.1.0; room_after = both.1.1.0; counts_after = both.1.1.1 }
+    let all =
+    worded c.args.words.now c.args.room.now c.args.scrap.now c.args.counts.now _ _ _ _ _ c.record_in.ensures c.step-x.ensures
+    c.put_record.ensures c.put_counts.ensures in
+    record { value = all.0; words_after = all.1; room_after = all.2; counts_after = all.3 }
