@@ -1,8 +1,0 @@
--- Each turn takes one from `turns`, so the loop ends whatever `show_head` says.
-use Rattle.rfc8949.proofs.show_heads.Given as goal
-
-abbrev pub invariant-loop-turns : goal.invariant-loop-turns
-invariant-loop-turns g l = Unit {0}
-
-abbrev pub decreases-loop-turns : goal.decreases-loop-turns
-decreases-loop-turns g l = l.turns
