@@ -1,5 +1,5 @@
 -- Who is named, from the table of links: what is shown is some zone's, or the failsafe's.
-use Rattle.std.specs.Prelude.{None, Some}
+use Rattle.std.specs.Prelude.{None, Some as Is}
 use Prim.Native.Nat.{ℕ, zero, suc, ◌+◌, ◌/◌, ◌<◌, ◌≤◌}
 use mathlib.Core.Bool.{Bool, true, false, not}
 use mathlib.Core.Logic.{◌⊎◌, inl, inr, ⊎_elim}
@@ -28,7 +28,7 @@ use Rattle.device_holders.proofs.Holding.{holds_is, is_held, holds_joined, shown
 is-current : (q : ℕ) → is_setpoint q ≡ false → is_limit q ≡ false → is_current q ≡ true
 is-current q e l = let h : 2 ≤ q = ltb-false q 2 l in le-leb 4 q (ltb-false q 4 (rw (le-leb 2 q h) at e))
 
-absent-is : {X : Type 0} {v : ℕ} → None ≡ Some v → X
+absent-is : {X : Type 0} {v : ℕ} → None ≡ Is v → X
 absent-is e = absurd (let z : ◌≡◌ {A = ℕ} 0 1 = cc in omega arith)
 
 -- an id is from 1 to 255
@@ -60,7 +60,7 @@ order_precedence x y h =
 
 module _ (s : Situation) (t q : ℕ) where
   -- THE TABLE OF LINKS: a value that is there is some zone's, or the failsafe's
-  module _ (v : ℕ) (e : value_at s t q ≡ Some v) where
+  module _ (v : ℕ) (e : value_at s t q ≡ Is v) where
     abbrev Mine : Type 0
     Mine = Some t q s.zones (λ x. (held_of x q).value ≡ v)
 
@@ -101,7 +101,7 @@ module _ (s : Situation) (t q : ℕ) where
         row d true b l k =
             let r = safe_row d in
             let w = r.2.limit q supported l in
-            let same : w.0 ≡ v = let f : Some w.0 ≡ Some v = sym w.1 ∙ e in cc in
+            let same : w.0 ≡ v = let f : Is w.0 ≡ Is v = sym w.1 ∙ e in cc in
             record {
               down = d;
               joined = r.0;
@@ -145,7 +145,7 @@ module _ (s : Situation) (t q : ℕ) where
     unfolding holder_at holder_of named
     holder_safe j = rw (e, j)
 
-    zone_named : value_at s t q ≡ Some v → is_joined best ≡ true → Some t q s.zones (NamesZone s t q v)
+    zone_named : value_at s t q ≡ Is v → is_joined best ≡ true → Some t q s.zones (NamesZone s t q v)
     zone_named is j =
         let w = is_best.held j in
         let x : Zone = get_or s.zones w.0 free_zone in
@@ -170,7 +170,7 @@ module _ (s : Situation) (t q : ℕ) where
           },
         )
 
-    safe_named : value_at s t q ≡ Some v → is_joined best ≡ false → NamesFailsafe s t q v
+    safe_named : value_at s t q ≡ Is v → is_joined best ≡ false → NamesFailsafe s t q v
     safe_named is j =
         no_zone v is (λ w. is_best.none j w.0 w.1 (is_held t q v (get_or s.zones w.0 free_zone) w.2 w.3))
         (ap (λ (k : Holder). k.until) (holder_safe j))
@@ -185,7 +185,7 @@ module _ (s : Situation) (t q : ℕ) where
   known : Known
   known = ⊎_elim (λ k. go k.0 k.1 k.2 (is_joined (best k.0 k.2)) refl) (λ e. inl (e, absent-holder e)) (shown-as (value_at s t q))
     where
-      go : (v : ℕ) → value_at s t q ≡ Some v → (e : Shows s t q v) → (b : Bool) → is_joined (best_placed (holds_value t q v) s.zones) ≡ b → Known
+      go : (v : ℕ) → value_at s t q ≡ Is v → (e : Shows s t q v) → (b : Bool) → is_joined (best_placed (holds_value t q v) s.zones) ≡ b → Known
       go v is e true j =
           let h : (holder_at s t q).who ≡ id_of (best_placed (holds_value t q v) s.zones) = ap (λ (k : Holder). k.who) (holder_zone v e j) in
           inr (inl (v, e, zone_named v e is j, omega (arith, h, joined-id _ j), omega (arith, h, small_id (best_placed (holds_value t q v) s.zones))))

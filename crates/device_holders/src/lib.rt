@@ -2,17 +2,16 @@
 #![tactic(auto)]
 
 ghost use Rattle.std.specs.Prelude.{◌≡◌, ◌+◌, ◌<◌, ltb, get_or};
-ghost use Rattle.device_store.specs.Sizes.{helds, slots, most};
+ghost use Rattle.device_store.specs.Sizes.{helds, slots};
 ghost use Rattle.device_store.specs.Zones.{up_to, free_zone, is_joined};
 ghost use Rattle.device_store.specs.Words.{zones_of};
-ghost use Rattle.device_store.specs.Smaller.{lesser};
 ghost use Rattle.device_holds.specs.Holds.{situation_of};
 ghost use Rattle.device_holders.specs.Holders.{holds_value, better_placed, best_placed, named, holder_of, holder_at, nobody, holders_answer};
 
 use device_holds::values_at;
 use device_rules::is_late;
 use device_store::{
-    HELDS, IDS, MOST, SLOTS, State, clock, held_at, id_at, precedence_at, settings_at, since,
+    HELDS, IDS, SLOTS, State, clock, held_at, id_at, precedence_at, settings_at, since,
 };
 use refusals::BAD_TIME;
 
@@ -36,18 +35,18 @@ pub const NOBODY: u64 = 0;
 
 pub const BY_FAILSAFE: u64 = IDS;
 
+const NONE: Holder = Holder {
+    who: NOBODY,
+    until: 0,
+};
+
 // Whether the zone in a slot has an own value v of quantity q that holds at t. Few have that value: it is tested first.
+#[tactic(auto, unfolding(crate::specs::Holders::holds_value, device_store::specs::Zones::is_joined))]
 fn holds_value(d: &State, slot: usize, t: u64, q: usize, v: u64) -> bool
     ensures { result ≡ holds_value t q v (get_or (zones_of d.now) slot free_zone) }
 {
     let h = held_at(d, slot, q);
-    if h.value == v {
-        if t < h.until {
-            return id_at(d, slot) != 0;
-        }
-        return false;
-    }
-    false
+    h.value == v && t < h.until && id_at(d, slot) != 0
 }
 
 // The best-placed slot so far, and slot i beside it. SLOTS is none.
@@ -73,23 +72,12 @@ fn better_placed(d: &State, best: usize, i: usize, t: u64, q: usize, v: u64) -> 
 fn best_placed(d: &State, t: u64, q: usize, v: u64) -> usize
     ensures { get_or (zones_of d.now) result free_zone ≡ best_placed (holds_value t q v) (zones_of d.now) }
 {
+    // SLOTS is none, and no Option: it reads as a free slot, so that the search and `named` need no case for it.
     let mut best = SLOTS;
-    let mut i = 0;
-    while i < SLOTS {
+    for i in 0..SLOTS {
         best = better_placed(d, best, i, t, q, v);
-        i += 1;
     }
     best
-}
-
-// The sum of any two words could pass the largest.
-fn end_of_failsafe(since: u64, duration: u64) -> u64
-    ensures { result ≡ lesser most (since + duration) }
-{
-    if since < MOST - duration {
-        return since + duration;
-    }
-    MOST
 }
 
 // The zone in a slot with the end of its value; the failsafe with its own end where no zone has it.
@@ -100,7 +88,7 @@ fn named(d: &State, q: usize, slot: usize) -> Holder
     if id == 0 {
         return Holder {
             who: BY_FAILSAFE,
-            until: end_of_failsafe(since(d), settings_at(d).duration),
+            until: since(d).saturating_add(settings_at(d).duration),
         };
     }
     Holder {
@@ -114,10 +102,7 @@ fn holder_of(d: &State, t: u64, q: usize, v: i64) -> Holder
     ensures { result ≡ holder_of (situation_of d.now) t q v }
 {
     if v < 0 {
-        return Holder {
-            who: NOBODY,
-            until: 0,
-        };
+        return NONE;
     }
     named(d, q, best_placed(d, t, q, v as u64))
 }
@@ -127,15 +112,10 @@ fn holders_at(d: &State, t: u64) -> [Holder; HELDS]
     ensures { result ≡ up_to (holder_at (situation_of d.now) t) helds }
 {
     let vs = values_at(d, t);
-    let mut hs = [Holder {
-        who: NOBODY,
-        until: 0,
-    }; HELDS];
-    let mut q = 0;
-    while q < HELDS {
+    let mut hs = [NONE; HELDS];
+    for q in 0..HELDS {
         let h = holder_of(d, t, q, vs[q + 1]);
         hs[q] = h;
-        q += 1;
     }
     hs
 }
@@ -144,14 +124,10 @@ fn holders_at(d: &State, t: u64) -> [Holder; HELDS]
 pub fn holders(d: &State, t: u64) -> Answer
     ensures { result ≡ holders_answer d.now t }
 {
-    let own = clock(d);
-    if is_late(own, t) {
+    if is_late(clock(d), t) {
         return Answer {
             number: BAD_TIME,
-            holders: [Holder {
-                who: NOBODY,
-                until: 0,
-            }; HELDS],
+            holders: [NONE; HELDS],
         };
     }
     Answer {

@@ -1,5 +1,5 @@
 -- Losing links loosens no limit: the zone that held it with a link up is joined without one, and holds it still.
-use Rattle.std.specs.Prelude.{None, Some}
+use Rattle.std.specs.Prelude.{None, Some as Is}
 use Prim.Native.Nat.{ℕ, zero, suc, ◌<◌, ◌≤◌}
 use mathlib.Core.Bool.{Bool, true, false, ◌||◌}
 use mathlib.Core.Logic.{◌⊎◌, inl, inr, ⊎_elim}
@@ -29,9 +29,9 @@ some-joined (x ∷ zs) (suc i) h e = rw (some-joined zs i (le_of_suc-le-suc h) e
     go false = refl
 
 -- an amount is there, or absent
-there_or_absent : (a : Amount) → ((w : ℕ) × (a ≡ Some w)) ⊎ (a ≡ None)
+there_or_absent : (a : Amount) → ((w : ℕ) × (a ≡ Is w)) ⊎ (a ≡ None)
 there_or_absent None = inr refl
-there_or_absent (Some w) = inl (w, refl)
+there_or_absent (Is w) = inl (w, refl)
 
 -- what is neither a power limit nor a setpoint is a current limit
 is-current : (q : ℕ) → is_setpoint q ≡ false → is_limit q ≡ false → is_current q ≡ true
@@ -50,9 +50,9 @@ losing_links lost linked same down up t h q v l e =
     go i here still value supported row (is_limit q) refl
   where
     go : (i : ℕ) → i < length lost.zones → Unexpired t q (get_or lost.zones i free_zone) → (held_of (get_or lost.zones i free_zone) q).value ≡ v
-        → supports lost.settings.directions (direction_of q) ≡ true → Failsafe lost t → (b : Bool) → is_limit q ≡ b → (w : ℕ) × (value_at lost t q ≡ Some w) × (w ≤ v)
+        → supports lost.settings.directions (direction_of q) ≡ true → Failsafe lost t → (b : Bool) → is_limit q ≡ b → (w : ℕ) × (value_at lost t q ≡ Is w) × (w ≤ v)
     go i here still value supported row true k =
-        let w : (w : ℕ) × (value_at lost t q ≡ Some w) × SmallestSource lost t q w = row.limit q supported k in
+        let w : (w : ℕ) × (value_at lost t q ≡ Is w) × SmallestSource lost t q w = row.limit q supported k in
         (w.0, w.1, omega (arith, value, w.2.first i here still))
     go i here still value supported row false k =
         let current : is_current q ≡ true = is-current q l k in

@@ -1,5 +1,5 @@
 -- The four rows of the table of links, and the control state: what `Table` promises holds in every situation, at every second.
-use Rattle.std.specs.Prelude.{None, Some}
+use Rattle.std.specs.Prelude.{None, Some as Is}
 use Prim.Native.Nat.{ℕ, ◌+◌, ◌<◌, ◌≤◌}
 use mathlib.Core.Bool.{Bool, true, false, cond, not, ◌&&◌, ◌||◌}
 use mathlib.Core.Logic.{◌↔◌, inl, inr}
@@ -15,6 +15,7 @@ use Rattle.device_store.specs.Zones.{id_of, rank_of, free_zone, any, is_joined, 
 use Rattle.device_store.specs.Quantities.{is_limit, is_setpoint, is_current, direction_of, supports}
 use Rattle.device_holds.specs.Holds.{Claim, claim_of, goes_before, winner, amount_of, Situation, in_failsafe, smallest_with, failsafe_value, value_at, present, state_at}
 use Rattle.refusals.specs.Refusals.{first_of}
+use Rattle.wire_messages.specs.Options.{Amount}
 use Rattle.device_holds.specs.Table.{Unexpired, Some, Each, SmallestLimit, NoBetter, BestSetpoint, SomeUp, SmallestSource, Failsafe, NoneUp, StateOrder, Table}
 use Rattle.device_store.specs.declared.Zone.{Zone}
 use Rattle.device_store.proofs.Tests.{never}
@@ -49,17 +50,17 @@ current-no_limit : (q : ℕ) → is_current q ≡ true → is_limit q ≡ false
 current-no_limit q e = let h : 4 ≤ q = leb-true 4 q e in le-ltb q 2 (omega arith)
 
 -- what an amount tells of its claim
-amount-there : (c : Claim) (v : ℕ) → amount_of c ≡ Some v → (c.there ≡ true) × (c.value ≡ v)
+amount-there : (c : Claim) (v : ℕ) → amount_of c ≡ Is v → (c.there ≡ true) × (c.value ≡ v)
 amount-there c v = go c.there refl
   where
-    go : (b : Bool) → c.there ≡ b → cond b (Some c.value) None ≡ Some v → (c.there ≡ true) × (c.value ≡ v)
+    go : (b : Bool) → c.there ≡ b → cond b (Is c.value) None ≡ Is v → (c.there ≡ true) × (c.value ≡ v)
     go true e f = (e, cc)
     go false e f = let z : ◌≡◌ {A = ℕ} 0 1 = cc in absurd (omega arith)
 
 amount-none : (c : Claim) → amount_of c ≡ None → c.there ≡ false
 amount-none c = go c.there refl
   where
-    go : (b : Bool) → c.there ≡ b → cond b (Some c.value) None ≡ None → b ≡ false
+    go : (b : Bool) → c.there ≡ b → cond b (Is c.value) None ≡ None → b ≡ false
     go true e f = let z : ◌≡◌ {A = ℕ} 0 1 = cc in absurd (omega arith)
     go false e f = refl
 
@@ -90,13 +91,13 @@ module _ (s : Situation) (t : ℕ) where
 
   -- A VALUE FROM THE BEST CLAIM, as in the first row
   module _ (q : ℕ) (from : supported q ≡ true → value_at s t q ≡ amount_of (best q)) where
-    claimed : (v : ℕ) → value_at s t q ≡ Some v → (supported q ≡ true) × ((best q).there ≡ true) × ((best q).value ≡ v)
+    claimed : (v : ℕ) → value_at s t q ≡ Is v → (supported q ≡ true) × ((best q).there ≡ true) × ((best q).value ≡ v)
     claimed v f = go (supported q) refl
       where
         go : (b : Bool) → supported q ≡ b → (supported q ≡ true) × ((best q).there ≡ true) × ((best q).value ≡ v)
         go true e = let b : ((best q).there ≡ true) × ((best q).value ≡ v) = amount-there (best q) v (sym (from e) ∙ f) in (e, b.0, b.1)
         go false e =
-            let none : None ≡ Some v = sym (unsupported-absent q e) ∙ f in
+            let none : None ≡ Is v = sym (unsupported-absent q e) ∙ f in
             let z : ◌≡◌ {A = ℕ} 0 1 = cc in
             absurd (omega arith)
 
@@ -120,7 +121,7 @@ module _ (s : Situation) (t : ℕ) where
     unfolding value_at
     from-best e = rw (e, up)
 
-    pub value_there : (v : ℕ) → value_at s t q ≡ Some v → (supported q ≡ true) × ((best q).there ≡ true) × ((best q).value ≡ v)
+    pub value_there : (v : ℕ) → value_at s t q ≡ Is v → (supported q ≡ true) × ((best q).there ≡ true) × ((best q).value ≡ v)
     value_there = claimed q from-best
 
     pub smallest_limit : is_setpoint q ≡ false → SmallestLimit s t q
@@ -181,7 +182,7 @@ module _ (s : Situation) (t : ℕ) where
     unfolding value_at failsafe_value
     setpoint-absent r q l = rw (down, r, setpoint-no_limit q l, l) (go (supported q))
       where
-        go : (b : Bool) → cond b None None ≡ None
+        go : (b : Bool) → ◌≡◌ {A = Amount} (cond b None None) None
         go true = refl
         go false = refl
 
@@ -205,7 +206,7 @@ module _ (s : Situation) (t : ℕ) where
     unfolding value_at
     out_of_row r q = rw (down, r) (go (supported q))
       where
-        go : (b : Bool) → cond b None None ≡ None
+        go : (b : Bool) → ◌≡◌ {A = Amount} (cond b None None) None
         go true = refl
         go false = refl
 
@@ -229,7 +230,7 @@ module _ (s : Situation) (t : ℕ) where
   unfolding value_at in_failsafe
   none-joined e q = rw (joined-first s.zones e, e) (go (supported q))
     where
-      go : (b : Bool) → cond b None None ≡ None
+      go : (b : Bool) → ◌≡◌ {A = Amount} (cond b None None) None
       go true = refl
       go false = refl
 

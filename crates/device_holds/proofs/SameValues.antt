@@ -1,19 +1,15 @@
--- The test for equal values says whether two lists are equal; and the loop that makes it.
-use Prim.Native.Nat.{ℕ, suc, ◌+◌, ◌<◌, ◌≤◌}
+-- The test for equal values says whether two lists are equal.
+use Prim.Native.Nat.{ℕ}
 use mathlib.Core.Bool.{Bool, true, false, cond, ◌&&◌}
-use mathlib.Core.Path.{◌≡◌, refl, sym, ap, ◌∙◌, subst}
+use mathlib.Core.Path.{◌≡◌, refl, ap, ◌∙◌, subst}
 use mathlib.Core.Logic.{ite, if_pos, if_neg}
 use mathlib.Core.List.{List, [], ◌∷◌, List-discrete}
-use native.Mathlib.Numerals.{add-one}
 use native.Mathlib.Omega.{arith}
-use lib.Dec.{eqb}
 use lib.IntN.{ℤ, pos, negsuc, ℤ_discrete}
-use lib.ListN.{length, get_or, drop, drop_of_length-le}
-use lib.Seq.{drop-cons}
-use mir.Val.{to_z, of_z, SFits}
-use mir.ValLaws.{to_z-of_z}
-use mir.Syntax.{w64}
-use borrow.Author.Tests.{eqb-true, eq-eqb, ne_eqb}
+use lib.Pointwise.{pointwise}
+use Rattle.std.specs.Ordering.{int_eq}
+use Rattle.std.specs.Cmp.{signed_Decides}
+use borrow.Author.Tests.{eqb-true, eq-eqb}
 use Rattle.device_holds.specs.Alike.{same_number, alike}
 
 number_same : (a : ℤ) → same_number a a ≡ true
@@ -56,32 +52,25 @@ by_test l k x y = go (alike l k) refl
         x
         y
 
--- two words hold the same bits where they hold the same number
-pub same_bits : (a b : ℤ) → SFits w64 a → SFits w64 b → eqb (of_z w64 a) (of_z w64 b) ≡ same_number a b
-same_bits a b f g = go (same_number a b) refl
+-- the library's equality of arrays is the test
+int-same : (a b : ℤ) → int_eq a b ≡ same_number a b
+int-same a b = go (int_eq a b) (same_number a b) refl refl
   where
-    go : (r : Bool) → same_number a b ≡ r → eqb (of_z w64 a) (of_z w64 b) ≡ r
-    go true e = eq-eqb (of_z w64 a) (of_z w64 b) (ap (of_z w64) (same_number_lem a b e))
-    go false e =
-        ne_eqb (of_z w64 a) (of_z w64 b)
-        (λ q.
-        let p : a ≡ b = sym (to_z-of_z w64 a f) ∙ ap (to_z w64) q ∙ to_z-of_z w64 b g in
+    go : (r s : Bool) → int_eq a b ≡ r → same_number a b ≡ s → r ≡ s
+    go true true e f = refl
+    go false false e f = refl
+    go true false e f =
+        let p : a ≡ b = (signed_Decides a b).0 e in
         let s : same_number a b ≡ true = subst (λ (v : ℤ). same_number a v ≡ true) p (number_same a) in
-        let z : ◌≡◌ {A = ℕ} 0 1 = cc in
-        omega arith)
+        absurd (let z : ◌≡◌ {A = ℕ} 0 1 = cc in omega arith)
+    go false true e f =
+        let s : int_eq a b ≡ true = (signed_Decides a b).1 (same_number_lem a b f) in
+        absurd (let z : ◌≡◌ {A = ℕ} 0 1 = cc in omega arith)
 
--- the loop: what is left is alike where all is
-module _ (l k : List ℤ) (i : ℕ) (left : alike (drop i l) (drop i k) ≡ alike l k) where
-  alike-here : i < length l → i < length k → (same_number (get_or l i (pos 0)) (get_or k i (pos 0)) && alike (drop (suc i) l) (drop (suc i) k)) ≡ alike l k
-  unfolding alike
-  alike-here h g = rw (drop-cons l i (pos 0) h, drop-cons k i (pos 0) g) at left
-
-  pub alike-turn : i < length l → i < length k → true ≡ same_number (get_or l i (pos 0)) (get_or k i (pos 0)) → alike (drop (i + 1) l) (drop (i + 1) k) ≡ alike l k
-  alike-turn h g e = rw (add-one) (rw (sym e) at (alike-here h g))
-
-  pub alike-stop : i < length l → i < length k → false ≡ same_number (get_or l i (pos 0)) (get_or k i (pos 0)) → false ≡ alike l k
-  alike-stop h g e = rw (sym e) at (alike-here h g)
-
-  pub alike_end : length l ≤ i → length k ≤ i → true ≡ alike l k
-  unfolding alike
-  alike_end h g = rw (drop_of_length-le l h, drop_of_length-le k g) at left
+pub alike-pointwise : (l k : List ℤ) → pointwise int_eq l k ≡ alike l k
+unfolding alike
+alike-pointwise [] [] = refl
+alike-pointwise [] (b ∷ k) = refl
+alike-pointwise (a ∷ l) [] = refl
+alike-pointwise (a ∷ l) (b ∷ k) =
+    ap (λ (s : Bool). s && pointwise int_eq l k) (int-same a b) ∙ ap (λ (s : Bool). same_number a b && s) (alike-pointwise l k)

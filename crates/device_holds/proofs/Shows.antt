@@ -130,7 +130,7 @@ module _ (s : Situation) (t : ℕ) where
     unfolding value_at
     absent-down q e = rw (down, failsafe_is, e) (go (supports has (direction_of q)))
       where
-        go : (a : Bool) → cond a None None ≡ None
+        go : (a : Bool) → ◌≡◌ {A = Amount} (cond a None None) None
         go true = refl
         go false = refl
 

@@ -6,8 +6,8 @@ use mathlib.Core.List.{List, [], ◌∷◌}
 use native.Mathlib.Decide.{dec_lt}
 use native.Mathlib.Nat.{le_of_suc-le-suc, not-suc-le-zero}
 use native.Mathlib.Omega.{arith}
-use lib.ListN.{length, get_or, set, length-set, get_or-eq_default}
-use lib.Seq.{set_out, get_or-set_same}
+use lib.ListN.{length, get_or, set}
+use lib.Seq.{set_out}
 use Rattle.device_store.specs.Zones.{id_of, free_zone, any, is_joined, is_up, any_up}
 use Rattle.device_holds.specs.Links.{since_after}
 use Rattle.device_store.specs.declared.Zone.{Zone}
@@ -43,13 +43,6 @@ module _ {A : Type 0} (p : A → Bool) where
       go true false c = refl
       go false true c = refl
       go false false c = refl
-
-pub freed : (zs : List Zone) (i j : ℕ) → j ≡ i → get_or (set zs i free_zone) j free_zone ≡ free_zone
-freed zs i j e =
-    elim (dec_lt i (length zs)) [
-      | yes h ↦ rw e (get_or-set_same zs i free_zone free_zone h)
-      | no h ↦ get_or-eq_default (set zs i free_zone) free_zone {n = j} (rw length-set (omega arith))
-    ]
 
 module _ (zs : List Zone) (i t s : ℕ) where
   -- a change that leaves its zone up leaves the second

@@ -1,5 +1,5 @@
 -- What the table of links promises, in the tender's words: one statement for all quantities and directions.
-use Rattle.std.specs.Prelude.{ℕ, ◌+◌, ◌<◌, ◌≤◌, true, false, not, ◌||◌, ◌⊎◌, ◌↔◌, ◌≡◌, List, [], ◌∷◌, eqb, length, get_or, None, Some}
+use Rattle.std.specs.Prelude.{ℕ, ◌+◌, ◌<◌, ◌≤◌, true, false, not, ◌||◌, ◌⊎◌, ◌↔◌, ◌≡◌, List, [], ◌∷◌, eqb, length, get_or, None, Some as Is}
 use Rattle.refusals.specs.States.{CONTROLLED, LIMITED, FAILSAFE, OVERRIDE}
 use Rattle.device_store.specs.Quantities.{is_limit, is_setpoint, is_current, direction_of, supports}
 use Rattle.device_store.specs.Zones.{id_of, rank_of, free_zone, is_joined, any_joined, any_up, held_of}
@@ -27,7 +27,7 @@ pub record Wins (t q : ℕ) (zs : List Zone) : Type 0 where
 -- "smallest unexpired of all joined zones": power limits and current limits
 abbrev pub SmallestLimit : Situation → ℕ → ℕ → Type 0
 SmallestLimit s t q =
-    (v : ℕ) → value_at s t q ≡ Some v → Some t q s.zones (λ x. (held_of x q).value ≡ v) × Each t q s.zones (λ y. v ≤ (held_of y q).value)
+    (v : ℕ) → value_at s t q ≡ Is v → Some t q s.zones (λ x. (held_of x q).value ≡ v) × Each t q s.zones (λ y. v ≤ (held_of y q).value)
 
 -- "from the best rank that has one; equal rank, smaller id"
 abbrev pub NoBetter : Zone → Zone → Type 0
@@ -35,7 +35,7 @@ NoBetter x y = (rank_of x < rank_of y) ⊎ ((rank_of x ≡ rank_of y) × (id_of 
 
 abbrev pub BestSetpoint : Situation → ℕ → ℕ → Type 0
 BestSetpoint s t q =
-    (v : ℕ) → value_at s t q ≡ Some v → Some t q s.zones (λ x. ((held_of x q).value ≡ v) × Each t q s.zones (λ y. NoBetter x y))
+    (v : ℕ) → value_at s t q ≡ Is v → Some t q s.zones (λ x. ((held_of x q).value ≡ v) × Each t q s.zones (λ y. NoBetter x y))
 
 -- the first row: "some zone up"; absent exactly when no joined zone has an unexpired value
 pub record SomeUp (s : Situation) (t q : ℕ) : Type 0 where
@@ -52,7 +52,7 @@ pub record SmallestSource (s : Situation) (t q v : ℕ) : Type 0 where
 -- the second row: in a supported direction there is a limit; setpoints are absent; current limits hold as in the first row
 pub record Failsafe (s : Situation) (t : ℕ) : Type 0 where
   pub state : state_at s t ≡ FAILSAFE
-  pub limit : (q : ℕ) → supports s.settings.directions (direction_of q) ≡ true → is_limit q ≡ true → (v : ℕ) × (value_at s t q ≡ Some v) × SmallestSource s t q v
+  pub limit : (q : ℕ) → supports s.settings.directions (direction_of q) ≡ true → is_limit q ≡ true → (v : ℕ) × (value_at s t q ≡ Is v) × SmallestSource s t q v
   pub setpoint : (q : ℕ) → is_setpoint q ≡ true → value_at s t q ≡ None
   pub current : (q : ℕ) → is_current q ≡ true → SmallestLimit s t q
   pub absent : (q : ℕ) → is_current q ≡ true → supports s.settings.directions (direction_of q) ≡ true → (value_at s t q ≡ None) ↔ Each t q s.zones (λ x. ⊥)
@@ -94,7 +94,7 @@ abbrev pub LosingLinks : Type 0
 LosingLinks =
     (lost linked : Situation) → ButForLinks lost linked → any_up lost.zones ≡ false → any_up linked.zones ≡ true
     → (t : ℕ) → t < lost.since + lost.settings.duration
-    → (q v : ℕ) → is_setpoint q ≡ false → value_at linked t q ≡ Some v → (w : ℕ) × (value_at lost t q ≡ Some w) × (w ≤ v)
+    → (q v : ℕ) → is_setpoint q ≡ false → value_at linked t q ≡ Is v → (w : ℕ) × (value_at lost t q ≡ Is w) × (w ≤ v)
 
 -- two situations that differ in current limits and setpoints alone
 pub record ButForCurrents (a b : Situation) : Type 0 where

@@ -5,7 +5,7 @@ ghost use Rattle.std.specs.Prelude.{◌≡◌};
 ghost use Rattle.device_rules.specs.Rules.{late, bad_join, go_together};
 ghost use Rattle.device_rules.specs.Rules.{bad_maximum, outside, bad_settings};
 
-use device_store::{END, MOST, Settings, VALUE_END};
+use device_store::{END, IDS, MOST, Settings, VALUE_END};
 
 // The lowest rank; the highest is 1.
 const RANKS: u64 = 3;
@@ -22,17 +22,11 @@ pub fn is_late(clock: u64, t: u64) -> bool
 }
 
 // 6: an id outside 1 to 255, or a rank outside 1 to 3.
-#[tactic(auto, unfolding(crate::specs::Rules::bad_join))]
+#[tactic(auto, unfolding(crate::specs::Rules::bad_join, crate::specs::Rules::outside))]
 pub fn is_bad_join(zone: u64, rank: u64) -> bool
     ensures { result ≡ bad_join zone rank }
 {
-    if zone < 1 {
-        return true;
-    }
-    if 255 < zone {
-        return true;
-    }
-    rank < 1 || RANKS < rank
+    is_outside(1, zone, IDS - 1) || is_outside(1, rank, RANKS)
 }
 
 // Whether an override's reason goes with its direction; else 18. Reasons 3 and 4 are for an energy manager alone.
@@ -40,19 +34,13 @@ pub fn is_bad_join(zone: u64, rank: u64) -> bool
 pub fn go_together(manager: bool, reason: u64, direction: u64) -> bool
     ensures { result ≡ go_together manager reason direction }
 {
-    if reason < 2 {
-        return direction == 0;
+    match reason {
+        0 | 1 => direction == 0,
+        2 => direction < 2,
+        3 => manager && direction == 0,
+        4 => manager && direction == 1,
+        _ => false,
     }
-    if reason == 2 {
-        return direction < 2;
-    }
-    if manager {
-        if reason == 3 {
-            return direction == 0;
-        }
-        return reason == 4 && direction == 1;
-    }
-    false
 }
 
 #[tactic(auto, unfolding(crate::specs::Rules::bad_maximum))]
@@ -74,31 +62,13 @@ fn is_outside(low: u64, v: u64, high: u64) -> bool
 pub fn is_bad_settings(s: Settings) -> bool
     ensures { result ≡ bad_settings s }
 {
-    let maxima = s.maxima;
-    let failsafe = s.failsafe;
-    if 2 < s.directions {
-        return true;
-    }
-    if VALUE_END <= s.minimum {
-        return true;
-    }
-    if is_bad_maximum(maxima[0]) {
-        return true;
-    }
-    if is_bad_maximum(maxima[1]) {
-        return true;
-    }
-    if VALUE_END <= failsafe[0] {
-        return true;
-    }
-    if VALUE_END <= failsafe[1] {
-        return true;
-    }
-    if is_outside(7200, s.duration, 86400) {
-        return true;
-    }
-    if is_outside(1, s.phases, MOST_PHASES) {
-        return true;
-    }
-    maxima[0] < s.minimum
+    2 < s.directions
+        || VALUE_END <= s.minimum
+        || is_bad_maximum(s.maxima[0])
+        || is_bad_maximum(s.maxima[1])
+        || VALUE_END <= s.failsafe[0]
+        || VALUE_END <= s.failsafe[1]
+        || is_outside(7200, s.duration, 86400)
+        || is_outside(1, s.phases, MOST_PHASES)
+        || s.maxima[0] < s.minimum
 }

@@ -27,3 +27,14 @@ nearer-far cur r e h = go (ltb cur e)
     go : (b : Bool) → r ≡ cond (b && ltb e r) e r
     go true = rw (le-ltb e r h)
     go false = refl
+
+-- of two ends that differ only where neither lies before r, the nearer is the same
+pub nearer-same : (cur r a b : ℕ) → (a < r → a ≡ b) → (b < r → a ≡ b) → nearer cur r a ≡ nearer cur r b
+nearer-same cur r a b f g =
+    elim (dec_lt a r) [
+      | yes h ↦ let e : a ≡ b = f h in rw e
+      | no h ↦ elim (dec_lt b r) [
+        | yes k ↦ let e : a ≡ b = g k in rw e
+        | no k ↦ sym (nearer-far cur r a (omega arith)) ∙ nearer-far cur r b (omega arith)
+      ]
+    ]

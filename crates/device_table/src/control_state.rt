@@ -12,22 +12,21 @@ pub fn state_up(overridden: u64, a: i64, b: i64) -> i64
     if overridden != 0 {
         return OVERRIDE;
     }
-    if 0 <= a {
-        return LIMITED;
+    if 0 <= a || 0 <= b {
+        LIMITED
+    } else {
+        CONTROLLED
     }
-    if 0 <= b {
-        return LIMITED;
-    }
-    CONTROLLED
 }
 
 // With no value, no zone up.
+#[tactic(auto, unfolding(crate::specs::States::state_down))]
 pub fn state_down(overridden: u64) -> i64
     ensures { result ≡ state_down overridden }
 {
-    if overridden != 0 {
-        OVERRIDE
-    } else {
+    if overridden == 0 {
         AUTONOMOUS
+    } else {
+        OVERRIDE
     }
 }

@@ -14,25 +14,25 @@ use device_store::{
 };
 
 // A value at the edges: -1 where it is absent, or too large to be one.
+#[tactic(auto, unfolding(crate::specs::Edges::shown))]
 pub fn shown(a: Option<u64>) -> i64
     ensures { result ≡ shown a }
 {
     match a {
-        None => -1,
-        Some(v) => if v < VALUE_END { v as i64 } else { -1 },
+        Some(v) if v < VALUE_END => v as i64,
+        _ => -1,
     }
 }
 
 // The first number that is not shown in a direction: 0 where it is not supported.
+#[tactic(auto, unfolding(crate::specs::Leaves::top_of))]
 fn top_of(has: u64, d: u64) -> u64
     ensures { result ≡ top_of has d }
 {
-    if supports(has, d) {
-        return VALUE_END;
-    }
-    0
+    if supports(has, d) { VALUE_END } else { 0 }
 }
 
+#[tactic(auto, unfolding(crate::specs::Leaves::shown_below))]
 fn shown_below(top: u64, v: u64) -> i64
     requires { top ≤ value_end }
     ensures { result ≡ shown_below top v }
@@ -41,6 +41,7 @@ fn shown_below(top: u64, v: u64) -> i64
 }
 
 // What the passes have met for quantity q.
+#[tactic(auto, unfolding(crate::specs::Leaves::number_in))]
 fn number_of(low: [u64; LOWEST_VALUES], lead: [u64; LEADING_SETPOINTS], q: usize) -> u64
     requires { q < helds }
     ensures { result ≡ number_in low lead q }
@@ -60,10 +61,8 @@ pub fn row(has: u64, low: [u64; LOWEST_VALUES], lead: [u64; LEADING_SETPOINTS]) 
 {
     let tops = [top_of(has, 0), top_of(has, 1)];
     let mut v = [-1; VALUES];
-    let mut q = 0;
-    while q < HELDS {
+    for q in 0..HELDS {
         v[q + 1] = shown_below(tops[q % 2], number_of(low, lead, q));
-        q += 1;
     }
     v
 }
@@ -72,33 +71,19 @@ pub fn row(has: u64, low: [u64; LOWEST_VALUES], lead: [u64; LEADING_SETPOINTS]) 
 pub fn failsafe_holds(since: u64, duration: u64, t: u64) -> bool
     ensures { result ≡ ltb t (since + duration) }
 {
-    if t < since {
-        return true;
-    }
-    t - since < duration
+    t < since || t - since < duration
 }
 
+#[tactic(auto, unfolding(device_store::specs::Smaller::nearer))]
 fn nearer(cur: u64, r: u64, e: u64) -> u64
     ensures { result ≡ nearer cur r e }
 {
-    if cur < e {
-        if e < r {
-            return e;
-        }
-        return r;
-    }
-    r
+    if cur < e && e < r { e } else { r }
 }
 
-// A failsafe that ends past the end of time does not end. The sum of any two words could pass the largest.
+// A failsafe that ends past the end of time does not end, so a sum past the largest word may stay at that word.
 pub fn failsafe_end(since: u64, duration: u64, cur: u64) -> u64
     ensures { result ≡ nearer cur end (since + duration) }
 {
-    if since < END {
-        if duration < END - since {
-            return nearer(cur, END, since + duration);
-        }
-        return END;
-    }
-    END
+    nearer(cur, END, since.saturating_add(duration))
 }

@@ -13,9 +13,7 @@ use refusals::FAILSAFE;
 pub fn values_up(d: &State, a: LowestValues, b: LeadingSetpoints) -> [i64; VALUES]
     ensures { result ≡ values_up (settings_of d.now).directions (override_of d.now) a.low b.lead }
 {
-    let low = a.low;
-    let lead = b.lead;
-    let mut v = row(settings_at(d).directions, low, lead);
+    let mut v = row(settings_at(d).directions, a.low, b.lead);
     v[0] = state_up(overridden(d), v[1], v[2]);
     v
 }

@@ -11,16 +11,15 @@ use Rattle.device_holders.proofs.best_placed.Goals as goal
 
 pub loop-i-init : goal.loop-i-init
 unfolding best_placed is_joined id_of
-loop-i-init c = rw (zones_past c.args.d.now slots (omega arith)) (omega arith, refl, refl)
+loop-i-init c = rw (zones_past c.args.d.now slots (omega arith)) (refl, refl)
 
 pub loop-i-preserved : goal.loop-i-preserved
 loop-i-preserved c = (
-  omega arith,
   fold_turn _ (zones_of c.args.d.now) free_zone c.loop-i.i _ _ _ (omega (arith, zones_length c.args.d.now))
-      c.loop-i.invariant.1 c.better_placed-best.ensures.placed,
+      c.loop-i.invariant.0 c.better_placed-best.ensures.placed,
   c.better_placed-best.ensures.placed_joined,
 )
 
 pub returns : goal.returns
 returns c =
-    fold_end _ (zones_of c.args.d.now) c.loop-i.i _ _ (omega (arith, zones_length c.args.d.now)) c.loop-i.invariant.1
+    fold_end _ (zones_of c.args.d.now) c.loop-i.i _ _ (omega (arith, zones_length c.args.d.now)) c.loop-i.invariant.0

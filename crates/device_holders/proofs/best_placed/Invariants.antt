@@ -1,5 +1,4 @@
 -- The fold of what is left, from the slot met so far, is the fold of all; below SLOTS that slot is a zone's.
-use Prim.Native.Nat.{◌-◌, ◌≤◌}
 use mathlib.Core.Path.{◌≡◌}
 use mathlib.Core.List.{foldl}
 use lib.Dec.{ltb}
@@ -12,9 +11,5 @@ use Rattle.device_holders.proofs.best_placed.Given as goal
 
 abbrev pub invariant-loop-i : goal.invariant-loop-i
 invariant-loop-i l =
-    (l.i ≤ slots)
-    × (foldl (better_placed (holds_value l.t l.q l.v)) (get_or (zones_of l.d) l.best free_zone) (drop l.i (zones_of l.d)) ≡ best_placed (holds_value l.t l.q l.v) (zones_of l.d))
+    (foldl (better_placed (holds_value l.t l.q l.v)) (get_or (zones_of l.d) l.best free_zone) (drop l.i (zones_of l.d)) ≡ best_placed (holds_value l.t l.q l.v) (zones_of l.d))
     × (is_joined (get_or (zones_of l.d) l.best free_zone) ≡ ltb l.best slots)
-
-abbrev pub decreases-loop-i : goal.decreases-loop-i
-decreases-loop-i l = slots - l.i

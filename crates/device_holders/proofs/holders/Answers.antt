@@ -10,9 +10,9 @@ use Rattle.device_holders.proofs.holders.Goals as goal
 pub returns-then-is_late : goal.returns-then-is_late
 unfolding holders_answer holders_number first_of
 returns-then-is_late c =
-    rw (via (c.is_late.ensures ∙ ap (λ (n : ℕ). late n c.args.t) c.clock-own.ensures) c.if-is_late.true)
+    rw (via (c.is_late.ensures ∙ ap (λ (n : ℕ). late n c.args.t) c.clock.ensures) c.if-is_late.true)
 
 pub returns : goal.returns
 unfolding holders_answer holders_number first_of
 returns c =
-    rw (via (c.is_late.ensures ∙ ap (λ (n : ℕ). late n c.args.t) c.clock-own.ensures) c.if-is_late.false, c.holders_at.ensures)
+    rw (via (c.is_late.ensures ∙ ap (λ (n : ℕ). late n c.args.t) c.clock.ensures) c.if-is_late.false, c.holders_at.ensures)

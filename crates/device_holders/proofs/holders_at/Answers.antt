@@ -16,14 +16,13 @@ use Rattle.device_holders.proofs.holders_at.Goals as goal
 
 pub loop-q-init : goal.loop-q-init
 unfolding up_to
-loop-q-init c = (omega arith, refl, refl)
+loop-q-init c = (refl, refl)
 
 pub loop-q-preserved : goal.loop-q-preserved
 loop-q-preserved c =
     let s : Situation = situation_of c.args.d.now in
     let f : SFits w64 (get_or c.values_at-vs.result (c.loop-q.q + 1) (pos 0)) = search rules in
     let h = holder_turn s c.args.t c.loop-q.q _ _ c.values_at-vs.ensures (omega arith) refl f.sfits _ c.holder_of-h.ensures in (
-      omega arith,
-      simp length-set c.loop-q.invariant.1,
-      fill_turn (holder_at s c.args.t) c.loop-q.hs c.loop-q.q _ (omega arith) c.loop-q.invariant.2 h,
+      simp length-set c.loop-q.invariant.0,
+      fill_turn (holder_at s c.args.t) c.loop-q.hs c.loop-q.q _ (omega arith) c.loop-q.invariant.1 h,
     )

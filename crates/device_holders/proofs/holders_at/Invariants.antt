@@ -1,5 +1,4 @@
 -- The holders before q are those of the definition; a turn adds the next.
-use Prim.Native.Nat.{◌-◌, ◌≤◌}
 use mathlib.Core.Path.{◌≡◌}
 use lib.ListN.{length, take}
 use Rattle.device_store.specs.Sizes.{helds}
@@ -10,7 +9,4 @@ use Rattle.device_holders.proofs.holders_at.Given as goal
 
 abbrev pub invariant-loop-q : goal.invariant-loop-q
 invariant-loop-q l =
-    (l.q ≤ helds) × (length l.hs ≡ helds) × (take l.q l.hs ≡ up_to (holder_at (situation_of l.d) l.t) l.q)
-
-abbrev pub decreases-loop-q : goal.decreases-loop-q
-decreases-loop-q l = helds - l.q
+    (length l.hs ≡ helds) × (take l.q l.hs ≡ up_to (holder_at (situation_of l.d) l.t) l.q)

@@ -1,6 +1,7 @@
 -- No zone has a free slot: the failsafe is named.
 use borrow.Author.Tests.{eq-eqb}
 use Rattle.device_store.specs.Zones.{is_joined}
+use Rattle.device_store.proofs.Smaller.{lesser-swap, lesser-min}
 use Rattle.device_store.proofs.Tests.{via}
 use Rattle.device_holders.specs.Holders.{named}
 use Rattle.device_holders.proofs.Places.{named-zone}
@@ -9,7 +10,7 @@ use Rattle.device_holders.proofs.named.Goals as goal
 pub returns-then-id-eq0 : goal.returns-then-id-eq0
 unfolding named is_joined
 returns-then-id-eq0 c =
-    rw (eq-eqb _ _ (via c.id_at-id.ensures c.if-id-eq0.true), c.end_of_failsafe.ensures, c.since.ensures, c.settings_at.ensures)
+    rw (eq-eqb _ _ (via c.id_at-id.ensures c.if-id-eq0.true), c.saturating_add.ensures, c.since.ensures, c.settings_at.ensures, lesser-swap, lesser-min)
 
 pub returns : goal.returns
 returns c =

@@ -1,10 +1,8 @@
--- A sum that could pass the end of time is not taken.
+-- A sum past the largest word lies past the end of time, as that word does.
+use mathlib.Core.Path.{◌∙◌}
 use native.Mathlib.Omega.{arith}
-use Rattle.device_table.proofs.Ends.{nearer-far}
+use Rattle.device_table.proofs.Ends.{nearer-same}
 use Rattle.device_table.proofs.leaves.failsafe_end.Goals as goal
 
-pub returns-then-since-lt-END : goal.returns-then-since-lt-END
-returns-then-since-lt-END c = nearer-far _ _ _ (omega arith)
-
 pub returns : goal.returns
-returns c = nearer-far _ _ _ (omega arith)
+returns c = c.nearer.ensures ∙ nearer-same _ _ _ _ (λ h. omega arith) (λ h. omega arith)

@@ -1,5 +1,5 @@
 -- Each turn shows one quantity, below the bound of its direction.
-use Prim.Native.Nat.{◌-◌, ◌+◌, ◌≤◌}
+use Prim.Native.Nat.{◌+◌}
 use mathlib.Core.Path.{◌≡◌}
 use mathlib.Core.List.{[], ◌∷◌}
 use lib.ListN.{length}
@@ -9,7 +9,4 @@ use Rattle.device_table.proofs.leaves.row.Given as goal
 
 abbrev pub invariant-loop-q : goal.invariant-loop-q
 invariant-loop-q l =
-    (l.q ≤ helds) × (l.tops ≡ top_of l.has 0 ∷ top_of l.has 1 ∷ []) × (length l.v ≡ 1 + helds) × Filled (shown_in l.has l.low l.lead) l.v l.q
-
-abbrev pub decreases-loop-q : goal.decreases-loop-q
-decreases-loop-q l = helds - l.q
+    (l.tops ≡ top_of l.has 0 ∷ top_of l.has 1 ∷ []) × (length l.v ≡ 1 + helds) × Filled (shown_in l.has l.low l.lead) l.v l.q

@@ -1,8 +1,0 @@
--- The given record stands in its own slot, every other slot as it is.
-use Rattle.device_store.proofs.Placed.{placed_here}
-use Rattle.device_holds.proofs.links.up_with.Goals as goal
-
-pub returns-then-i-slot : goal.returns-then-i-slot
-returns-then-i-slot c =
-    rw (placed_here c.args.d.now c.args.slot c.args.zone c.args.i c.requires
-    c.if-i-slot.true)
