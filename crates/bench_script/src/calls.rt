@@ -3,7 +3,7 @@ ghost use Rattle.std.specs.Prelude.{◌≡◌, ◌+◌, ◌≤◌, length};
 ghost use Rattle.bench_script.specs.Runs.{call_of, call_leaves, record_leaves, step_leaves, step_answer};
 
 use bench_records::{Record, read_record};
-use kernel::State;
+use kernel::{State, number_in};
 use wire_bytes::byte_at;
 
 // The frame's bytes stand beside the call.
@@ -66,10 +66,10 @@ fn run(d: &mut State, t: u64, c: Call, bytes: &[u8], out: &mut [u8], rows: &mut 
         ≡ call_leaves d.old t bytes.now out.old rows.old c }
 {
     match c {
-        Call::Join(zone, rank) => alone(kernel::join(d, zone, rank, t)),
-        Call::Leave(zone) => alone(kernel::leave(d, zone, t)),
-        Call::Lost(zone) => alone(kernel::lost(d, zone, t)),
-        Call::Back(zone) => alone(kernel::back(d, zone, t)),
+        Call::Join(zone, rank) => alone(number_in(kernel::join(d, zone, rank, t))),
+        Call::Leave(zone) => alone(number_in(kernel::leave(d, zone, t))),
+        Call::Lost(zone) => alone(number_in(kernel::lost(d, zone, t))),
+        Call::Back(zone) => alone(number_in(kernel::back(d, zone, t))),
         Call::Frame(zone) => alone(kernel::frame(d, zone, t, bytes, out).number),
         Call::Plan => {
             let x = kernel::plan(d, rows);
@@ -78,9 +78,11 @@ fn run(d: &mut State, t: u64, c: Call, bytes: &[u8], out: &mut [u8], rows: &mut 
                 count: x.count,
             }
         }
-        Call::Override(reason, direction) => alone(kernel::set_override(d, reason, direction, t)),
-        Call::Clear => alone(kernel::clear_override(d, t)),
-        Call::Move => alone(kernel::move_clock(d, t)),
+        Call::Override(reason, direction) => alone(number_in(kernel::set_override(
+            d, reason, direction, t,
+        ))),
+        Call::Clear => alone(number_in(kernel::clear_override(d, t))),
+        Call::Move => alone(number_in(kernel::move_clock(d, t))),
         Call::Ask => {
             kernel::ask(d);
             alone(0)

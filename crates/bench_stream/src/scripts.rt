@@ -78,7 +78,7 @@ pub fn play<R: Read, W: Write>(input: &mut R, output: &mut W, limit: u64) -> io:
         (λ _. Takes (R.remaining input.old) (R.remaining input.new) 0 limit) }
 {
     let mut d = [0u64; WORDS];
-    kernel::start(&mut d, bench_script::bench_settings());
+    let _ = kernel::start(&mut d, bench_script::bench_settings());
     let mut buf = program_io::large_buffer();
     let mut page = program_io::large_buffer();
     let mut out = [0u8; RESPONSE];

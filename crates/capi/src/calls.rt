@@ -6,41 +6,41 @@ ghost use Rattle.kernel.specs.Door.{ask_answer, plan_answer, plan_slice, plain_a
 ghost use Rattle.capi.specs.Words.{settings_of, inputs_of};
 
 use crate::words::{INPUTS, SETTINGS, inputs_of, settings_of};
-use kernel::{Row, State, VALUES};
+use kernel::{Row, State, VALUES, number_in};
 
 pub fn cekarum_interface_2_start(device: &mut State, settings: &[u64; SETTINGS]) -> u64
     ensures value { result ≡ start_number (settings_of settings.now) }
     ensures device_after { device.new ≡ start_after (settings_of settings.now) }
 {
-    kernel::start(device, settings_of(*settings))
+    number_in(kernel::start(device, settings_of(*settings)))
 }
 
 pub fn cekarum_interface_2_join(device: &mut State, zone: u64, rank: u64, time: u64) -> u64
     ensures value { result ≡ join_number device.old zone rank time }
     ensures device_after { device.new ≡ join_after device.old zone rank time }
 {
-    kernel::join(device, zone, rank, time)
+    number_in(kernel::join(device, zone, rank, time))
 }
 
 pub fn cekarum_interface_2_leave(device: &mut State, zone: u64, time: u64) -> u64
     ensures value { result ≡ leave_number device.old zone time }
     ensures device_after { device.new ≡ leave_after device.old zone time }
 {
-    kernel::leave(device, zone, time)
+    number_in(kernel::leave(device, zone, time))
 }
 
 pub fn cekarum_interface_2_lost(device: &mut State, zone: u64, time: u64) -> u64
     ensures value { result ≡ link_number device.old zone false time }
     ensures device_after { device.new ≡ link_after device.old zone false time }
 {
-    kernel::lost(device, zone, time)
+    number_in(kernel::lost(device, zone, time))
 }
 
 pub fn cekarum_interface_2_back(device: &mut State, zone: u64, time: u64) -> u64
     ensures value { result ≡ link_number device.old zone true time }
     ensures device_after { device.new ≡ link_after device.old zone true time }
 {
-    kernel::back(device, zone, time)
+    number_in(kernel::back(device, zone, time))
 }
 
 pub fn cekarum_interface_2_override(
@@ -52,21 +52,21 @@ pub fn cekarum_interface_2_override(
     ensures value { result ≡ override_number device.old reason direction time }
     ensures device_after { device.new ≡ override_after device.old reason direction time }
 {
-    kernel::set_override(device, reason, direction, time)
+    number_in(kernel::set_override(device, reason, direction, time))
 }
 
 pub fn cekarum_interface_2_clear(device: &mut State, time: u64) -> u64
     ensures value { result ≡ clear_number device.old time }
     ensures device_after { device.new ≡ clear_after device.old time }
 {
-    kernel::clear_override(device, time)
+    number_in(kernel::clear_override(device, time))
 }
 
 pub fn cekarum_interface_2_move(device: &mut State, time: u64) -> u64
     ensures value { result ≡ move_number device.old time }
     ensures device_after { device.new ≡ move_after device.old time }
 {
-    kernel::move_clock(device, time)
+    number_in(kernel::move_clock(device, time))
 }
 
 // An ask and the two plans are lent the device unchangeable: they take no time, and nothing moves.

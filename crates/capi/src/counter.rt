@@ -11,7 +11,6 @@ pub fn cekarum_interface_2_tick(front: &mut [u64; FRONT], tick: u64, seconds: &m
     ensures seconds_after { seconds.new ≡ (reading_in front.old tick).seconds }
 {
     let told = ticks::read_words(front, tick);
-    let now = told.seconds;
-    *seconds = now;
+    *seconds = told.seconds;
     told.number
 }

@@ -4,6 +4,7 @@ ghost use Rattle.measurement_table.specs.Payload.{read_number, read_after};
 ghost use Rattle.measurement.specs.Flow.{ac_active_power, ac_active_power_per_phase, dc_power};
 ghost use Rattle.capi.specs.Meter.{measurement_written, measurement_left, flow_in};
 
+use crate::words::hand_out;
 use measurement::{Words, flow_number};
 
 pub fn cekarum_interface_2_read_measurement(payload: &[u8], words: &mut Words) -> u64
@@ -13,6 +14,7 @@ pub fn cekarum_interface_2_read_measurement(payload: &[u8], words: &mut Words) -
     measurement::read_measurement(payload, words)
 }
 
+#[tactic(auto, unfolding(crate::specs::Meter::measurement_written, crate::specs::Meter::measurement_left))]
 pub fn cekarum_interface_2_write_measurement(
     words: &Words,
     out: &mut [u8],
@@ -22,9 +24,7 @@ pub fn cekarum_interface_2_write_measurement(
     ensures out_after { out.new ≡ measurement_left words.now out.old }
     ensures written_after { written.new ≡ (measurement_written words.now (length out.old)).length }
 {
-    let w = measurement::write_measurement(words, out);
-    *written = w.length as u64;
-    w.number
+    hand_out(measurement::write_measurement(words, out), written)
 }
 
 pub fn cekarum_interface_2_power_flow(words: &Words) -> u64

@@ -4,12 +4,14 @@ ghost use Rattle.kernel.specs.Door.{read_request};
 ghost use Rattle.wire_requests.specs.Requests.{reading_number};
 ghost use Rattle.capi.specs.Requests.{request_words_after, request_values_after, request_written, request_left};
 
+use crate::words::hand_out;
 use capi_messages::{
     FIELDS, REQUEST, flat_request, request_in, request_of, request_values, request_words,
 };
-use kernel::Reading;
+use kernel::{Reading, Refusal};
 
 // At a refusal the words and values stay as they were.
+#[tactic(auto, unfolding(crate::specs::Requests::request_words_after, crate::specs::Requests::request_values_after))]
 pub fn cekarum_interface_2_read_request(
     frame: &[u8],
     words: &mut [u64; REQUEST],
@@ -21,17 +23,17 @@ pub fn cekarum_interface_2_read_request(
 {
     match kernel::read_request(frame) {
         Reading::Is(r) => {
-            let c = r.command;
-            let q = flat_request(r, c);
+            let q = flat_request(r, r.command);
             *words = request_words(q);
             *values = request_values(q);
             0
         }
-        Reading::Unserved(_) => 4,
+        Reading::Unserved(_) => Refusal::NotServed.number(),
         Reading::Refused(n) => n,
     }
 }
 
+#[tactic(auto, unfolding(crate::specs::Requests::request_written, crate::specs::Requests::request_left))]
 pub fn cekarum_interface_2_write_request(
     words: &[u64; REQUEST],
     values: &[i64; FIELDS],
@@ -42,7 +44,6 @@ pub fn cekarum_interface_2_write_request(
     ensures out_after { out.new ≡ request_left words.now values.now out.old }
     ensures written_after { written.new ≡ (request_written words.now values.now (length out.old)).length }
 {
-    let w = kernel::write_request(out, request_of(request_in(*words, *values)));
-    *written = w.length as u64;
-    w.number
+    let request = request_of(request_in(*words, *values));
+    hand_out(kernel::write_request(out, request), written)
 }

@@ -4,12 +4,14 @@ ghost use Rattle.kernel.specs.Door.{read_response};
 ghost use Rattle.wire_responses.specs.Responses.{answer_number};
 ghost use Rattle.capi.specs.Responses.{response_words_after, response_values_after, response_written, response_left};
 
+use crate::words::hand_out;
 use capi_messages::{
     AMOUNTS, RESPONSE, flat_response, response_in, response_of, response_values, response_words,
 };
 use kernel::Answer;
 
 // At a refusal the words and values stay as they were.
+#[tactic(auto, unfolding(crate::specs::Responses::response_words_after, crate::specs::Responses::response_values_after))]
 pub fn cekarum_interface_2_read_response(
     command: u64,
     frame: &[u8],
@@ -22,8 +24,7 @@ pub fn cekarum_interface_2_read_response(
 {
     match kernel::read_response(command, frame) {
         Answer::Is(r) => {
-            let o = r.outcome;
-            let p = flat_response(r, o);
+            let p = flat_response(r, r.outcome);
             *words = response_words(p);
             *values = response_values(p);
             0
@@ -32,6 +33,7 @@ pub fn cekarum_interface_2_read_response(
     }
 }
 
+#[tactic(auto, unfolding(crate::specs::Responses::response_written, crate::specs::Responses::response_left))]
 pub fn cekarum_interface_2_write_response(
     command: u64,
     words: &[u64; RESPONSE],
@@ -43,11 +45,6 @@ pub fn cekarum_interface_2_write_response(
     ensures out_after { out.new ≡ response_left command words.now values.now out.old }
     ensures written_after { written.new ≡ (response_written command words.now values.now (length out.old)).length }
 {
-    let w = kernel::write_response(
-        out,
-        command,
-        response_of(command, response_in(*words, *values)),
-    );
-    *written = w.length as u64;
-    w.number
+    let response = response_of(command, response_in(*words, *values));
+    hand_out(kernel::write_response(out, command, response), written)
 }

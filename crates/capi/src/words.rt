@@ -1,9 +1,9 @@
-// Settings and inputs as lent words, one number each, in the order of the header's structs.
+// Settings and inputs as lent words, one number each, in the order of the header's structs; a writer's answer.
 ghost use Rattle.std.specs.Prelude.{◌≡◌};
 ghost use Rattle.capi.specs.Words.{settings_of, inputs_of};
 
 use capi_fields::is_yes;
-use kernel::{Inputs, Settings};
+use kernel::{Inputs, Settings, Written};
 
 // Directions, limits, setpoints, minimum, maxima, failsafe limits, failsafe duration, energy manager, phases, currents.
 pub const SETTINGS: usize = 12;
@@ -12,6 +12,7 @@ pub const SETTINGS: usize = 12;
 pub const INPUTS: usize = 8;
 
 // Settings from their words.
+#[tactic(auto, unfolding(crate::specs::Words::settings_of))]
 pub fn settings_of(w: [u64; SETTINGS]) -> Settings
     ensures { result ≡ settings_of w }
 {
@@ -30,6 +31,7 @@ pub fn settings_of(w: [u64; SETTINGS]) -> Settings
 }
 
 // The report's inputs from their words.
+#[tactic(auto, unfolding(crate::specs::Words::inputs_of))]
 pub fn inputs_of(w: [u64; INPUTS]) -> Inputs
     ensures { result ≡ inputs_of w }
 {
@@ -43,4 +45,13 @@ pub fn inputs_of(w: [u64; INPUTS]) -> Inputs
         setpoints: is_yes(w[6]),
         process: is_yes(w[7]),
     }
+}
+
+// What a writer answers, for C: the length goes into a lent number, the number is answered.
+pub fn hand_out(w: Written, length: &mut u64) -> u64
+    ensures value { result ≡ w.number }
+    ensures length_after { length.new ≡ w.length }
+{
+    *length = w.length as u64;
+    w.number
 }

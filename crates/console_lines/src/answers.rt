@@ -28,7 +28,7 @@ fn numbers_of(rows: u64) -> u64 {
 
 // The calls that answer a number only.
 fn call(d: &mut State, c: Command, f: [u64; FIELDS]) -> u64 {
-    match c {
+    let answer = match c {
         Command::Start => kernel::start(d, settings_of(f)),
         Command::Join => kernel::join(d, f[0], f[1], f[2]),
         Command::Leave => kernel::leave(d, f[0], f[1]),
@@ -37,7 +37,8 @@ fn call(d: &mut State, c: Command, f: [u64; FIELDS]) -> u64 {
         Command::Override => kernel::set_override(d, f[0], f[1], f[2]),
         Command::Move => kernel::move_clock(d, f[0]),
         _ => kernel::clear_override(d, f[0]),
-    }
+    };
+    kernel::number_in(answer)
 }
 
 // An ask is never refused: its number is 0.
@@ -168,5 +169,5 @@ pub fn answer(
 pub fn before_start(d: &mut State)
     ensures { d.new ≡ fresh refused_settings }
 {
-    kernel::start(d, settings_of([3, 0, 0, 0, 0, 0, 0, 0, 0, 0, 0, 0]));
+    let _ = kernel::start(d, settings_of([3, 0, 0, 0, 0, 0, 0, 0, 0, 0, 0, 0]));
 }

@@ -1,6 +1,6 @@
 -- The change of a call, as the code makes it: the second since which no link is up is moved only where the last one goes.
 use Prim.Native.Nat.{ℕ, ◌<◌, ◌≤◌}
-use mathlib.Core.Bool.{Bool, true, false, cond, not, ◌&&◌, ◌||◌}
+use mathlib.Core.Bool.{Bool, beq, true, false, cond, not, ◌&&◌, ◌||◌}
 use mathlib.Core.Path.{◌≡◌, refl}
 use mathlib.Core.List.{List}
 use native.Mathlib.Omega.{arith}
@@ -11,7 +11,7 @@ use Rattle.device_store.specs.Sizes.{slots}
 use Rattle.device_store.specs.Zones.{id_of, free_zone, new_zone, linked, is_joined, is_up, slot_of, joined}
 use Rattle.device_store.specs.Words.{since_of, override_of, zones_of}
 use Rattle.device_holds.specs.Links.{since_after}
-use Rattle.device_calls.specs.Calls.{zone_change}
+use Rattle.device_calls.specs.Calls.{zone_change, same}
 use Rattle.device_rules.specs.Rules.{ranks, bad_join}
 use Rattle.device_store.specs.declared.Zone.{Zone}
 use Rattle.device_store.proofs.Tests.{never}
@@ -69,3 +69,11 @@ joined-there ws z j =
     let above : 0 < z = joined-above (zones_of ws) z j in
     let below : slot_of (zones_of ws) z < slots = joined-below (zones_of ws) z j in
     rw (slot_id (zones_of ws) z (omega (arith, zones_length ws)), ne_eqb z 0 (λ q. omega arith))
+
+-- whether a link is as told
+pub as_told : (a b : Bool) → beq a b ≡ same a b
+unfolding same
+as_told true true = refl
+as_told true false = refl
+as_told false true = refl
+as_told false false = refl

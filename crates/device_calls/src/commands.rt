@@ -1,5 +1,5 @@
 // The six commands: decided, answered from what would hold, applied.
-ghost use Rattle.std.specs.Prelude.{◌≡◌, cond, eqb};
+ghost use Rattle.std.specs.Prelude.{◌≡◌};
 ghost use Rattle.device_calls.specs.Commands.{decision_of, outcome_for, enacted};
 
 use crate::{Change, Decision, SLOTS, State};
@@ -25,7 +25,7 @@ pub fn decide(d: &State, zone: u64, t: u64, c: Command) -> Decision
     if n == 0 {
         return Decision {
             number: 0,
-            slot: slot,
+            slot,
             zone: command_effects::obeyed(s, c, t, x),
         };
     }
@@ -36,48 +36,25 @@ pub fn decide(d: &State, zone: u64, t: u64, c: Command) -> Decision
     }
 }
 
-fn success_if(n: u64) -> Outcome
-    ensures { result ≡ cond (eqb n 0) Outcome.Success Outcome.Nothing }
-{
-    if n == 0 {
-        return Outcome::Success;
-    }
-    Outcome::Nothing
-}
-
 // What would be answered, before anything is stored. A clear needs no values.
 pub fn outcome_of(d: &State, t: u64, c: Command, x: Decision) -> Outcome
     ensures { result ≡ outcome_for d.now t c x }
 {
     let n = x.number;
-    let zone = x.zone;
     match c {
-        Command::SetLimit(_) => {
-            if has_result(SET_LIMIT, n) {
-                let capped = command_effects::is_capped(device_store::settings_at(d), c);
-                return command_effects::limit_outcome(n, capped, values_with(d, x.slot, zone, t));
-            }
-            Outcome::Nothing
+        Command::SetLimit(_) if has_result(SET_LIMIT, n) => {
+            let capped = command_effects::is_capped(device_store::settings_at(d), c);
+            command_effects::limit_outcome(n, capped, values_with(d, x.slot, x.zone, t))
         }
-        Command::ClearLimit(_) => success_if(n),
-        Command::SetSetpoint(_) => {
-            if n == 0 {
-                return command_effects::setpoint_outcome(values_with(d, x.slot, zone, t));
-            }
-            Outcome::Nothing
+        Command::SetSetpoint(_) if n == 0 => {
+            command_effects::setpoint_outcome(values_with(d, x.slot, x.zone, t))
         }
-        Command::ClearSetpoint(_) => success_if(n),
-        Command::SetCurrentLimits(m) => {
-            if n == 0 {
-                return command_effects::current_outcome(
-                    m.direction,
-                    values_with(d, x.slot, zone, t),
-                );
-            }
-            Outcome::Nothing
+        Command::SetCurrentLimits(m) if n == 0 => {
+            command_effects::current_outcome(m.direction, values_with(d, x.slot, x.zone, t))
         }
-        Command::ClearCurrentLimits(_) => success_if(n),
-        Command::Unserved(_) => Outcome::Nothing,
+        Command::ClearLimit(_) | Command::ClearSetpoint(_) | Command::ClearCurrentLimits(_)
+            if n == 0 => { Outcome::Success }
+        _ => Outcome::Nothing,
     }
 }
 
@@ -86,11 +63,10 @@ pub fn enact(d: &mut State, t: u64, x: Decision)
     ensures { d.new ≡ enacted d.old t x }
 {
     if x.number == 0 {
-        let zone = x.zone;
         let change = Change {
             time: t,
             slot: x.slot,
-            zone: zone,
+            zone: x.zone,
             since: device_store::since(d),
             overridden: device_store::overridden(d),
         };

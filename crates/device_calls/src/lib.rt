@@ -9,6 +9,7 @@ pub use device_store::{
 };
 
 // A command's number, and the record that its zone would then have.
+// Not a Result: a refused SetLimit is answered with its number and with values too, so both cases use all three.
 #[derive(Clone, Copy)]
 pub struct Decision {
     pub number: u64,

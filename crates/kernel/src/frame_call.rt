@@ -15,13 +15,13 @@ ghost use Rattle.kernel.specs.Frame.{answer_from, after_from, out_from, frame_an
 
 use device_calls::State;
 use device_calls::commands::{decide, enact, outcome_of};
-use device_store::all;
 use refusals::{BAD_LENGTH, NOT_SERVED};
 use wire_messages::Request;
 use wire_requests::Reading;
 use wire_responses::{reply_to, unserved_reply};
 
 // The answer to a frame: its number, and the length of the response frame that was written.
+// Not a Result: a refused frame has a response, and so a length, too.
 #[repr(C)]
 #[derive(Clone, Copy)]
 pub struct Framed {
@@ -35,7 +35,6 @@ fn answer(d: &mut State, zone: u64, t: u64, r: Request, out: &mut [u8]) -> Frame
     ensures d_after { d.new ≡ after_from d.old zone t (Reading.Is r) (length out.old) }
     ensures out_after { out.new ≡ out_from d.old zone t (Reading.Is r) out.old }
 {
-    let _all = all(d);
     let c = r.command;
     let x = decide(d, zone, t, c);
     let n = x.number;

@@ -1,9 +1,10 @@
 // The calls that a driver makes. It lends the device's words, a frame, room for the response and room for a plan's rows.
 // An ask and a plan are lent the words without the right to change them.
 //
-// Every call ends with an answer, for every content of what is lent, every zone number and every time. The answer
-// has a number: 0 where the call is accepted, else document 01's refusal. A refusal leaves the words as they were,
-// the clock among them, and writes nothing, save the response frame of `frame` where document 01 allows one.
+// Every call ends with an answer, for every content of what is lent, every zone number and every time. The calls down to
+// `move_clock` answer `Ok`, or by name why they are refused, and `number_in` gives such an answer's number; the others answer the
+// number: 0 where the call is accepted, else document 01's refusal. A refusal leaves the words as they were, the clock among them,
+// and writes nothing, save the response frame of `frame` where document 01 allows one.
 //
 // start(d, settings)                    a fresh device; 16 for bad settings, and then a device that accepts nothing
 // join(d, zone, rank, t)                5, 6, 7, 8
@@ -34,6 +35,7 @@ pub use plan::{PLAN, Planned, ROW, plan};
 pub use plan_plain::{
     Planned as PlainPlanned, Row, first_record, next_record, plain_answer, plain_plan,
 };
+pub use refusals::{Refusal, number_in};
 pub use report::{Answer as Reported, Inputs, report};
 pub use wire_output::Written;
 pub use wire_prefix::FRAME;

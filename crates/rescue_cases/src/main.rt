@@ -58,7 +58,7 @@ fn play_with<W: Write>(
 // Plays a script on a fresh device.
 fn play<W: Write>(output: &mut W, s: &[u8], page: &mut [u8]) -> io::Result<()> {
     let mut d = [0u64; WORDS];
-    kernel::start(&mut d, bench_script::bench_settings());
+    let _ = kernel::start(&mut d, bench_script::bench_settings());
     let mut out = [0u8; RESPONSE];
     let mut rows = [0i64; PLAN];
     play_with(output, &mut d, s, page, &mut out, &mut rows)

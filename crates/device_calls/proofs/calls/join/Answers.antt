@@ -1,22 +1,22 @@
 -- The tests 5, 6, 7, 8 in the list's order; what 6 lets pass fits the precedence, and a zone that joins up leaves `since` alone.
 use Prim.Native.Nat.{◌<◌, ◌≤◌}
 use mathlib.Core.Path.{sym}
-use native.Mathlib.Omega.{arith}
 use borrow.Author.Tests.{le-leb, lt-leb}
-use Rattle.device_rules.specs.Rules.{ranks}
+use native.Mathlib.Omega.{arith}
 use Rattle.device_calls.specs.Refusals.{first_of}
+use Rattle.device_store.proofs.Answered.{refused, accepted}
+use Rattle.device_calls.proofs.Refused.{handed_on}
+use Rattle.device_rules.specs.Rules.{ranks}
 use Rattle.device_calls.specs.Calls.{join_number, join_after}
 use Rattle.device_store.proofs.Tests.{via}
-use Rattle.device_store.proofs.Answered.{refused, accepted}
-use Rattle.device_calls.proofs.Late.{timed}
 use Rattle.device_calls.proofs.Changes.{up_change, join-range, join_up}
 use Rattle.device_calls.proofs.calls.join.Goals as goal
 
-pub returns-then-is_late : goal.returns-then-is_late
+pub returns-in_err-in_order : goal.returns-in_err-in_order
 unfolding join_number join_after first_of
-returns-then-is_late c =
+returns-in_err-in_order c =
     let both =
-    refused _ 5 _ _ (rw (timed _ _ _ _ _ c.clock.ensures c.is_late.ensures c.if-is_late.true)) (λ e. omega arith) in
+    handed_on _ _ _ _ _ _ c.from_residual.ensures.1 c.in_err-in_order.ensures.1 (rw c.in_err-in_order.ensures.0) (λ e. omega arith) in
     record { value = both.0; d_after = both.1 }
 
 pub returns-then-is_bad_join : goal.returns-then-is_bad_join
@@ -24,7 +24,7 @@ unfolding join_number join_after first_of
 returns-then-is_bad_join c =
     let both =
     refused _ 6 _ _ (rw (
-      timed _ _ _ _ _ c.clock.ensures c.is_late.ensures c.if-is_late.false,
+      c.in_ok-in_order.ensures,
       via c.is_bad_join.ensures
           c.if-is_bad_join.true,
     )) (λ e. omega arith) in
@@ -35,7 +35,7 @@ unfolding join_number join_after first_of
 returns-then-is_joined c =
     let both =
     refused _ 7 _ _ (rw (
-      timed _ _ _ _ _ c.clock.ensures c.is_late.ensures c.if-is_late.false,
+      c.in_ok-in_order.ensures,
       via c.is_bad_join.ensures c.if-is_bad_join.false,
       via
           c.is_joined.ensures c.if-is_joined.true,
@@ -47,7 +47,7 @@ unfolding join_number join_after first_of
 returns-then-slot-ge-SLOTS c =
     let both =
     refused _ 8 _ _ (rw (
-      timed _ _ _ _ _ c.clock.ensures c.is_late.ensures c.if-is_late.false,
+      c.in_ok-in_order.ensures,
       via c.is_bad_join.ensures c.if-is_bad_join.false,
       via
           c.is_joined.ensures c.if-is_joined.false,
@@ -65,7 +65,7 @@ unfolding join_number join_after first_of
 returns c =
     let both =
     accepted _ _ _ _ _ (rw (
-      timed _ _ _ _ _ c.clock.ensures c.is_late.ensures c.if-is_late.false,
+      c.in_ok-in_order.ensures,
       via c.is_bad_join.ensures c.if-is_bad_join.false,
       via c.is_joined.ensures c.if-is_joined.false,
       lt-leb _ _ (rw c.slot_of-slot.ensures at c.if-slot-ge-SLOTS.false),

@@ -1,47 +1,40 @@
 -- The tests 5, 9 and 7 in the list's order; the record is `told`'s, and `since_told` gives the second that goes with it.
 use mathlib.Core.Path.{sym}
 use native.Mathlib.Omega.{arith}
-use Rattle.device_store.specs.Zones.{zone_of}
-use Rattle.device_store.specs.Words.{zones_of}
 use Rattle.device_calls.specs.Refusals.{first_of}
-use Rattle.device_calls.specs.Calls.{link_number, link_after}
-use Rattle.device_store.proofs.Tests.{via}
-use Rattle.device_store.proofs.Slots.{found, not_found, found-slot}
 use Rattle.device_store.proofs.Answered.{refused, accepted}
-use Rattle.device_calls.proofs.Late.{timed}
-use Rattle.device_calls.proofs.Changes.{link_change, joined-there}
+use Rattle.device_calls.proofs.Refused.{handed_on}
+use Rattle.device_store.specs.Zones.{zone_of}
+use Rattle.device_calls.specs.Calls.{link_number, link_after}
+use Rattle.device_calls.proofs.Changes.{link_change, joined-there, as_told}
 use Rattle.device_calls.proofs.calls.link.Goals as goal
 
-pub returns-then-is_late : goal.returns-then-is_late
+pub returns-in_err-in_order : goal.returns-in_err-in_order
 unfolding link_number link_after first_of zone_of
-returns-then-is_late c =
+returns-in_err-in_order c =
     let both =
-    refused _ 5 _ _ (rw (timed _ _ _ _ _ c.clock.ensures c.is_late.ensures c.if-is_late.true)) (λ e. omega arith) in
+    handed_on _ _ _ _ _ _ c.from_residual.ensures.1 c.in_err-in_order.ensures.1 (rw c.in_err-in_order.ensures.0) (λ e. omega arith) in
     record { value = both.0; d_after = both.1 }
 
-pub returns-then-slot-ge-SLOTS : goal.returns-then-slot-ge-SLOTS
+pub returns-in_err-slot : goal.returns-in_err-slot
 unfolding link_number link_after first_of zone_of
-returns-then-slot-ge-SLOTS c =
+returns-in_err-slot c =
     let both =
-    refused _ 9 _ _ (rw (
-      timed _ _ _ _ _ c.clock.ensures c.is_late.ensures c.if-is_late.false,
-      not_found _ _ _
-          c.slot_of_joined-slot.ensures c.if-slot-ge-SLOTS.true,
-    )) (λ e. omega arith) in
+    handed_on _ _ _ _ _ _ c.from_residual-in_err-slot.ensures.1 c.in_err-slot.ensures.1
+    (rw (c.in_ok-in_order.ensures, c.in_err-slot.ensures.0)) (λ e. omega arith) in
     record { value = both.0; d_after = both.1 }
 
-pub returns-then-is_same : goal.returns-then-is_same
+pub returns-then-up_at-up : goal.returns-then-up_at-up
 unfolding link_number link_after first_of zone_of
-returns-then-is_same c =
+returns-then-up_at-up c =
     let both =
     refused _ 7 _ _ (rw (
-      timed _ _ _ _ _ c.clock.ensures c.is_late.ensures c.if-is_late.false,
-      found _ _ _ c.slot_of_joined-slot.ensures
-          c.if-slot-ge-SLOTS.false,
-      ← found-slot _ _ _ c.slot_of_joined-slot.ensures c.if-slot-ge-SLOTS.false,
+      c.in_ok-in_order.ensures,
+      c.in_ok-slot.ensures.0,
+      ← c.in_ok-slot.ensures.1,
       ← c.up_at.ensures,
-      via c.is_same.ensures
-          c.if-is_same.true,
+      ← as_told c.up_at.result c.args.up,
+      c.if-up_at-up.true,
     )) (λ e. omega arith) in
     record { value = both.0; d_after = both.1 }
 
@@ -50,19 +43,13 @@ unfolding link_number link_after first_of zone_of
 returns c =
     let both =
     accepted _ _ _ _ _ (rw (
-      timed _ _ _ _ _ c.clock.ensures c.is_late.ensures c.if-is_late.false,
-      found _ _ _ c.slot_of_joined-slot.ensures
-          c.if-slot-ge-SLOTS.false,
-      ← found-slot _ _ _ c.slot_of_joined-slot.ensures c.if-slot-ge-SLOTS.false,
+      c.in_ok-in_order.ensures,
+      c.in_ok-slot.ensures.0,
+      ← c.in_ok-slot.ensures.1,
       ← c.up_at.ensures,
-      via c.is_same.ensures c.if-is_same.false,
+      ← as_told c.up_at.result c.args.up,
+      c.if-up_at-up.false,
     ))
-    c.apply.ensures (rw (
-      c.told.ensures,
-      c.since_told.ensures,
-      c.overridden.ensures,
-      found-slot (zones_of c.args.d.now)
-          c.args.zone _ c.slot_of_joined-slot.ensures c.if-slot-ge-SLOTS.false,
-    )
-    (sym (link_change _ _ _ _ (joined-there _ _ (found _ _ _ c.slot_of_joined-slot.ensures c.if-slot-ge-SLOTS.false)) _))) in
+    c.apply.ensures (rw (c.told.ensures, c.since_told.ensures, c.overridden.ensures, c.in_ok-slot.ensures.1)
+    (sym (link_change _ _ _ _ (joined-there _ _ c.in_ok-slot.ensures.0) _))) in
     record { value = both.0; d_after = both.1 }

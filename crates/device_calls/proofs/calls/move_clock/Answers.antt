@@ -2,21 +2,19 @@
 use native.Mathlib.Omega.{arith}
 use Rattle.device_calls.specs.Refusals.{first_of}
 use Rattle.device_calls.specs.Calls.{move_number, move_after}
-use Rattle.device_store.proofs.Answered.{refused, accepted}
-use Rattle.device_calls.proofs.Late.{timed}
+use Rattle.device_store.proofs.Answered.{accepted}
+use Rattle.device_calls.proofs.Refused.{handed_on}
 use Rattle.device_calls.proofs.calls.move_clock.Goals as goal
 
-pub returns-then-is_late : goal.returns-then-is_late
+pub returns-in_err-in_order : goal.returns-in_err-in_order
 unfolding move_number move_after first_of
-returns-then-is_late c =
+returns-in_err-in_order c =
     let both =
-    refused _ 5 _ _ (rw (timed _ _ _ _ _ c.clock.ensures c.is_late.ensures c.if-is_late.true)) (λ e. omega arith) in
+    handed_on _ _ _ _ _ _ c.from_residual.ensures.1 c.in_err-in_order.ensures.1 (rw c.in_err-in_order.ensures.0) (λ e. omega arith) in
     record { value = both.0; d_after = both.1 }
 
 pub returns : goal.returns
 unfolding move_number move_after first_of
 returns c =
-    let both =
-    accepted _ _ _ _ _ (rw (timed _ _ _ _ _ c.clock.ensures c.is_late.ensures c.if-is_late.false))
-    c.apply_head.ensures (rw c.overridden-o.ensures) in
+    let both = accepted _ _ _ _ _ (rw c.in_ok-in_order.ensures) c.apply_head.ensures (rw c.overridden.ensures) in
     record { value = both.0; d_after = both.1 }

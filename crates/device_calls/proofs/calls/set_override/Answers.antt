@@ -3,14 +3,14 @@ use Prim.Native.Nat.{ℕ, ◌<◌}
 use mathlib.Core.Bool.{Bool, true, false, ◌&&◌}
 use mathlib.Core.Path.{◌≡◌, refl}
 use native.Mathlib.Decide.{dec_lt}
-use native.Mathlib.Omega.{arith}
 use borrow.Author.Tests.{le-ltb, ne_eqb}
+use native.Mathlib.Omega.{arith}
 use Rattle.device_calls.specs.Refusals.{first_of}
+use Rattle.device_store.proofs.Answered.{refused, accepted}
+use Rattle.device_calls.proofs.Refused.{handed_on}
 use Rattle.device_calls.specs.Calls.{override_number, override_after}
 use Rattle.device_rules.specs.Rules.{go_together}
 use Rattle.device_store.proofs.Tests.{via}
-use Rattle.device_store.proofs.Answered.{refused, accepted}
-use Rattle.device_calls.proofs.Late.{timed}
 use Rattle.device_calls.proofs.calls.set_override.Goals as goal
 
 -- what goes together is small
@@ -37,11 +37,11 @@ together_small m r d e = (
     never : {b : Bool} → b ≡ false → b ≡ true → ⊥
     never p q = let n : ◌≡◌ {A = ℕ} 0 1 = cc in omega arith
 
-pub returns-then-is_late : goal.returns-then-is_late
+pub returns-in_err-in_order : goal.returns-in_err-in_order
 unfolding override_number override_after first_of
-returns-then-is_late c =
+returns-in_err-in_order c =
     let both =
-    refused _ 5 _ _ (rw (timed _ _ _ _ _ c.clock.ensures c.is_late.ensures c.if-is_late.true)) (λ e. omega arith) in
+    handed_on _ _ _ _ _ _ c.from_residual.ensures.1 c.in_err-in_order.ensures.1 (rw c.in_err-in_order.ensures.0) (λ e. omega arith) in
     record { value = both.0; d_after = both.1 }
 
 pub override_word-requires : goal.override_word-requires
@@ -52,20 +52,14 @@ pub returns-then-go_together : goal.returns-then-go_together
 unfolding override_number override_after first_of
 returns-then-go_together c =
     let both =
-    accepted _ _ _ _ _ (rw (
-      timed _ _ _ _ _ c.clock.ensures c.is_late.ensures c.if-is_late.false,
-      via
-          (rw c.is_manager.ensures at c.go_together.ensures) c.if-go_together.true,
-    )) c.apply_head.ensures (rw c.override_word.ensures) in
+    accepted _ _ _ _ _ (rw (c.in_ok-in_order.ensures, via (rw c.is_manager.ensures at c.go_together.ensures) c.if-go_together.true))
+    c.apply_head.ensures (rw c.override_word.ensures) in
     record { value = both.0; d_after = both.1 }
 
 pub returns : goal.returns
 unfolding override_number override_after first_of
 returns c =
     let both =
-    refused _ 18 _ _ (rw (
-      timed _ _ _ _ _ c.clock.ensures c.is_late.ensures c.if-is_late.false,
-      via
-          (rw c.is_manager.ensures at c.go_together.ensures) c.if-go_together.false,
-    )) (λ e. omega arith) in
+    refused _ 18 _ _ (rw (c.in_ok-in_order.ensures, via (rw c.is_manager.ensures at c.go_together.ensures) c.if-go_together.false))
+    (λ e. omega arith) in
     record { value = both.0; d_after = both.1 }

@@ -1,12 +1,13 @@
 -- Each command and number is the case of the definition.
+use mathlib.Core.Logic.{inl, inr}
 use borrow.Author.Tests.{eq-eqb, ne_eqb}
 use Rattle.command_effects.specs.Outcomes.{outcome_with}
 use Rattle.device_calls.specs.Commands.{outcome_for}
 use Rattle.device_calls.proofs.commands.outcome_of.Goals as goal
 
-pub returns-then-has_result : goal.returns-then-has_result
+pub returns-in-SetLimit : goal.returns-in-SetLimit
 unfolding outcome_for outcome_with
-returns-then-has_result c =
+returns-in-SetLimit c =
     rw (
       c.limit_outcome.ensures,
       c.is_capped-capped.ensures,
@@ -17,40 +18,52 @@ returns-then-has_result c =
       c.if-has_result.true,
     )
 
-pub returns-then-n-eq0 : goal.returns-then-n-eq0
+pub returns-in-SetSetpoint : goal.returns-in-SetSetpoint
 unfolding outcome_for outcome_with
-returns-then-n-eq0 c =
-    rw (c.setpoint_outcome.ensures, c.values_with-then-n-eq0.ensures, c.in-SetSetpoint.is, eq-eqb _ _ c.if-n-eq0.true)
+returns-in-SetSetpoint c =
+    rw (c.setpoint_outcome.ensures, c.values_with-in-SetSetpoint.ensures, c.in-SetSetpoint.is, eq-eqb _ _ c.if-n-eq0.true)
 
-pub returns-then-n-eq0-2 : goal.returns-then-n-eq0-2
+pub returns-in-SetCurrentLimits : goal.returns-in-SetCurrentLimits
 unfolding outcome_for outcome_with
-returns-then-n-eq0-2 c =
-    rw (c.current_outcome.ensures, c.values_with-then-n-eq0-2.ensures, c.in-SetCurrentLimits.is, eq-eqb _ _ c.if-n-eq0-2.true)
-
-pub returns-else-has_result : goal.returns-else-has_result
-unfolding outcome_for outcome_with
-returns-else-has_result c = rw (c.in-SetLimit.is, ← c.has_result.ensures, c.if-has_result.false)
+returns-in-SetCurrentLimits c =
+    rw (c.current_outcome.ensures, c.values_with-in-SetCurrentLimits.ensures, c.in-SetCurrentLimits.is, eq-eqb _ _ c.if-n-eq0-2.true)
 
 pub returns-in-ClearLimit : goal.returns-in-ClearLimit
 unfolding outcome_for outcome_with
-returns-in-ClearLimit c = rw c.in-ClearLimit.is c.success_if.ensures
+returns-in-ClearLimit c =
+    let n = eq-eqb _ _ c.if-n-eq0-3.true in
+    elim c.in-ClearLimit.is [
+      | inl a ↦ rw (a.1, n)
+      | inr other ↦ elim other [
+        | inl b ↦ rw (b.1, n)
+        | inr e ↦ rw (e.1, n)
+      ]
+    ]
 
-pub returns-else-n-eq0 : goal.returns-else-n-eq0
+pub returns-in_default : goal.returns-in_default
 unfolding outcome_for outcome_with
-returns-else-n-eq0 c = rw (c.in-SetSetpoint.is, ne_eqb _ _ c.if-n-eq0.false)
+returns-in_default c = rw (c.in-SetLimit.is, ← c.has_result.ensures, c.if-has_result.false)
 
-pub returns-in-ClearSetpoint : goal.returns-in-ClearSetpoint
+pub returns-in_default-2 : goal.returns-in_default-2
 unfolding outcome_for outcome_with
-returns-in-ClearSetpoint c = rw c.in-ClearSetpoint.is c.success_if-in-ClearSetpoint.ensures
+returns-in_default-2 c = rw (c.in-SetSetpoint.is, ne_eqb _ _ c.if-n-eq0.false)
 
-pub returns-else-n-eq0-2 : goal.returns-else-n-eq0-2
+pub returns-in_default-3 : goal.returns-in_default-3
 unfolding outcome_for outcome_with
-returns-else-n-eq0-2 c = rw (c.in-SetCurrentLimits.is, ne_eqb _ _ c.if-n-eq0-2.false)
+returns-in_default-3 c = rw (c.in-SetCurrentLimits.is, ne_eqb _ _ c.if-n-eq0-2.false)
 
-pub returns-in-ClearCurrentLimits : goal.returns-in-ClearCurrentLimits
+pub returns-in_default-4 : goal.returns-in_default-4
 unfolding outcome_for outcome_with
-returns-in-ClearCurrentLimits c = rw c.in-ClearCurrentLimits.is c.success_if-in-ClearCurrentLimits.ensures
+returns-in_default-4 c =
+    let n = ne_eqb _ _ c.if-n-eq0-3.false in
+    elim c.in-ClearLimit.is [
+      | inl a ↦ rw (a.1, n)
+      | inr other ↦ elim other [
+        | inl b ↦ rw (b.1, n)
+        | inr e ↦ rw (e.1, n)
+      ]
+    ]
 
-pub returns-in-Unserved : goal.returns-in-Unserved
+pub returns-in_default-5 : goal.returns-in_default-5
 unfolding outcome_for outcome_with
-returns-in-Unserved c = rw c.in-Unserved.is
+returns-in_default-5 c = rw c.in_default.is

@@ -1,8 +1,0 @@
--- Each field is the number at its place, or whether it is a yes.
-use Rattle.std.proofs.Common.{rules}
-use Rattle.capi.specs.Words.{settings_of}
-use Rattle.capi.proofs.words.settings_of.Goals as goal
-
-pub returns : goal.returns
-unfolding settings_of
-returns c = search rules
