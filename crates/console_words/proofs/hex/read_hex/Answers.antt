@@ -9,16 +9,16 @@ returns-then-is_none c =
     record { value = both.0; out_after = both.1 }
 
 pub store-requires : goal.store-requires
-store-requires c = pairs-fit _ _ _ c.is_pairs.ensures c.if-is_pairs.true
-
-pub returns-then-is_pairs : goal.returns-then-is_pairs
-returns-then-is_pairs c =
-    let both =
-    read_pairs _ _ _ c.is_none.ensures c.if-is_none.false _ c.is_pairs.ensures _ c.if-is_pairs.true c.store.ensures in
-    record { value = both.0; out_after = both.1 }
+store-requires c = pairs-fit _ _ _ c.is_pairs.ensures c.if-not-is_pairs.false
 
 pub returns : goal.returns
 returns c =
     let both =
-    read_bad _ _ _ c.is_none.ensures c.if-is_none.false _ c.is_pairs.ensures c.if-is_pairs.false in
+    read_pairs _ _ _ c.is_none.ensures c.if-is_none.false _ c.is_pairs.ensures _ c.if-not-is_pairs.false c.store.ensures in
+    record { value = both.0; out_after = both.1 }
+
+pub returns-then-not-is_pairs : goal.returns-then-not-is_pairs
+returns-then-not-is_pairs c =
+    let both =
+    read_bad _ _ _ c.is_none.ensures c.if-is_none.false _ c.is_pairs.ensures c.if-not-is_pairs.true in
     record { value = both.0; out_after = both.1 }
