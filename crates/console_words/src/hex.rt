@@ -1,5 +1,5 @@
 // Bytes in lowercase hex; `-` is none.
-ghost use Rattle.std.specs.Prelude.{◌≡◌, ◌+◌, ◌*◌, ◌/◌, ◌≤◌, ◌<◌, length};
+ghost use Rattle.std.specs.Prelude.{◌≡◌, ◌+◌, ◌*◌, ◌/◌, ◌≤◌, ◌<◌, IfSome, length};
 ghost use Rattle.std.specs.List.{list_all};
 ghost use Rattle.wire_bytes.specs.Bytes.{put};
 ghost use Rattle.console_words.specs.Hex.{is_hex, nibble, hex_bytes, is_none, is_pairs, hex_read, hex_after};
@@ -60,6 +60,7 @@ fn is_pairs(word: &[u8], room: usize) -> bool
 // The bytes that a word says, from the front of `out`, and how many they are. A bad word changes nothing.
 pub fn read_hex(word: &[u8], out: &mut [u8]) -> Option<usize>
     ensures value { result ≡ hex_read word.now (length out.old) }
+    ensures within { IfSome result (λ n. n ≤ length out.old) }
     ensures out_after { out.new ≡ hex_after word.now out.old }
 {
     if is_none(word) {

@@ -1,5 +1,5 @@
 // Attributes parted by commas; `-` is none.
-ghost use Rattle.std.specs.Prelude.{◌≡◌, length};
+ghost use Rattle.std.specs.Prelude.{◌≡◌, ◌≤◌, IfSome, length};
 ghost use Rattle.console_words.specs.Lists.{is_attribute, list_read, list_after};
 
 use crate::hex::is_none;
@@ -17,6 +17,7 @@ fn is_attribute(n: Number) -> bool
 // more than fit.
 pub fn read_list(word: &[u8], out: &mut [u16]) -> Option<usize>
     ensures value { result ≡ list_read word.now (length out.old) }
+    ensures within { IfSome result (λ n. n ≤ length out.old) }
     ensures out_after { out.new ≡ list_after word.now out.old }
 {
     if is_none(word) {

@@ -12,7 +12,7 @@ pub returns-then-is_none : goal.returns-then-is_none
 returns-then-is_none c =
     let both =
     list_none _ _ _ c.is_none.ensures c.if-is_none.true in
-    record { value = both.0; out_after = both.1 }
+    record { value = both.0; within = omega arith; out_after = both.1 }
 
 pub returns-in_err-number : goal.returns-in_err-number
 returns-in_err-number c =
@@ -20,14 +20,14 @@ returns-in_err-number c =
     list_gap _ _ _ c.is_none.ensures c.if-is_none.false _ _ _ c.loop-n.invariant _ _ c.next-end.ensures.value c.number_in.ensures
     c.next-end.ensures.lower_bound c.next-end.ensures.upper_bound c.in_err-number.was in
     let e : c.from_residual.result ≡ None = search rules in
-    record { value = e ∙ both.0; out_after = both.1 }
+    record { value = e ∙ both.0; within = rw e tt; out_after = both.1 }
 
 pub returns-then-not-is_attribute : goal.returns-then-not-is_attribute
 returns-then-not-is_attribute c =
     let both =
     list_broken _ _ _ c.is_none.ensures c.if-is_none.false _ _ _ c.loop-n.invariant _ _ c.next-end.ensures.value c.number_in.ensures
     _ c.in_ok-number.was c.next-end.ensures.lower_bound c.next-end.ensures.upper_bound (sym c.is_attribute.ensures ∙ c.if-not-is_attribute.true) in
-    record { value = both.0; out_after = both.1 }
+    record { value = both.0; within = tt; out_after = both.1 }
 
 pub overflow_cast-out : goal.overflow_cast-out
 unfolding is_attribute
@@ -40,7 +40,7 @@ returns-then-word-end c =
     last-read _ _ _ c.is_none.ensures c.if-is_none.false _ _ _ c.loop-n.invariant _ _ c.next-end.ensures.value c.number_in.ensures
     _ c.in_ok-number.was (omega (arith, c.loop-n.invariant.len)) (sym c.is_attribute.ensures ∙ c.if-not-is_attribute.false)
     (omega (arith, c.next-end.ensures.upper_bound)) in
-    record { value = both.0; out_after = both.1 }
+    record { value = both.0; within = omega arith; out_after = both.1 }
 
 pub loop-n-preserved : goal.loop-n-preserved
 loop-n-preserved c =
@@ -52,4 +52,4 @@ pub returns : goal.returns
 returns c =
     let both =
     list_full _ _ _ c.is_none.ensures c.if-is_none.false _ _ _ c.loop-n.invariant _ refl (omega (arith, c.loop-n.invariant.len)) in
-    record { value = both.0; out_after = both.1 }
+    record { value = both.0; within = tt; out_after = both.1 }
