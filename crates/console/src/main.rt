@@ -1,8 +1,6 @@
 // The kernel by hand: reads lines from standard input, and answers each with a line.
 #![tactic(auto)]
 
-ghost use Rattle.std.specs.Prelude.{◌≤◌};
-
 use console_lines::{ANSWER, LONGEST, ROOM};
 use kernel::{State, WORDS};
 use receiver::RECORD;
@@ -10,283 +8,139 @@ use std::io;
 use std::io::{Read, Write};
 use ticks::FRONT;
 
-// How much of a line is kept from earlier pieces of the input, and where the next answer goes.
-#[derive(Clone, Copy)]
-pub struct Place {
-    pub kept: usize,
-    pub at: usize,
-}
+// There is room for one byte more than the longest line, so that a longer one is still longer.
+const KEPT: usize = LONGEST + 1;
 
-// The position of the next line end, or the end.
-fn line_end(s: &[u8], from: usize) -> usize
-    ensures { from ≤ result }
-{
-    let mut i = from;
-    while i < s.len() {
-        if s[i] == b'\n' {
-            return i;
-        }
-        i += 1;
-    }
-    i
-}
+const BYTES: usize = LONGEST / 2;
 
-// Keeps bytes behind those kept, as far as there is room. There is room for one more than the longest line, so that a
-// longer one is still longer.
-fn keep(kept: &mut [u8], have: usize, s: &[u8]) -> usize {
-    let mut n = have;
-    let mut i = 0;
-    while i < s.len() {
-        if kept.len() <= n {
-            return n;
-        }
-        kept[n] = s[i];
-        n += 1;
-        i += 1;
-    }
-    n
-}
+// Bytes of answers that are collected before they are written.
+const OUT: usize = 65536;
 
-fn flush<W: Write>(output: &mut W, out: &[u8], at: usize) -> io::Result<()> {
-    if at <= out.len() {
-        output.write_all(&out[..at])?;
-    }
-    Ok(())
-}
-
-// Where the next answer goes: at the front, once the answers were written that leave no room for another.
-fn settle<W: Write>(output: &mut W, out: &[u8], at: usize) -> io::Result<usize> {
-    if out.len() < ANSWER {
-        return Ok(at);
-    }
-    if at < out.len() - ANSWER {
-        return Ok(at);
-    }
-    flush(output, out, at)?;
-    Ok(0)
-}
-
-// Answers the line that is kept.
-fn answer_kept<W: Write>(
-    output: &mut W,
-    d: &mut State,
-    words: &mut [u64; RECORD],
-    room: &mut [u8],
-    front: &mut [u64; FRONT],
-    kept: &[u8],
-    n: usize,
-    bytes: &mut [u8],
-    out: &mut [u8],
+// What the lines work on: the device, the receiver's record and its room, the tick counter's front, room for the bytes of a
+// line; the beginning of a line, from earlier pieces of the input; and the answers that are not written yet.
+#[derive(Drop)]
+struct Console {
+    device: State,
+    record: [u64; RECORD],
+    room: [u8; ROOM],
+    front: [u64; FRONT],
+    bytes: [u8; BYTES],
+    kept: [u8; KEPT],
+    have: usize,
+    out: [u8; OUT],
     at: usize,
-) -> io::Result<usize> {
-    if n <= kept.len() {
-        let p = settle(output, out, at)?;
-        let end = console_lines::answer(d, words, room, front, &kept[..n], bytes, out, p);
-        return Ok(end);
-    }
-    Ok(at)
 }
 
-// Answers a line, whose beginning may be kept.
-fn line<W: Write>(
-    output: &mut W,
-    d: &mut State,
-    words: &mut [u64; RECORD],
-    room: &mut [u8],
-    front: &mut [u64; FRONT],
-    s: &[u8],
-    kept: &mut [u8],
-    bytes: &mut [u8],
-    out: &mut [u8],
-    place: Place,
-) -> io::Result<usize> {
-    let have = place.kept;
-    if have == 0 {
-        let p = settle(output, out, place.at)?;
-        let end = console_lines::answer(d, words, room, front, s, bytes, out, p);
-        return Ok(end);
+impl Console {
+    fn new() -> Self {
+        let mut device = [0u64; WORDS];
+        console_lines::before_start(&mut device);
+        Console {
+            device,
+            record: [0; RECORD],
+            room: [0; ROOM],
+            front: [0; FRONT],
+            bytes: [0; BYTES],
+            kept: [0; KEPT],
+            have: 0,
+            out: program_io::large_buffer(),
+            at: 0,
+        }
     }
-    let n = keep(kept, have, s);
-    answer_kept(output, d, words, room, front, kept, n, bytes, out, place.at)
-}
 
-// Answers the line from `from` to `to`.
-fn part<W: Write>(
-    output: &mut W,
-    d: &mut State,
-    words: &mut [u64; RECORD],
-    room: &mut [u8],
-    front: &mut [u64; FRONT],
-    s: &[u8],
-    from: usize,
-    to: usize,
-    kept: &mut [u8],
-    bytes: &mut [u8],
-    out: &mut [u8],
-    place: Place,
-) -> io::Result<usize> {
-    if to <= s.len() {
-        if from <= to {
-            return line(
-                output,
-                d,
-                words,
-                room,
-                front,
-                &s[from..to],
-                kept,
-                bytes,
-                out,
-                place,
+    // Keeps bytes behind those kept, as far as there is room.
+    fn keep(&mut self, s: &[u8]) {
+        if self.have <= KEPT {
+            let n = s.len().min(KEPT - self.have);
+            self.kept[self.have..self.have + n].copy_from_slice(&s[..n]);
+            self.have += n;
+        }
+    }
+
+    // Writes the answers.
+    fn flush<W: Write>(&mut self, output: &mut W) -> io::Result<()> {
+        if self.at <= OUT {
+            output.write_all(&self.out[..self.at])?;
+        }
+        self.at = 0;
+        Ok(())
+    }
+
+    // Writes the answers that leave no room for another.
+    fn settle<W: Write>(&mut self, output: &mut W) -> io::Result<()> {
+        if self.at < OUT - ANSWER {
+            return Ok(());
+        }
+        self.flush(output)
+    }
+
+    // Answers the line that is kept.
+    fn answer_kept<W: Write>(&mut self, output: &mut W) -> io::Result<()> {
+        self.settle(output)?;
+        if self.have <= KEPT {
+            self.at = console_lines::answer(
+                &mut self.device,
+                &mut self.record,
+                &mut self.room,
+                &mut self.front,
+                &self.kept[..self.have],
+                &mut self.bytes,
+                &mut self.out,
+                self.at,
             );
         }
+        self.have = 0;
+        Ok(())
     }
-    Ok(place.at)
-}
 
-// Keeps the beginning of a line.
-fn keep_rest(s: &[u8], from: usize, kept: &mut [u8], have: usize) -> usize {
-    if from <= s.len() {
-        return keep(kept, have, &s[from..]);
-    }
-    have
-}
-
-// Answers the lines of a piece of the input, and keeps what is left.
-fn piece<W: Write>(
-    output: &mut W,
-    d: &mut State,
-    words: &mut [u64; RECORD],
-    room: &mut [u8],
-    front: &mut [u64; FRONT],
-    s: &[u8],
-    kept: &mut [u8],
-    bytes: &mut [u8],
-    out: &mut [u8],
-    start: Place,
-) -> io::Result<Place> {
-    let mut have = start.kept;
-    let mut at = start.at;
-    let mut from = 0;
-    while from < s.len() {
-        let end = line_end(s, from);
-        if s.len() <= end {
-            let n = keep_rest(s, from, kept, have);
-            return Ok(Place { kept: n, at });
+    // Answers a line, whose beginning may be kept.
+    fn line<W: Write>(&mut self, output: &mut W, s: &[u8]) -> io::Result<()> {
+        if self.have > 0 {
+            self.keep(s);
+            return self.answer_kept(output);
         }
-        at = part(
-            output,
-            d,
-            words,
-            room,
-            front,
+        self.settle(output)?;
+        self.at = console_lines::answer(
+            &mut self.device,
+            &mut self.record,
+            &mut self.room,
+            &mut self.front,
             s,
-            from,
-            end,
-            kept,
-            bytes,
-            out,
-            Place { kept: have, at },
-        )?;
-        have = 0;
-        from = end + 1;
+            &mut self.bytes,
+            &mut self.out,
+            self.at,
+        );
+        Ok(())
     }
-    Ok(Place { kept: have, at })
-}
 
-// Reads a piece, answers its lines, and writes the answers, so that one who types sees them.
-fn turn<R: Read, W: Write>(
-    input: &mut R,
-    output: &mut W,
-    d: &mut State,
-    words: &mut [u64; RECORD],
-    room: &mut [u8],
-    front: &mut [u64; FRONT],
-    kept: &mut [u8],
-    bytes: &mut [u8],
-    out: &mut [u8],
-    have: usize,
-    more: &mut bool,
-) -> io::Result<usize> {
-    let mut scrap = program_io::large_buffer();
-    let n = input.read(&mut scrap)?;
-    if n == 0 {
-        *more = false;
-        return Ok(have);
+    // Answers the lines of a piece of the input, and keeps what is left.
+    fn piece<W: Write>(&mut self, output: &mut W, s: &[u8]) -> io::Result<()> {
+        for part in s.split_inclusive(|b| *b == b'\n') {
+            match part {
+                [line @ .., b'\n'] => self.line(output, line)?,
+                _ => self.keep(part),
+            }
+        }
+        Ok(())
     }
-    let place = piece(
-        output,
-        d,
-        words,
-        room,
-        front,
-        &scrap[..n],
-        kept,
-        bytes,
-        out,
-        Place { kept: have, at: 0 },
-    )?;
-    flush(output, out, place.at)?;
-    Ok(place.kept)
-}
 
-// A last line without its newline counts.
-fn finish<W: Write>(
-    output: &mut W,
-    d: &mut State,
-    words: &mut [u64; RECORD],
-    room: &mut [u8],
-    front: &mut [u64; FRONT],
-    kept: &[u8],
-    n: usize,
-    bytes: &mut [u8],
-    out: &mut [u8],
-) -> io::Result<()> {
-    let at = answer_kept(output, d, words, room, front, kept, n, bytes, out, 0)?;
-    flush(output, out, at)
-}
-
-fn run<R: Read, W: Write>(
-    input: &mut R,
-    output: &mut W,
-    d: &mut State,
-    words: &mut [u64; RECORD],
-    room: &mut [u8],
-    front: &mut [u64; FRONT],
-    kept: &mut [u8],
-    bytes: &mut [u8],
-    out: &mut [u8],
-) -> io::Result<()> {
-    let mut more = true;
-    let mut have = 0;
-    let mut turns = u64::MAX;
-    while turns > 0 && more {
-        have = turn(
-            input, output, d, words, room, front, kept, bytes, out, have, &mut more,
-        )?;
-        turns -= 1;
+    // Reads pieces, answers their lines, and writes the answers of each, so that one who types sees them. A last line without
+    // its newline counts.
+    fn run<R: Read, W: Write>(&mut self, input: &mut R, output: &mut W) -> io::Result<()> {
+        for _ in 0..u64::MAX {
+            let mut piece = program_io::large_buffer();
+            let n = input.read(&mut piece)?;
+            if n == 0 {
+                break;
+            }
+            self.piece(output, &piece[..n])?;
+            self.flush(output)?;
+        }
+        self.answer_kept(output)?;
+        self.flush(output)
     }
-    finish(output, d, words, room, front, kept, have, bytes, out)
 }
 
 fn main(rt: HostRuntime) -> io::Result<()> {
-    let mut d = [0u64; WORDS];
-    let mut words = [0u64; RECORD];
-    let mut room = [0u8; ROOM];
-    let mut front = [0u64; FRONT];
-    let mut kept = [0u8; LONGEST + 1];
-    let mut bytes = [0u8; LONGEST / 2];
-    let mut out = program_io::large_buffer();
-    console_lines::before_start(&mut d);
-    run(
-        &mut rt.stdin(),
-        &mut rt.stdout(),
-        &mut d,
-        &mut words,
-        &mut room,
-        &mut front,
-        &mut kept,
-        &mut bytes,
-        &mut out,
-    )
+    Console::new().run(&mut rt.stdin(), &mut rt.stdout())
 }

@@ -1,29 +1,14 @@
 // `frame ZONE TIME ROOM BYTES`, `request BYTES`, `response COMMAND BYTES`: frames given to the device, and the codecs alone.
-ghost use Rattle.std.specs.Prelude.{◌≤◌, length};
 
 use console_line::{Command, FIELDS, smaller};
 use console_words::{put_bad, put_bytes, read_hex};
 use kernel::{FRAME, State};
 
-fn frame_into(
-    d: &mut State,
-    f: [u64; FIELDS],
-    bytes: &[u8],
-    room: usize,
-    response: &mut [u8],
-    out: &mut [u8],
-    at: usize,
-) -> usize
-    requires { room ≤ length response.old }
-{
-    let r = kernel::frame(d, f[0], f[1], bytes, &mut response[..room]);
-    put_bytes(out, at, r.number, response, r.length)
-}
-
 fn frame(d: &mut State, f: [u64; FIELDS], bytes: &[u8], out: &mut [u8], at: usize) -> usize {
     let mut response = [0u8; FRAME];
     let room = smaller(f[2], FRAME);
-    frame_into(d, f, bytes, room, &mut response, out, at)
+    let r = kernel::frame(d, f[0], f[1], bytes, &mut response[..room]);
+    put_bytes(out, at, r.number, &response, r.length)
 }
 
 fn request(bytes: &[u8], out: &mut [u8], at: usize) -> usize {
@@ -75,12 +60,8 @@ pub fn with_bytes(
     out: &mut [u8],
     at: usize,
 ) -> usize {
-    let read = read_hex(word, bytes);
-    let n = read.count;
-    if read.good {
-        if n <= bytes.len() {
-            return run_bytes(d, c, f, &bytes[..n], out, at);
-        }
+    match read_hex(word, bytes) {
+        Some(n) => run_bytes(d, c, f, &bytes[..n], out, at),
+        None => put_bad(out, at),
     }
-    put_bad(out, at)
 }

@@ -9,6 +9,7 @@ use kernel::{Row, State, VALUES};
 // The most records that are lent: those of the longest plan.
 const RECORDS: usize = kernel::PLAN / kernel::ROW;
 
+#[tactic(auto, unfolding(crate::specs::Values::values_in))]
 fn values_of(r: Row) -> [i64; VALUES]
     ensures { result ≡ values_in r }
 {
@@ -39,11 +40,9 @@ fn put_row(out: &mut [u8], at: usize, r: Row) -> usize {
 fn put_rows(d: &State, n: usize, out: &mut [u8], at: usize) -> usize {
     let mut r = kernel::first_record(d);
     let mut p = at;
-    let mut i = 0;
-    while i < n {
+    for _ in 0..n {
         p = put_row(out, p, r);
         r = kernel::next_record(d, r);
-        i += 1;
     }
     p
 }

@@ -1,5 +1,4 @@
 // `conf TYPE MAP PHASES DIRECTIONS LIMITS CURRENT SETPOINTS PROCESS ROOM ATTRIBUTES`: what the report says of a device.
-ghost use Rattle.std.specs.Prelude.{◌≤◌, length};
 
 use console_line::{FIELDS, smaller};
 use console_words::{put_bad, put_end, put_pairs, read_list};
@@ -21,43 +20,16 @@ fn inputs_of(f: [u64; FIELDS]) -> kernel::Inputs {
     }
 }
 
-fn report(
-    inputs: kernel::Inputs,
-    attributes: &[u16],
-    room: usize,
-    pairs: &mut [u64],
-    out: &mut [u8],
-    at: usize,
-) -> usize
-    requires { room ≤ length pairs.old }
-{
-    let r = kernel::report(inputs, attributes, &mut pairs[..room]);
-    let p = text::put_decimal(out, at, r.number);
-    let q = put_pairs(out, p, pairs, r.count);
-    put_end(out, q)
-}
-
-fn conf_of(f: [u64; FIELDS], attributes: &[u16], n: usize, out: &mut [u8], at: usize) -> usize {
-    let mut pairs = [0u64; REPORT];
-    if n <= attributes.len() {
-        return report(
-            inputs_of(f),
-            &attributes[..n],
-            smaller(f[8], REPORT),
-            &mut pairs,
-            out,
-            at,
-        );
-    }
-    put_bad(out, at)
-}
-
 // Answers a line whose nine numbers are good; `word` lists the attributes.
 pub fn conf(f: [u64; FIELDS], word: &[u8], out: &mut [u8], at: usize) -> usize {
     let mut attributes = [0u16; ATTRIBUTES];
-    let listed = read_list(word, &mut attributes);
-    if listed.good {
-        return conf_of(f, &attributes, listed.count, out, at);
-    }
-    put_bad(out, at)
+    let Some(n) = read_list(word, &mut attributes) else {
+        return put_bad(out, at);
+    };
+    let mut pairs = [0u64; REPORT];
+    let room = smaller(f[8], REPORT);
+    let r = kernel::report(inputs_of(f), &attributes[..n], &mut pairs[..room]);
+    let p = text::put_decimal(out, at, r.number);
+    let q = put_pairs(out, p, &pairs, r.count);
+    put_end(out, q)
 }

@@ -5,6 +5,7 @@ ghost use Rattle.console_kernel_lines.specs.Starts.{settings_in};
 use console_line::FIELDS;
 use device_store::Settings;
 
+#[tactic(auto, unfolding(crate::specs::Starts::settings_in))]
 pub fn settings_of(f: [u64; FIELDS]) -> Settings
     ensures { result ≡ settings_in f }
 {

@@ -1,5 +1,6 @@
 -- Which command a line is, and how many words it has. Assumes nothing: these are definitions.
 use Rattle.std.specs.Prelude.{ℕ, cond, List, [], ◌∷◌, map, leb, length, get_or, take}
+use Rattle.std.specs.Borrow.{Bor}
 use Rattle.console_words.specs.Spans.{same_bytes}
 use Rattle.console_line.specs.declared.commands.Command.{Command}
 use Rattle.console_line.specs.declared.commands.Line.{Line}
@@ -31,6 +32,10 @@ table =
     ∷ (99 ∷ 111 ∷ 110 ∷ 102 ∷ [], says Command.Conf 11)  -- conf
     ∷ (109 ∷ 101 ∷ 97 ∷ 115 ∷ [], says Command.Meas 2)  -- meas
     ∷ []
+
+-- what the code's rows say, whose names are lent
+abbrev pub said : List (Bor (List ℕ) × Line) → List (List ℕ × Line)
+said rows = map (λ r. (r.0.now, r.1)) rows
 
 -- what its rows say, in their order
 abbrev pub lines_of : List (List ℕ × Line) → List Line

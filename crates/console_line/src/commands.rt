@@ -1,12 +1,13 @@
 // A command's name, how many words its line has, and what its numbers are.
-ghost use Rattle.std.specs.Prelude.{◌≡◌, get_or};
-ghost use Rattle.console_line.specs.Fields.{numbers_good, numbers_stored};
-ghost use Rattle.console_line.specs.Commands.{unknown, table, lines_of, found, line_of};
+ghost use Rattle.std.specs.Prelude.{◌≡◌, true, false, [], MatchOption};
+ghost use Rattle.console_line.specs.Fields.{is_known, kinds_of, numbers_good, numbers_stored};
+ghost use Rattle.console_line.specs.Commands.{unknown, said, found, line_of};
 
-use crate::fields::read;
-use console_words::{place, span};
+use crate::fields::Kind::{Any, Flag, Lent, Maximum};
+use crate::fields::{Kind, read};
+use console_words::{same, span};
 
-#[derive(Clone, Copy)]
+#[derive(Clone, Copy, PartialEq, Eq)]
 pub enum Command {
     Unknown,
     Start,
@@ -28,30 +29,30 @@ pub enum Command {
 }
 
 // What a line's name says: its command, and how many words the line has.
-#[derive(Clone, Copy)]
+#[derive(Clone, Copy, PartialEq, Eq)]
 pub struct Line(pub Command, pub usize);
 
 // How many names there are.
 const NAMES: usize = 16;
 
-// What each name says, in the order of the names in `named`.
-const TABLE: [Line; NAMES] = [
-    Line(Command::Start, 13),
-    Line(Command::Join, 4),
-    Line(Command::Leave, 3),
-    Line(Command::Lost, 3),
-    Line(Command::Back, 3),
-    Line(Command::Override, 4),
-    Line(Command::Clear, 2),
-    Line(Command::Move, 2),
-    Line(Command::Ask, 1),
-    Line(Command::Plan, 2),
-    Line(Command::Rows, 2),
-    Line(Command::Frame, 5),
-    Line(Command::Request, 2),
-    Line(Command::Response, 3),
-    Line(Command::Conf, 11),
-    Line(Command::Meas, 2),
+// What each name says.
+const TABLE: [(&[u8], Line); NAMES] = [
+    (b"start", Line(Command::Start, 13)),
+    (b"join", Line(Command::Join, 4)),
+    (b"leave", Line(Command::Leave, 3)),
+    (b"lost", Line(Command::Lost, 3)),
+    (b"back", Line(Command::Back, 3)),
+    (b"override", Line(Command::Override, 4)),
+    (b"clear", Line(Command::Clear, 2)),
+    (b"move", Line(Command::Move, 2)),
+    (b"ask", Line(Command::Ask, 1)),
+    (b"plan", Line(Command::Plan, 2)),
+    (b"rows", Line(Command::Rows, 2)),
+    (b"frame", Line(Command::Frame, 5)),
+    (b"request", Line(Command::Request, 2)),
+    (b"response", Line(Command::Response, 3)),
+    (b"conf", Line(Command::Conf, 11)),
+    (b"meas", Line(Command::Meas, 2)),
 ];
 
 // No line has no words.
@@ -61,60 +62,56 @@ fn unknown() -> Line
     Line(Command::Unknown, 0)
 }
 
-// The table's row at a place; past the last there is none.
-fn line_at(k: usize) -> Line
-    ensures { result ≡ get_or (lines_of table) k unknown }
+// The first of some rows that has the name.
+fn row_of(rows: &[(&[u8], Line)], word: &[u8]) -> Line
+    ensures { result ≡ found (said rows.now) word.now }
 {
-    if k < NAMES {
-        return TABLE[k];
+    for (name, line) in rows {
+        if same(word, name) {
+            return *line;
+        }
     }
     unknown()
-}
-
-// The table's row of a name.
-fn named(word: &[u8]) -> Line
-    ensures { result ≡ found table word.now }
-{
-    line_at(place(
-        word,
-        b"start join leave lost back override clear move ask plan rows frame request response conf meas",
-    ))
 }
 
 // What the first word of a line says, by the ends of its words.
+#[tactic(auto, unfolding(crate::specs::Commands::line_of, console_words::specs::Spans::span_of))]
 pub fn line_of(line: &[u8], ends: &[usize]) -> Line
     ensures { result ≡ line_of line.now ends.now }
 {
-    let name = span(ends, 0);
-    let to = name.to;
-    if to <= line.len() {
-        return named(&line[..to]);
+    match line.get(..span(ends, 0).end) {
+        Some(name) => row_of(&TABLE, name),
+        None => unknown(),
     }
-    unknown()
 }
 
-// The numbers of a command: n a number, f a flag, m a maximum, r a count of what is lent.
+// The kinds of a command's numbers.
+fn kinds(c: Command) -> Option<&'static [Kind]>
+    ensures { MatchOption result ((is_known c ≡ false) × (kinds_of c ≡ [])) (λ kinds. (is_known c ≡ true) × (kinds.now ≡ kinds_of c)) }
+{
+    match c {
+        Command::Unknown => None,
+        Command::Start => Some(&[
+            Any, Flag, Flag, Any, Maximum, Maximum, Any, Any, Any, Flag, Any, Flag,
+        ]),
+        Command::Join | Command::Override => Some(&[Any, Any, Any]),
+        Command::Leave | Command::Lost | Command::Back => Some(&[Any, Any]),
+        Command::Clear | Command::Move | Command::Response => Some(&[Any]),
+        Command::Plan | Command::Rows => Some(&[Lent]),
+        Command::Frame => Some(&[Any, Any, Lent]),
+        Command::Conf => Some(&[Any, Any, Any, Any, Flag, Flag, Flag, Flag, Lent]),
+        Command::Ask | Command::Request | Command::Meas => Some(&[]),
+    }
+}
+
+// Reads the numbers of a command, and says whether every one is good; no line has those of no command.
+#[tactic(auto, unfolding(crate::specs::Fields::numbers_good, crate::specs::Fields::numbers_stored, crate::specs::Fields::stored_from))]
 pub fn read_numbers(line: &[u8], ends: &[usize], c: Command, fields: &mut [u64]) -> bool
     ensures value { result ≡ numbers_good line.now ends.now c }
     ensures fields_after { fields.new ≡ numbers_stored line.now ends.now c fields.old }
 {
-    match c {
-        Command::Unknown => false,
-        Command::Start => read(line, ends, b"nffnmmnnnfnf", fields),
-        Command::Join => read(line, ends, b"nnn", fields),
-        Command::Leave => read(line, ends, b"nn", fields),
-        Command::Lost => read(line, ends, b"nn", fields),
-        Command::Back => read(line, ends, b"nn", fields),
-        Command::Override => read(line, ends, b"nnn", fields),
-        Command::Clear => read(line, ends, b"n", fields),
-        Command::Move => read(line, ends, b"n", fields),
-        Command::Ask => true,
-        Command::Plan => read(line, ends, b"r", fields),
-        Command::Rows => read(line, ends, b"r", fields),
-        Command::Frame => read(line, ends, b"nnr", fields),
-        Command::Request => true,
-        Command::Response => read(line, ends, b"n", fields),
-        Command::Conf => read(line, ends, b"nnnnffffr", fields),
-        Command::Meas => true,
-    }
+    let Some(kinds) = kinds(c) else {
+        return false;
+    };
+    read(line, ends, kinds, fields)
 }

@@ -2,32 +2,30 @@
 ghost use Rattle.std.specs.Prelude.{◌≡◌, min, set};
 ghost use Rattle.console_line.specs.Fields.{none_in, below_none, maximum_in, is_of, field_in, all_good, stored_from};
 
-use console_words::{Number, is_none, no_number, number_in, span};
+use console_words::{Number, is_none, number_in, span};
 use device_store::{MOST, VALUE_END};
 
 // No command has more numbers.
 pub const FIELDS: usize = 12;
 
-// A maximum may be none. The largest word stands for that, and no number that a line says.
-const FLAG: u8 = b'f';
+// What a number is: any; a flag; a maximum, which may be none; a count of what is lent, of bytes, numbers or records.
+#[derive(Clone, Copy, PartialEq, Eq)]
+pub(crate) enum Kind {
+    Any,
+    Flag,
+    Maximum,
+    Lent,
+}
 
-const MAXIMUM: u8 = b'm';
-
-// What is lent is counted: bytes, numbers or records.
-const LENT: u8 = b'r';
-
+#[tactic(auto, unfolding(crate::specs::Fields::none_in))]
 fn is_none_in(line: &[u8], from: usize, to: usize) -> bool
     ensures { result ≡ none_in line.now from to }
 {
-    if to <= line.len() {
-        if from <= to {
-            return is_none(&line[from..to]);
-        }
-    }
-    false
+    line.get(from..to).is_some_and(|w| is_none(w))
 }
 
 // No number that a line says is as large as the word for none.
+#[tactic(auto, unfolding(crate::specs::Fields::below_none))]
 fn below_none(n: Number) -> Number
     ensures { result ≡ below_none n }
 {
@@ -35,49 +33,45 @@ fn below_none(n: Number) -> Number
         return n;
     }
     Number {
-        good: n.good,
-        negative: n.negative,
         value: VALUE_END,
+        ..n
     }
 }
 
-fn maximum(line: &[u8], from: usize, to: usize) -> Number
+// The largest word stands for none, and for no number that a line says.
+#[tactic(auto, unfolding(crate::specs::Fields::maximum_in))]
+fn maximum(line: &[u8], from: usize, to: usize) -> Option<Number>
     ensures { result ≡ maximum_in line.now from to }
 {
     if is_none_in(line, from, to) {
-        return Number {
-            good: true,
+        return Some(Number {
             negative: false,
             value: MOST,
-        };
+        });
     }
-    below_none(number_in(line, from, to))
+    number_in(line, from, to).map(below_none)
 }
 
 // A flag is 0 or 1; what is lent is no negative count.
-fn is_of(n: Number, kind: u8) -> bool
+#[tactic(auto, unfolding(crate::specs::Fields::is_of))]
+fn is_of(n: Number, kind: Kind) -> bool
     ensures { result ≡ is_of n kind }
 {
-    if kind == FLAG {
-        return n.good && n.value < 2;
+    match kind {
+        Kind::Flag => n.value < 2,
+        Kind::Lent => !n.negative,
+        Kind::Any | Kind::Maximum => true,
     }
-    if kind == LENT {
-        return n.good && !n.negative;
-    }
-    n.good
 }
 
-fn field(line: &[u8], from: usize, to: usize, kind: u8) -> Number
+#[tactic(auto, unfolding(crate::specs::Fields::field_in))]
+fn field(line: &[u8], from: usize, to: usize, kind: Kind) -> Option<Number>
     ensures { result ≡ field_in line.now from to kind }
 {
-    if kind == MAXIMUM {
-        return maximum(line, from, to);
+    match kind {
+        Kind::Maximum => maximum(line, from, to),
+        _ => number_in(line, from, to).filter(|n| is_of(*n, kind)),
     }
-    let n = number_in(line, from, to);
-    if is_of(n, kind) {
-        return n;
-    }
-    no_number()
 }
 
 fn put(fields: &mut [u64], k: usize, value: u64)
@@ -89,19 +83,16 @@ fn put(fields: &mut [u64], k: usize, value: u64)
 }
 
 // Reads a number for each kind, and says whether every one is good; it stores them up to the first that is not.
-pub(crate) fn read(line: &[u8], ends: &[usize], kinds: &[u8], fields: &mut [u64]) -> bool
+pub(crate) fn read(line: &[u8], ends: &[usize], kinds: &[Kind], fields: &mut [u64]) -> bool
     ensures value { result ≡ all_good line.now ends.now 0 kinds.now }
     ensures fields_after { fields.new ≡ stored_from line.now ends.now 0 kinds.now fields.old }
 {
-    let mut k = 0;
-    while k < kinds.len() {
+    for (k, kind) in kinds.iter().enumerate() {
         let word = span(ends, k + 1);
-        let n = field(line, word.from, word.to, kinds[k]);
-        if !n.good {
+        let Some(n) = field(line, word.start, word.end, *kind) else {
             return false;
-        }
+        };
         put(fields, k, n.value);
-        k += 1;
     }
     true
 }
@@ -110,8 +101,5 @@ pub(crate) fn read(line: &[u8], ends: &[usize], kinds: &[u8], fields: &mut [u64]
 pub fn smaller(n: u64, most: usize) -> usize
     ensures { result ≡ min n most }
 {
-    if n < most as u64 {
-        return n as usize;
-    }
-    most
+    most.min(n as usize)
 }

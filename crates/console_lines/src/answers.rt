@@ -1,11 +1,11 @@
 // The answer to a line. Each command reads its words, makes one call of the kernel and writes what that answers.
-ghost use Rattle.std.specs.Prelude.{◌≡◌, ◌≤◌, length};
+ghost use Rattle.std.specs.Prelude.{◌≡◌};
 ghost use Rattle.device_store.specs.Words.{fresh};
 ghost use Rattle.device_calls.specs.Start.{refused_settings};
 
 use crate::LONGEST;
 use console_kernel_lines::{conf, rows, settings_of, with_bytes};
-use console_line::{Command, FIELDS, line_of, read_numbers, smaller};
+use console_line::{Command, FIELDS, Line, line_of, read_numbers, smaller};
 use console_other_lines::{is_rescue, is_scrap, is_tick, meas, rescue, scrap, tick};
 use console_words::{put_bad, put_end, put_list, put_number, span, split};
 use kernel::{PLAN, State};
@@ -17,14 +17,6 @@ const WORDS: usize = 1 + FIELDS;
 
 // The numbers of a plan's row.
 const ROW: u64 = kernel::ROW as u64;
-
-// Numbers of a count of rows.
-fn numbers_of(rows: u64) -> u64 {
-    if rows < 1000 {
-        return rows * ROW;
-    }
-    0
-}
 
 // The calls that answer a number only.
 fn call(d: &mut State, c: Command, f: [u64; FIELDS]) -> u64 {
@@ -49,18 +41,13 @@ fn ask(d: &State, out: &mut [u8], at: usize) -> usize {
     put_end(out, q)
 }
 
-fn plan_into(d: &State, room: usize, rows: &mut [i64], out: &mut [u8], at: usize) -> usize
-    requires { room ≤ length rows.old }
-{
-    let r = kernel::plan(d, &mut rows[..room]);
-    let p = text::put_decimal(out, at, r.number);
-    let q = put_list(out, p, rows, numbers_of(r.count));
-    put_end(out, q)
-}
-
 fn plan(d: &State, room: u64, out: &mut [u8], at: usize) -> usize {
     let mut rows = [0i64; PLAN];
-    plan_into(d, smaller(room, PLAN), &mut rows, out, at)
+    let room = smaller(room, PLAN);
+    let r = kernel::plan(d, &mut rows[..room]);
+    let p = text::put_decimal(out, at, r.number);
+    let q = put_list(out, p, &rows, r.count.saturating_mul(ROW));
+    put_end(out, q)
 }
 
 // Runs a command whose numbers are good; `word` is its last word.
@@ -96,41 +83,15 @@ fn line(
     out: &mut [u8],
     at: usize,
 ) -> usize {
-    let name = line_of(s, ends);
-    let c = name.0;
+    let Line(c, words) = line_of(s, ends);
     let mut f = [0u64; FIELDS];
-    if count != name.1 {
+    if count == 0 || count != words || !read_numbers(s, ends, c, &mut f) {
         return put_bad(out, at);
     }
-    if !read_numbers(s, ends, c, &mut f) {
-        return put_bad(out, at);
+    match s.get(span(ends, count - 1)) {
+        Some(word) => run(d, c, f, word, bytes, out, at),
+        None => put_bad(out, at),
     }
-    last_word(d, c, f, s, ends, count, bytes, out, at)
-}
-
-fn last_word(
-    d: &mut State,
-    c: Command,
-    f: [u64; FIELDS],
-    s: &[u8],
-    ends: &[usize],
-    count: usize,
-    bytes: &mut [u8],
-    out: &mut [u8],
-    at: usize,
-) -> usize {
-    if count == 0 {
-        return put_bad(out, at);
-    }
-    let w = span(ends, count - 1);
-    let from = w.from;
-    let to = w.to;
-    if to <= s.len() {
-        if from <= to {
-            return run(d, c, f, &s[from..to], bytes, out, at);
-        }
-    }
-    put_bad(out, at)
 }
 
 // Writes the answer to a line behind `at`, and says the position past it. `words` and `room` are the receiver's, `front` is the
@@ -145,14 +106,16 @@ pub fn answer(
     out: &mut [u8],
     at: usize,
 ) -> usize {
-    if s.len() == 0 {
+    if s.is_empty() {
         return at;
     }
     if LONGEST < s.len() {
         return put_bad(out, at);
     }
     let mut ends = [0usize; WORDS];
-    let count = split(s, &mut ends);
+    let Some(count) = split(s, &mut ends) else {
+        return put_bad(out, at);
+    };
     if is_scrap(s, &ends) {
         return scrap(words, room, s, &ends, count, bytes, out, at);
     }

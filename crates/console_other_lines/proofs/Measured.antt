@@ -2,6 +2,7 @@
 use Prim.Native.Nat.{ℕ, ◌≤◌, ◌<◌}
 use mathlib.Core.Path.{◌≡◌, refl, sym, ◌∙◌}
 use mathlib.Core.Bool.{Bool, true, false, cond, ◌||◌}
+use Rattle.std.specs.Prelude.{Option, Some, None}
 use mathlib.Core.List.{List, [], ◌∷◌, ◌++◌}
 use lib.ListN.{length, take}
 use lib.Seq.{take-length}
@@ -15,7 +16,6 @@ use Rattle.text.specs.Pieces.{put_all, past_all}
 use Rattle.text.proofs.Pieces.{all_to_do, one_done, two-done, run-done, all_done}
 use Rattle.console_words.specs.Answers.{hex_or_none, bad_line}
 use Rattle.console_words.specs.Hex.{is_none, is_pairs, hex_bytes, hex_read, hex_after}
-use Rattle.console_words.specs.declared.hex.Read.{Read}
 use Rattle.measurement_table.specs.Words.{cell_of, held_at, held_from, held, range_number}
 use Rattle.measurement_table.specs.Rows.{rows}
 use Rattle.measurement_table.specs.Payload.{read_number, read_after}
@@ -96,30 +96,18 @@ refused-shows s h =
     rw (ne_eqb (read_number s) 0 h, again-refused (read_number s) unread h, unread-flows) refl
 
 -- the line, by what was read of its word
-kept : (w bytes : List ℕ) → length (hex_after w bytes) ≡ length bytes
-unfolding hex_after
-kept w bytes = go (is_none w || is_pairs w (length bytes))
-  where
-    go : (b : Bool) → length (cond b (put bytes 0 (hex_bytes w)) bytes) ≡ length bytes
-    go true = length-put bytes (hex_bytes w) 0
-    go false = refl
-
 -- what a line answers and leaves
 abbrev Line : List ℕ → List ℕ → List ℕ → List ℕ → ℕ → ℕ → List ℕ → Type 0
 Line w bytes x out at q t = (q ≡ past_all out at (meas_pieces w bytes)) × ((t ≡ put_all out at (meas_pieces w bytes)) × (x ≡ hex_after w bytes))
 
-module _ (w bytes x : List ℕ) (r : Read) (e : r ≡ hex_read w (length bytes)) (f : x ≡ hex_after w bytes) (out t : List ℕ) (at q : ℕ) where
+module _ (w bytes x : List ℕ) (r : Option ℕ) (e : r ≡ hex_read w (length bytes)) (f : x ≡ hex_after w bytes) (out t : List ℕ) (at q : ℕ) where
   with_bytes : All out at (meas_pieces w bytes) q t → Line w bytes x out at q t
   with_bytes a = (a.0, (a.1, f))
 
-  pub line-bad : r.good ≡ false → One out at bad_line q t → Line w bytes x out at q t
+  pub line-bad : r ≡ None → One out at bad_line q t → Line w bytes x out at q t
   unfolding meas_pieces
   line-bad b h = with_bytes (rw (← e, b) (alone out at bad_line t q h))
 
-  pub line-past : r.good ≡ true → length x < r.count → One out at bad_line q t → Line w bytes x out at q t
+  pub line-good : (n : ℕ) → r ≡ Some n → All out at (payload_pieces (take n x)) q t → Line w bytes x out at q t
   unfolding meas_pieces
-  line-past b h i = with_bytes (rw (← e, b, lt-leb r.count (length bytes) (rw (f, kept w bytes) at h)) (alone out at bad_line t q i))
-
-  pub line-good : r.good ≡ true → r.count ≤ length x → All out at (payload_pieces (take r.count x)) q t → Line w bytes x out at q t
-  unfolding meas_pieces
-  line-good b h i = with_bytes (rw (← e, b, le-leb r.count (length bytes) (rw (f, kept w bytes) at h)) (rw f at i))
+  line-good n b i = with_bytes (rw (← e, b) (rw f at i))

@@ -1,5 +1,5 @@
 -- What a line `meas BYTES` answers. Assumes nothing: these are definitions.
-use Rattle.std.specs.Prelude.{ℕ, ◌≡◌, Bool, true, false, cond, ◌&&◌, ◌||◌, List, [], ◌∷◌, ◌++◌, length, take, replicate, leb, eqb}
+use Rattle.std.specs.Prelude.{ℕ, ◌≡◌, Bool, true, false, cond, ◌&&◌, ◌||◌, List, [], ◌∷◌, ◌++◌, length, take, replicate, eqb, Option, Some, None}
 use Rattle.wire_cbor.specs.Item.{encode}
 use Rattle.wire_output.specs.Writing.{written_of, left_by}
 use Rattle.text.specs.Text.{decimal}
@@ -76,9 +76,11 @@ abbrev pub RefusedShows : Type 0
 RefusedShows =
     (s : List ℕ) → (read_number s ≡ 0 → ⊥) → payload_pieces s ≡ decimal (read_number s) ∷ (32 ∷ []) ∷ (45 ∷ []) ∷ (32 ∷ 45 ∷ []) ∷ (10 ∷ []) ∷ []
 
+-- the answer by how many bytes a word says, none where it is bad, and by those bytes in their room
+abbrev pub bytes_answer : Option ℕ → List ℕ → List (List ℕ)
+bytes_answer None bytes = bad_line ∷ []
+bytes_answer (Some n) bytes = payload_pieces (take n bytes)
+
 -- the answer for a word, whose bytes have so much room
 unfoldable pub meas_pieces : List ℕ → List ℕ → List (List ℕ)
-meas_pieces w bytes =
-    cond ((hex_read w (length bytes)).good && leb (hex_read w (length bytes)).count (length bytes))
-    (payload_pieces (take (hex_read w (length bytes)).count (hex_after w bytes)))
-    (bad_line ∷ [])
+meas_pieces w bytes = bytes_answer (hex_read w (length bytes)) (hex_after w bytes)

@@ -1,8 +1,8 @@
 // `tick new TICK` and `tick same TICK`: `new` makes a fresh front, even where the reading is then refused.
-ghost use Rattle.std.specs.Prelude.{◌≡◌, cond};
+ghost use Rattle.std.specs.Prelude.{◌≡◌};
 ghost use Rattle.ticks.specs.Words.{words_left};
 ghost use Rattle.text.specs.Pieces.{put_all, past_all};
-ghost use Rattle.console_other_lines.specs.Lines.{is_tick, tick_number, is_reading, zeros, begun, reading_pieces, answer_of, front_left};
+ghost use Rattle.console_other_lines.specs.Lines.{is_tick, tick_number, tick_in, begun, reading_pieces, answer_of, front_left};
 
 use console_words::{Number, is_word, number_in, put_bad, put_end, span};
 use ticks::{FRONT, read_words};
@@ -14,6 +14,7 @@ const WORDS: usize = 3;
 const ROUND: u64 = 4294967296;
 
 // Whether a line is about a tick counter.
+#[tactic(auto, unfolding(crate::specs::Lines::is_tick))]
 pub fn is_tick(s: &[u8], ends: &[usize]) -> bool
     ensures { result ≡ is_tick s.now ends.now }
 {
@@ -21,27 +22,30 @@ pub fn is_tick(s: &[u8], ends: &[usize]) -> bool
 }
 
 // The number of the last word.
-fn tick_number(s: &[u8], ends: &[usize]) -> Number
+#[tactic(auto, unfolding(crate::specs::Lines::tick_number))]
+fn tick_number(s: &[u8], ends: &[usize]) -> Option<Number>
     ensures { result ≡ tick_number s.now ends.now }
 {
-    let w = span(ends, WORDS - 1);
-    number_in(s, w.from, w.to)
+    let word = span(ends, WORDS - 1);
+    number_in(s, word.start, word.end)
 }
 
-// Whether a line is whole and its tick one of 32 bits.
-fn is_reading(s: &[u8], ends: &[usize], count: usize) -> bool
-    ensures { result ≡ is_reading s.now ends.now count }
+// The tick of a whole line, one of 32 bits.
+#[tactic(auto, unfolding(crate::specs::Lines::tick_in, crate::specs::Lines::is_reading, crate::specs::Lines::is_new, crate::specs::Lines::is_same))]
+fn tick_in(s: &[u8], ends: &[usize], count: usize) -> Option<u64>
+    ensures { result ≡ tick_in s.now ends.now count }
 {
-    if count != WORDS {
-        return false;
+    let n = tick_number(s, ends)?;
+    let named = is_word(s, ends, 1, b"new") || is_word(s, ends, 1, b"same");
+    if count == WORDS && named && n.value < ROUND {
+        Some(n.value)
+    } else {
+        None
     }
-    let fresh = is_word(s, ends, 1, b"new");
-    let same = is_word(s, ends, 1, b"same");
-    let n = tick_number(s, ends);
-    (fresh | same) & (n.good & (n.value < ROUND))
 }
 
 // A fresh front, or the one that there is.
+#[tactic(auto, unfolding(crate::specs::Lines::begun))]
 fn begin(front: &mut [u64; FRONT], fresh: bool)
     ensures { front.new ≡ begun front.old fresh }
 {
@@ -76,9 +80,11 @@ pub fn tick(
     ensures out_after { out.new ≡ put_all out.old at (answer_of front.old s.now ends.now count) }
     ensures front_after { front.new ≡ front_left front.old s.now ends.now count }
 {
-    if is_reading(s, ends, count) {
-        begin(front, is_word(s, ends, 1, b"new"));
-        return put_reading(front, tick_number(s, ends).value, out, at);
+    match tick_in(s, ends, count) {
+        Some(tick) => {
+            begin(front, is_word(s, ends, 1, b"new"));
+            put_reading(front, tick, out, at)
+        }
+        None => put_bad(out, at),
     }
-    put_bad(out, at)
 }

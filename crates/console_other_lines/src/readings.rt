@@ -23,6 +23,7 @@ fn put_named(out: &mut [u8], at: usize, name: &[u8], way: &[u8]) -> usize
 }
 
 // A flow that is there, behind its name.
+#[tactic(auto, unfolding(crate::specs::Meas::flow_pieces, text::specs::Pieces::put_all, text::specs::Pieces::past_all))]
 fn put_flow(out: &mut [u8], at: usize, name: &[u8], flow: Flow) -> usize
     ensures value { result ≡ past_all out.old at (flow_pieces name.now flow) }
     ensures out_after { out.new ≡ put_all out.old at (flow_pieces name.now flow) }
@@ -35,26 +36,22 @@ fn put_flow(out: &mut [u8], at: usize, name: &[u8], flow: Flow) -> usize
     }
 }
 
+#[tactic(auto, unfolding(crate::specs::Meas::is_there))]
 fn is_there(flow: Flow) -> bool
     ensures { result ≡ is_there flow }
 {
-    match flow {
-        Flow::Absent => false,
-        Flow::Neither => true,
-        Flow::In => true,
-        Flow::Out => true,
-    }
+    matches!(flow, Flow::Neither | Flow::In | Flow::Out)
 }
 
+#[tactic(auto, unfolding(crate::specs::Meas::some_flow))]
 fn some_flow(words: &Words) -> bool
     ensures { result ≡ some_flow words.now }
 {
-    let power = is_there(power_flow(words));
-    let dc = is_there(dc_flow(words));
-    let a = is_there(phase_flow(words, 0));
-    let b = is_there(phase_flow(words, 1));
-    let c = is_there(phase_flow(words, 2));
-    power | (dc | (a | (b | c)))
+    is_there(power_flow(words))
+        || is_there(dc_flow(words))
+        || is_there(phase_flow(words, 0))
+        || is_there(phase_flow(words, 1))
+        || is_there(phase_flow(words, 2))
 }
 
 // Attributes 1 and 40, then 10 by phase; `-` where no flow is there.
@@ -105,13 +102,8 @@ pub fn meas(word: &[u8], bytes: &mut [u8], out: &mut [u8], at: usize) -> usize
     ensures out_after { out.new ≡ put_all out.old at (meas_pieces word.now bytes.old) }
     ensures bytes_after { bytes.new ≡ hex_after word.now bytes.old }
 {
-    let read = read_hex(word, bytes);
-    let n = read.count;
-    if !read.good {
-        return put_bad(out, at);
+    match read_hex(word, bytes) {
+        Some(n) => payload(&bytes[..n], out, at),
+        None => put_bad(out, at),
     }
-    if bytes.len() < n {
-        return put_bad(out, at);
-    }
-    payload(&bytes[..n], out, at)
 }

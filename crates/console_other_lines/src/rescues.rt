@@ -9,6 +9,7 @@ use rescue_walk::{REPORT, Rescued, SCRIPT};
 const WORDS: usize = 2;
 
 // Whether a line is about a damaged script.
+#[tactic(auto, unfolding(crate::specs::Rescues::is_rescue))]
 pub fn is_rescue(s: &[u8], ends: &[usize]) -> bool
     ensures { result ≡ is_rescue s.now ends.now }
 {
@@ -31,14 +32,10 @@ fn run(input: &[u8], out: &mut [u8], at: usize) -> usize {
 }
 
 fn with_bytes(word: &[u8], bytes: &mut [u8], out: &mut [u8], at: usize) -> usize {
-    let read = read_hex(word, bytes);
-    let n = read.count;
-    if read.good {
-        if n <= bytes.len() {
-            return run(&bytes[..n], out, at);
-        }
+    match read_hex(word, bytes) {
+        Some(n) => run(&bytes[..n], out, at),
+        None => put_bad(out, at),
     }
-    put_bad(out, at)
 }
 
 // Answers a line about a damaged script.
@@ -50,16 +47,8 @@ pub fn rescue(
     out: &mut [u8],
     at: usize,
 ) -> usize {
-    if count != WORDS {
-        return put_bad(out, at);
+    match s.get(span(ends, WORDS - 1)) {
+        Some(word) if count == WORDS => with_bytes(word, bytes, out, at),
+        _ => put_bad(out, at),
     }
-    let w = span(ends, WORDS - 1);
-    let from = w.from;
-    let to = w.to;
-    if to <= s.len() {
-        if from <= to {
-            return with_bytes(&s[from..to], bytes, out, at);
-        }
-    }
-    put_bad(out, at)
 }

@@ -1,23 +1,22 @@
 -- A list's attributes, one after the other. Assumes nothing.
-use Prim.Native.Nat.{ℕ, suc, ◌+◌, ◌-◌, ◌≤◌, ◌<◌, min}
+use Prim.Native.Nat.{ℕ, suc, ◌+◌, ◌-◌, ◌≤◌, ◌<◌}
 use mathlib.Core.Path.{◌≡◌, refl, sym, ap, ◌∙◌}
 use mathlib.Core.Bool.{Bool, true, false, ◌&&◌}
 use mathlib.Core.Logic.{⊎_elim}
+use Rattle.std.specs.Prelude.{Option, Some, None}
 use mathlib.Core.List.{List, [], ◌∷◌}
 use native.Mathlib.Numerals.{add-one}
 use native.Mathlib.Omega.{arith}
-use lib.Dec.{ltb, leb, eqb}
+use lib.Dec.{leb, eqb}
 use lib.ListN.{length, take, drop, set, length-drop, length-set}
 use lib.Seq.{sets, drop-drop}
-use borrow.Author.Tests.{le-leb, lt-leb, eq-eqb, ne_eqb, ltb-true}
+use borrow.Author.Tests.{le-leb, lt-leb, eq-eqb, ne_eqb}
 use Rattle.wire_bytes.proofs.Order.{below}
 use Rattle.console_words.specs.Numbers.{number_in}
 use Rattle.console_words.specs.Spans.{next_of, ends_from}
 use Rattle.console_words.specs.Hex.{is_none}
 use Rattle.console_words.specs.Lists.{is_attribute, numbers_to, listed_from, listed, attributes_of, list_read, list_after}
-use Rattle.console_words.specs.declared.hex.Read.{Read}
 use Rattle.console_words.specs.declared.numbers.Number.{Number}
-use Rattle.console_words.proofs.Pairs.{both_right}
 use Rattle.console_words.proofs.Ends.{ends_last, ends_more, ends_some, take_none}
 
 -- with n attributes stored, the word from `at` on still gives what the whole word does
@@ -28,33 +27,28 @@ pub record Unread (word out₀ out : List ℕ) (n at : ℕ) : Type 0 where
   pub goods : n + length (attributes_of (listed_from word at (drop at word))) ≡ length (attributes_of (listed word))
   pub list : sets out n (take (length out₀ - n) (attributes_of (listed_from word at (drop at word)))) ≡ sets out₀ 0 (take (length out₀) (attributes_of (listed word)))
 
-pub none_read : (word out : List ℕ) → Unread word out out 0 0
-none_read word out =
-    let e : length out - 0 ≡ length out = omega arith in
-    record { within = omega arith; len = refl; count = omega arith; goods = omega arith; list = rw e refl }
-
 numbers_some : (s : List ℕ) (p : ℕ) (es : List ℕ) → 0 < length es → 0 < length (numbers_to s p es)
 unfolding numbers_to
 numbers_some s p [] h = absurd (omega arith)
 numbers_some s p (e ∷ es) h = omega arith
 
 -- the answers
-abbrev Answers : List ℕ → List ℕ → Read → List ℕ → Type 0
+abbrev Answers : List ℕ → List ℕ → Option ℕ → List ℕ → Type 0
 Answers word out₀ r out = (r ≡ list_read word (length out₀)) × (out ≡ list_after word out₀)
 
-pub list_none : (word out : List ℕ) (b : Bool) → b ≡ is_none word → b ≡ true → Answers word out (record { good = true; count = 0 }) out
+pub list_none : (word out : List ℕ) (b : Bool) → b ≡ is_none word → b ≡ true → Answers word out (Some 0) out
 unfolding list_read list_after
 list_none word out b e t = rw (sym e ∙ t) (refl, refl)
 
 module _ (word out₀ : List ℕ) (b : Bool) (dash : b ≡ is_none word) (other : b ≡ false) where
-  list_bad : (out : List ℕ) (r : Read) → r ≡ record { good = false; count = 0 }
+  list_bad : (out : List ℕ) (r : Option ℕ) → r ≡ None
       → (eqb (length (attributes_of (listed word))) (length (listed word)) && leb (length (listed word)) (length out₀)) ≡ false
       → out ≡ sets out₀ 0 (take (length out₀) (attributes_of (listed word))) → Answers word out₀ r out
   unfolding list_read list_after
   list_bad out r z g k = rw (sym dash ∙ other, g) (z, k)
 
   list_good : (out : List ℕ) (m : ℕ) → m ≡ length (listed word) → m ≡ length (attributes_of (listed word)) → m ≤ length out₀
-      → out ≡ sets out₀ 0 (take (length out₀) (attributes_of (listed word))) → Answers word out₀ (record { good = true; count = m }) out
+      → out ≡ sets out₀ 0 (take (length out₀) (attributes_of (listed word))) → Answers word out₀ (Some m) out
   unfolding list_read list_after
   list_good out m c g h k =
       rw (sym dash ∙ other, eq-eqb (length (attributes_of (listed word))) (length (listed word)) (sym g ∙ c), le-leb (length (listed word)) (length out₀) (omega arith), ← c) (refl, k)
@@ -65,7 +59,7 @@ module _ (word out₀ : List ℕ) (b : Bool) (dash : b ≡ is_none word) (other 
     listed-some = numbers_some word at (ends_from 44 at (drop at word)) (ends_some 44 at (drop at word))
 
     -- no room is left
-    pub list_full : (r : Read) → r ≡ record { good = false; count = 0 } → length out₀ ≤ n → Answers word out₀ r out
+    pub list_full : (r : Option ℕ) → r ≡ None → length out₀ ≤ n → Answers word out₀ r out
     list_full r z h =
         let m : length out₀ - n ≡ 0 = omega arith in
         let l = lt-leb (length (listed word)) (length out₀) (omega (arith, inv.count, listed-some)) in
@@ -75,7 +69,7 @@ module _ (word out₀ : List ℕ) (b : Bool) (dash : b ≡ is_none word) (other 
         go true q h = h
         go false q h = refl
 
-    module _ (e : ℕ) (v : Number) (here : e ≡ next_of 44 at (drop at word)) (is : v ≡ number_in word at e) where
+    module _ (e : ℕ) (v : Option Number) (here : e ≡ next_of 44 at (drop at word)) (is : v ≡ number_in word at e) where
       listed-last : e ≡ length word → listed_from word at (drop at word) ≡ v ∷ []
       unfolding listed_from numbers_to
       listed-last z =
@@ -91,50 +85,57 @@ module _ (word out₀ : List ℕ) (b : Bool) (dash : b ≡ is_none word) (other 
           let f : ends_from 44 at (drop at word) ≡ e ∷ ends_from 44 (suc e) (drop (suc e) word) = rw here (rw (d, here) at f₀) in
           rw (f, is) refl
 
-      -- a number that is no attribute
-      bad_number : (rest : List Number) → listed_from word at (drop at word) ≡ v ∷ rest → is_attribute v ≡ false
-          → (r : Read) → r ≡ record { good = false; count = 0 } → Answers word out₀ r out
-      unfolding attributes_of
-      bad_number rest f q r z =
-          let a : attributes_of (listed_from word at (drop at word)) ≡ [] = rw (f, q) refl in
+      -- a part that is no number, or no attribute
+      bad_number : (rest : List (Option Number)) → listed_from word at (drop at word) ≡ v ∷ rest → ((rest : List (Option Number)) → attributes_of (v ∷ rest) ≡ [])
+          → Answers word out₀ None out
+      bad_number rest f q =
+          let a : attributes_of (listed_from word at (drop at word)) ≡ [] = rw f (q rest) in
           let c = rw f at inv.count in
           let g = rw a at inv.goods in
           let m : (length (attributes_of (listed word)) ≡ length (listed word) → ⊥) = λ k. absurd (omega (arith, c, g)) in
-          list_bad out r z (rw (ne_eqb (length (attributes_of (listed word))) (length (listed word)) m) refl) (rw (a, take_none (length out₀ - n)) at inv.list)
+          list_bad out None refl (rw (ne_eqb (length (attributes_of (listed word))) (length (listed word)) m) refl) (rw (a, take_none (length out₀ - n)) at inv.list)
 
-      pub list_broken : at ≤ e → e ≤ length word → is_attribute v ≡ false → (r : Read) → r ≡ record { good = false; count = 0 } → Answers word out₀ r out
-      list_broken g l q r z = ⊎_elim
-          (λ lt. bad_number _ (listed_more g lt) q r z)
-          (λ le. bad_number _ (listed-last (omega arith)) q r z)
+      broken : at ≤ e → e ≤ length word → ((rest : List (Option Number)) → attributes_of (v ∷ rest) ≡ []) → Answers word out₀ None out
+      broken g l q = ⊎_elim
+          (λ lt. bad_number _ (listed_more g lt) q)
+          (λ le. bad_number _ (listed-last (omega arith)) q)
           (below e (length word))
 
-      module _ (h : n < length out₀) (q : is_attribute v ≡ true) (x : ℕ) (k : x ≡ min v.value 65535) where
-        room : length out₀ - n ≡ suc (length out₀ - suc n)
-        room = omega arith
+      pub list_gap : at ≤ e → e ≤ length word → v ≡ None → Answers word out₀ None out
+      unfolding attributes_of
+      list_gap g l q = broken g l (λ rest. rw q refl)
 
-        stored : x ≡ v.value
-        unfolding is_attribute
-        stored = omega (arith, ltb-true v.value 65536 (both_right v.good (ltb v.value 65536) q))
-
-        -- the last number
-        pub last-read : e ≡ length word → Answers word out₀ (record { good = true; count = n + 1 }) (set out n x)
+      module _ (w : Number) (some : v ≡ Some w) where
+        pub list_broken : at ≤ e → e ≤ length word → is_attribute w ≡ false → Answers word out₀ None out
         unfolding attributes_of
-        last-read z =
-            let f = listed-last z in
-            let a : attributes_of (listed_from word at (drop at word)) ≡ x ∷ [] = rw (f, q, stored) refl in
-            let t : take (length out₀ - n) (attributes_of (listed_from word at (drop at word))) ≡ x ∷ [] = rw (a, room) (ap (λ (l : List ℕ). x ∷ l) (take_none (length out₀ - suc n))) in
-            list_good (set out n x) (n + 1) (rw f at inv.count) (rw a at inv.goods) (omega arith) (rw t at inv.list)
+        list_broken g l q = broken g l (λ rest. rw (some, q) refl)
 
-        -- one number more
-        pub one_read : at ≤ e → e < length word → Unread word out₀ (set out n x) (n + 1) (e + 1)
-        unfolding attributes_of
-        one_read g l =
-            let f = listed_more g l in
-            let a : attributes_of (listed_from word at (drop at word)) ≡ x ∷ attributes_of (listed_from word (suc e) (drop (suc e) word)) = rw (f, q, stored) refl in
-            record {
-              within = omega arith;
-              len = length-set out n x ∙ inv.len;
-              count = rw (add-one e) (omega (arith, rw f at inv.count));
-              goods = rw (add-one e) (omega (arith, rw a at inv.goods));
-              list = rw (add-one n, add-one e) (rw (a, room) at inv.list);
-            }
+        module _ (h : n < length out₀) (q : is_attribute w ≡ true) where
+          abbrev x : ℕ
+          x = w.value
+
+          room : length out₀ - n ≡ suc (length out₀ - suc n)
+          room = omega arith
+
+          -- the last number
+          pub last-read : e ≡ length word → Answers word out₀ (Some (n + 1)) (set out n x)
+          unfolding attributes_of
+          last-read z =
+              let f = listed-last z in
+              let a : attributes_of (listed_from word at (drop at word)) ≡ x ∷ [] = rw (f, some, q) refl in
+              let t : take (length out₀ - n) (attributes_of (listed_from word at (drop at word))) ≡ x ∷ [] = rw (a, room) (ap (λ (l : List ℕ). x ∷ l) (take_none (length out₀ - suc n))) in
+              list_good (set out n x) (n + 1) (rw f at inv.count) (rw a at inv.goods) (omega arith) (rw t at inv.list)
+
+          -- one number more
+          pub one_read : at ≤ e → e < length word → Unread word out₀ (set out n x) (n + 1) (e + 1)
+          unfolding attributes_of
+          one_read g l =
+              let f = listed_more g l in
+              let a : attributes_of (listed_from word at (drop at word)) ≡ x ∷ attributes_of (listed_from word (suc e) (drop (suc e) word)) = rw (f, some, q) refl in
+              record {
+                within = omega arith;
+                len = length-set out n x ∙ inv.len;
+                count = rw (add-one e) (omega (arith, rw f at inv.count));
+                goods = rw (add-one e) (omega (arith, rw a at inv.goods));
+                list = rw (add-one n, add-one e) (rw (a, room) at inv.list);
+              }

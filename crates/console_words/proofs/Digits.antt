@@ -1,64 +1,53 @@
 -- Decimal digits, read from the front. Assumes nothing.
-use Prim.Native.Nat.{ℕ, ◌+◌, ◌-◌, ◌*◌, ◌/◌, ◌%◌, ◌≤◌, ◌<◌}
-use mathlib.Core.Path.{◌≡◌, refl, sym, ap, ◌∙◌}
-use mathlib.Core.Bool.{Bool, true, false}
+use Prim.Native.Nat.{ℕ, zero, suc, ◌+◌, ◌-◌, ◌*◌, ◌%◌, ◌≤◌, ◌<◌, min}
+use mathlib.Core.Path.{◌≡◌, refl, ap, ◌∙◌}
+use mathlib.Core.Bool.{Bool, true, false, cond}
 use mathlib.Core.List.{List, [], ◌∷◌}
 use native.Mathlib.Numerals.{add-one}
 use native.Mathlib.Omega.{arith}
-use lib.Dec.{eqb}
+use lib.Dec.{ltb}
+use borrow.Author.Tests.{ltb-true, ltb-false}
 use lib.ListN.{length, get_or, drop, drop_of_length-le}
 use lib.Seq.{drop-cons}
-use borrow.Author.Tests.{lt-ltb, le-ltb, eq-eqb, ne_eqb}
-use Rattle.console_words.specs.Numbers.{is_digit, at_most_largest, no_number, digits_from, digits_of, negated, number_of}
+use Rattle.std.specs.Prelude.{Option, Some, None}
+use Rattle.console_words.specs.Numbers.{is_digit, at_most_largest, digits_from, digits_of}
+use Rattle.console_words.specs.Spans.{start_of}
 use Rattle.console_words.specs.declared.numbers.Number.{Number}
 
-pub large : (v d : ℕ) → d < 16 → (18446744073709551615 - d) / 10 < v → 18446744073709551615 ≡ at_most_largest (10 * v + d)
+pub capped : (n : ℕ) → min n 18446744073709551615 ≡ at_most_largest n
 unfolding at_most_largest
-large v d s h = rw (le-ltb (10 * v + d) 18446744073709551616 (omega arith))
+capped n = go (ltb n 18446744073709551616) refl
+  where
+    go : (b : Bool) → ltb n 18446744073709551616 ≡ b → min n 18446744073709551615 ≡ cond b n 18446744073709551615
+    go true e = omega (arith, ltb-true _ _ e)
+    go false e = omega (arith, ltb-false _ _ e)
 
-pub fits : (v d : ℕ) → d < 16 → v ≤ (18446744073709551615 - d) / 10 → 10 * v + d ≡ at_most_largest (10 * v + d)
-unfolding at_most_largest
-fits v d s h = rw (lt-ltb (10 * v + d) 18446744073709551616 (omega arith))
+pub start_behind : (ends : List ℕ) (k e r : ℕ) → (k ≡ 0 → ⊥) → e ≡ get_or ends (k - 1) 0 → r ≡ min (e + 1) 18446744073709551615 → r ≡ start_of ends k
+unfolding start_of
+start_behind ends zero e r z f g = absurd (z refl)
+start_behind ends (suc k) e r z f g =
+    let j : suc k - 1 ≡ k = omega arith in
+    g ∙ capped (e + 1) ∙ ap (λ n. at_most_largest (n + 1)) (f ∙ ap (λ n. get_or ends n 0) j)
 
-pub no_minus : (s : List ℕ) → length s ≤ 0 → false ≡ eqb (get_or s 0 0) 45
-no_minus [] h = refl
-no_minus (b ∷ s) h = absurd (omega arith)
+pub digits_start : (s : List ℕ) → 0 < length s → digits_from 0 (drop 0 s) ≡ digits_of s
+unfolding digits_of
+digits_start [] h = absurd (omega arith)
+digits_start (b ∷ s) h = refl
 
-module _ (n : Number) where
-  pub negate_zero : n.value ≡ 0 → n ≡ negated n
-  unfolding negated
-  negate_zero e = rw (eq-eqb n.value 0 e)
+pub digits_none : (s : List ℕ) → length s ≤ 0 → None ≡ digits_of s
+unfolding digits_of
+digits_none [] h = refl
+digits_none (b ∷ s) h = absurd (omega arith)
 
-  pub negate_other : (n.value ≡ 0 → ⊥) → record { good = n.good; negative = true; value = 18446744073709551615 } ≡ negated n
-  unfolding negated
-  negate_other e = rw (ne_eqb n.value 0 e)
+module _ (s : List ℕ) (q : Option Number) (v i : ℕ) (inv : digits_from v (drop i s) ≡ q) where
+  pub digits_broken : i < length s → is_digit (get_or s i 0) ≡ false → None ≡ q
+  unfolding digits_from
+  digits_broken h e = rw (drop-cons s i 0, e) at inv
 
-module _ (s : List ℕ) where
-  pub digits-none : (k : ℕ) (r : Number) → r ≡ no_number → length s ≤ k → r ≡ digits_of (drop k s)
-  unfolding digits_of
-  digits-none k r e h = rw (drop_of_length-le s h) e
+  pub digits_turn : (w : ℕ) → i < length s → is_digit (get_or s i 0) ≡ true → w ≡ at_most_largest (10 * v + get_or s i 0 % 16) → digits_from w (drop (i + 1) s) ≡ q
+  unfolding digits_from
+  digits_turn w h e z = rw (add-one i, z) (rw (drop-cons s i 0, e) at inv)
 
-  pub digits-start : (k : ℕ) → k < length s → digits_from 0 (drop k s) ≡ digits_of (drop k s)
-  unfolding digits_of
-  digits-start k h = rw (drop-cons s k 0)
-
-  module _ (v i : ℕ) (q : Number) (inv : digits_from v (drop i s) ≡ q) where
-    pub digits-broken : (r : Number) → i < length s → is_digit (get_or s i 0) ≡ false → r ≡ no_number → r ≡ q
-    unfolding digits_from
-    digits-broken r h e z = z ∙ (rw (drop-cons s i 0, e) at inv)
-
-    pub digits-turn : (w : ℕ) → i < length s → is_digit (get_or s i 0) ≡ true → w ≡ at_most_largest (10 * v + get_or s i 0 % 16) → digits_from w (drop (i + 1) s) ≡ q
-    unfolding digits_from
-    digits-turn w h e z = rw (add-one i, z) (rw (drop-cons s i 0, e) at inv)
-
-    pub digits-end : length s ≤ i → record { good = true; negative = false; value = v } ≡ q
-    unfolding digits_from
-    digits-end h = rw (drop_of_length-le s h) at inv
-
-  pub number-minus : (b : Bool) (n r : Number) → b ≡ eqb (get_or s 0 0) 45 → b ≡ true → n ≡ digits_of (drop 1 s) → r ≡ negated n → r ≡ number_of s
-  unfolding number_of
-  number-minus b n r e t d z = rw (sym e ∙ t) (z ∙ ap negated d)
-
-  pub number-plain : (b : Bool) (r : Number) → b ≡ eqb (get_or s 0 0) 45 → b ≡ false → r ≡ digits_of s → r ≡ number_of s
-  unfolding number_of
-  number-plain b r e t d = rw (sym e ∙ t) d
+  pub digits_end : length s ≤ i → Some (record { negative = false; value = v }) ≡ q
+  unfolding digits_from
+  digits_end h = rw (drop_of_length-le s h) at inv

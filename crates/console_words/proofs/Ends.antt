@@ -1,31 +1,38 @@
 -- Where the words of a line end, one after the other. Assumes nothing.
 use Prim.Native.Nat.{ℕ, zero, suc, ◌+◌, ◌-◌, ◌≤◌, ◌<◌}
 use mathlib.Core.Path.{◌≡◌, refl, ap, ◌∙◌}
-use mathlib.Core.Bool.{Bool, true, false, cond}
+use mathlib.Core.Bool.{Bool, true, false, not, cond}
+use Rattle.std.specs.Prelude.{Option, Some, None, MatchOption}
+use Rattle.std.specs.List.{position, position_or_len}
+use Rattle.std.proofs.lemmas.List.Sums.{prefix_len-le-length}
 use mathlib.Core.List.{List, [], ◌∷◌}
 use native.Mathlib.Numerals.{add-one}
 use native.Mathlib.Omega.{arith}
-use lib.Dec.{eqb}
-use lib.ListN.{length, get_or, take, drop, set, length-drop, length-set}
-use lib.Seq.{sets, drop-cons, drop-length, drop-drop}
-use borrow.Author.Tests.{le-leb, lt-leb, eq-eqb, ne_eqb}
+use lib.Dec.{eqb, ltb}
+use lib.ListN.{length, take, drop, set, length-drop, length-set}
+use lib.Seq.{sets, drop-drop}
+use borrow.Author.Tests.{le-leb, lt-leb, ltb-false}
 use Rattle.console_words.specs.Spans.{next_of, ends_from, word_ends, words_in, ends_after}
 
--- the next byte b from i on
-module _ (b : ℕ) (s : List ℕ) (i q : ℕ) (inv : next_of b i (drop i s) ≡ q) where
-  next-step : i < length s → cond (eqb (get_or s i 0) b) i (next_of b (suc i) (drop (suc i) s)) ≡ q
-  unfolding next_of
-  next-step h = rw (drop-cons s i 0 h) at inv
+-- the next byte b, by the place of the first in what is left
+next_at : (b p : ℕ) (s : List ℕ) → next_of b p s ≡ p + position_or_len (λ x. eqb x b) s
+unfolding next_of
+next_at b p [] = omega arith
+next_at b p (x ∷ s) = go (eqb x b) (next_at b (suc p) s)
+  where
+    go : (q : Bool) → next_of b (suc p) s ≡ suc p + position_or_len (λ x. eqb x b) s
+        → cond q p (next_of b (suc p) s) ≡ p + cond (not q) (1 + position_or_len (λ x. eqb x b) s) 0
+    go true e = omega arith
+    go false e = omega (arith, e)
 
-  pub next_here : i < length s → get_or s i 0 ≡ b → i ≡ q
-  next_here h e = rw (eq-eqb (get_or s i 0) b e) at (next-step h)
-
-  pub next-turn : i < length s → (get_or s i 0 ≡ b → ⊥) → next_of b (i + 1) (drop (i + 1) s) ≡ q
-  next-turn h e = rw (add-one i) (rw (ne_eqb (get_or s i 0) b e) at (next-step h))
-
-  pub next-end : i ≡ length s → i ≡ q
-  unfolding next_of
-  next-end h = let a : drop i s ≡ [] = rw h (drop-length s) in rw a at inv
+pub next_from : (b p : ℕ) (s : List ℕ) (q : Option ℕ) (r n : ℕ) → q ≡ position (λ x. eqb x b) s → MatchOption q (r ≡ n) (λ k. r ≡ p + k) → n ≡ p + length s
+    → r ≡ next_of b p s
+next_from b p s q r n e m l = go (ltb (position_or_len (λ x. eqb x b) s) (length s)) refl (rw e at m)
+  where
+    go : (t : Bool) → ltb (position_or_len (λ x. eqb x b) s) (length s) ≡ t
+        → MatchOption (cond t (Some (position_or_len (λ x. eqb x b) s)) None) (r ≡ n) (λ k. r ≡ p + k) → r ≡ next_of b p s
+    go true f m = omega (arith, m, next_at b p s)
+    go false f m = omega (arith, m, next_at b p s, prefix_len-le-length (λ x. not (eqb x b)) s, ltb-false _ _ f)
 
 -- a text's first end, and the ends behind it
 pub next_past : (b p : ℕ) (s : List ℕ) → p ≤ next_of b p s
@@ -93,13 +100,13 @@ module _ (line ends₀ ends : List ℕ) (n at e : ℕ) (inv : Left line ends₀ 
   room : length ends₀ - n ≡ suc (length ends₀ - suc n)
   room = omega arith
 
-  pub last_stored : e ≡ length line → (n + 1 ≡ words_in line (length ends₀)) × (set ends n e ≡ ends_after line ends₀)
+  pub last_stored : e ≡ length line → (Some (n + 1) ≡ words_in line (length ends₀)) × (set ends n e ≡ ends_after line ends₀)
   unfolding words_in
   last_stored z =
       let f : ends_from 32 at (drop at line) ≡ e ∷ [] = rw here (ends_last 32 at (drop at line) (omega (arith, length-drop at line, inv.within))) in
       let k : n + 1 ≡ length (word_ends line) = rw f at inv.count in
       let g : take (length ends₀ - n) (ends_from 32 at (drop at line)) ≡ e ∷ [] = rw (f, room) (ap (λ (l : List ℕ). e ∷ l) (take_none (length ends₀ - suc n))) in
-      (rw (le-leb (length (word_ends line)) (length ends₀) (omega arith)) k, rw g at inv.list)
+      (rw (le-leb (length (word_ends line)) (length ends₀) (omega arith)) (ap Some k), rw g at inv.list)
 
   pub one_stored : at ≤ e → e < length line → Left line ends₀ (set ends n e) (n + 1) (e + 1)
   one_stored g l =
@@ -115,7 +122,7 @@ module _ (line ends₀ ends : List ℕ) (n at e : ℕ) (inv : Left line ends₀ 
       }
 
 pub no_room : (line ends₀ ends : List ℕ) (n at : ℕ) → Left line ends₀ ends n at → length ends₀ ≤ n
-    → (18446744073709551615 ≡ words_in line (length ends₀)) × (ends ≡ ends_after line ends₀)
+    → (None ≡ words_in line (length ends₀)) × (ends ≡ ends_after line ends₀)
 unfolding words_in
 no_room line ends₀ ends n at inv h =
     let z : length ends₀ - n ≡ 0 = omega arith in

@@ -6,4 +6,3 @@ mod Written
 mod Ends
 mod Places
 mod Attributes
-mod WordLaws

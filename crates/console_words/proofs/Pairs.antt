@@ -1,29 +1,28 @@
 -- Hex digits in pairs, read from the front. Assumes nothing.
 use Prim.Native.Nat.{ℕ, suc, ◌+◌, ◌*◌, ◌/◌, ◌%◌, ◌≤◌, ◌<◌}
 use mathlib.Core.Path.{◌≡◌, refl, sym, ◌∙◌}
-use mathlib.Core.Bool.{Bool, true, false, ◌&&◌}
+use mathlib.Core.Bool.{Bool, true, false, ◌&&◌, cond}
+use Rattle.std.specs.Prelude.{Some, None}
+use Rattle.std.specs.List.{list_all}
 use mathlib.Core.List.{List, [], ◌∷◌}
 use native.Mathlib.Numerals.{add-one}
 use native.Mathlib.Omega.{arith}
 use lib.Dec.{ltb, leb, eqb}
-use lib.ListN.{length, get_or, set, drop, drop_of_length-le, length-drop}
+use lib.ListN.{length, get_or, set, drop, length-drop}
 use lib.Seq.{drop-cons}
-use borrow.Author.Tests.{lt-ltb, le-ltb, le-leb, lt-leb, leb-true, eq-eqb, ne_eqb, eqb-true}
+use borrow.Author.Tests.{leb-true, eqb-true}
 use Rattle.wire_bytes.specs.Bytes.{put}
 use Rattle.console_words.specs.Hex.{is_hex, all_hex, nibble, hex_bytes, is_none, is_pairs, hex_read, hex_after}
 
-module _ (s : List ℕ) (i : ℕ) (q : Bool) (inv : all_hex (drop i s) ≡ q) where
-  pub hex-broken : i < length s → is_hex (get_or s i 0) ≡ false → false ≡ q
-  unfolding all_hex
-  hex-broken h e = rw (drop-cons s i 0, e) at inv
-
-  pub hex-turn : i < length s → is_hex (get_or s i 0) ≡ true → all_hex (drop (i + 1) s) ≡ q
-  unfolding all_hex
-  hex-turn h e = rw (add-one i) (rw (drop-cons s i 0, e) at inv)
-
-  pub hex-end : length s ≤ i → true ≡ q
-  unfolding all_hex
-  hex-end h = rw (drop_of_length-le s h) at inv
+-- the library's answer on every byte is the definition's
+pub every_hex : (s : List ℕ) → list_all is_hex s ≡ all_hex s
+unfolding all_hex
+every_hex [] = refl
+every_hex (b ∷ s) = go (is_hex b) (every_hex s)
+  where
+    go : (q : Bool) → list_all is_hex s ≡ all_hex s → (q && list_all is_hex s) ≡ cond q (all_hex s) false
+    go true e = e
+    go false e = refl
 
 both_left : (a b : Bool) → a && b ≡ true → a ≡ true
 both_left true b e = refl
@@ -34,35 +33,11 @@ both_right true b e = e
 both_right false b e = absurd (let z : ◌≡◌ {A = ℕ} 0 1 = cc in omega arith)
 
 module _ (s : List ℕ) where
-  pub one_byte : length s ≡ 1 → eqb (get_or s 0 0) 45 ≡ is_none s
-  unfolding is_none
-  one_byte h = rw (eq-eqb (length s) 1 h)
-
-  pub not-one : (length s ≡ 1 → ⊥) → false ≡ is_none s
-  unfolding is_none
-  not-one h = rw (ne_eqb (length s) 1 h)
-
   none-length : is_none s ≡ true → length s ≡ 1
   unfolding is_none
   none-length e = eqb-true (length s) 1 (both_left (eqb (length s) 1) (eqb (get_or s 0 0) 45) e)
 
   module _ (room : ℕ) where
-    pub pairs-empty : length s ≡ 0 → false ≡ is_pairs s room
-    unfolding is_pairs
-    pairs-empty h = rw (le-ltb 0 (length s) (omega arith))
-
-    pub pairs-odd : 0 < length s → (length s % 2 ≡ 0 → ⊥) → false ≡ is_pairs s room
-    unfolding is_pairs
-    pairs-odd h o = rw (lt-ltb 0 (length s) h, ne_eqb (length s % 2) 0 o)
-
-    pub pairs-long : 0 < length s → length s % 2 ≡ 0 → room < length s / 2 → false ≡ is_pairs s room
-    unfolding is_pairs
-    pairs-long h e r = rw (lt-ltb 0 (length s) h, eq-eqb (length s % 2) 0 e, lt-leb (length s / 2) room r)
-
-    pub pairs-all : (b : Bool) → 0 < length s → length s % 2 ≡ 0 → length s / 2 ≤ room → b ≡ all_hex s → b ≡ is_pairs s room
-    unfolding is_pairs
-    pairs-all b h e r a = rw (lt-ltb 0 (length s) h, eq-eqb (length s % 2) 0 e, le-leb (length s / 2) room r) a
-
     pub pairs-fit : (b : Bool) → b ≡ is_pairs s room → b ≡ true → length s / 2 ≤ room
     unfolding is_pairs
     pairs-fit b e t =
@@ -77,16 +52,16 @@ none-bytes (a ∷ []) out h = (refl, refl)
 none-bytes (a ∷ b ∷ s) out h = absurd (omega arith)
 
 module _ (s out : List ℕ) (b : Bool) (e : b ≡ is_none s) where
-  pub read_none : b ≡ true → (record { good = true; count = 0 } ≡ hex_read s (length out)) × (out ≡ hex_after s out)
+  pub read_none : b ≡ true → (Some 0 ≡ hex_read s (length out)) × (out ≡ hex_after s out)
   unfolding hex_read hex_after
   read_none t = let w = none-bytes s out (none-length s (sym e ∙ t)) in rw (sym e ∙ t, w.0, w.1) (refl, refl)
 
   module _ (f : b ≡ false) (p : Bool) (d : p ≡ is_pairs s (length out)) where
-    pub read_pairs : (o : List ℕ) → p ≡ true → o ≡ put out 0 (hex_bytes s) → (record { good = true; count = length s / 2 } ≡ hex_read s (length out)) × (o ≡ hex_after s out)
+    pub read_pairs : (o : List ℕ) → p ≡ true → o ≡ put out 0 (hex_bytes s) → (Some (length s / 2) ≡ hex_read s (length out)) × (o ≡ hex_after s out)
     unfolding hex_read hex_after
     read_pairs o t z = rw (sym e ∙ f, sym d ∙ t) (refl, z)
 
-    pub read_bad : p ≡ false → (record { good = false; count = 0 } ≡ hex_read s (length out)) × (out ≡ hex_after s out)
+    pub read_bad : p ≡ false → (None ≡ hex_read s (length out)) × (out ≡ hex_after s out)
     unfolding hex_read hex_after
     read_bad t = rw (sym e ∙ f, sym d ∙ t) (refl, refl)
 

@@ -3,6 +3,7 @@ use Prim.Native.Nat.{ℕ, zero, suc, ◌+◌, ◌-◌, ◌≤◌, ◌<◌}
 use mathlib.Core.Path.{◌≡◌, refl, sym, ap, ◌∙◌}
 use mathlib.Core.Logic.{⊎_elim}
 use mathlib.Core.Bool.{Bool, true, false, cond}
+use Rattle.std.specs.Prelude.{Some, None}
 use mathlib.Core.List.{List, [], ◌∷◌}
 use native.Mathlib.Numerals.{add-one}
 use native.Mathlib.Omega.{arith}
@@ -10,7 +11,7 @@ use lib.Dec.{eqb}
 use lib.ListN.{length, take, drop, length-drop}
 use lib.Seq.{drop-drop}
 use Rattle.wire_bytes.proofs.Order.{below}
-use Rattle.console_words.specs.Spans.{next_of, same_bytes, largest, longer, words_of, place_from}
+use Rattle.console_words.specs.Spans.{next_of, same_bytes, longer, words_of, place_from}
 use Rattle.console_words.proofs.Ends.{next_past, take_none}
 
 -- a text's first word, where it is the last
@@ -45,9 +46,6 @@ pub record Sought (w line : List ℕ) (k at : ℕ) : Type 0 where
   pub few : k ≤ at
   pub left : place_from k w (words_of (drop at line)) ≡ place_from 0 w (words_of line)
 
-pub none-sought : (w line : List ℕ) → Sought w line 0 0
-none-sought w line = record { within = omega arith; few = omega arith; left = refl }
-
 -- the word from `at` to e, and whether it is w
 module _ (w line : List ℕ) (k at : ℕ) (inv : Sought w line k at) (e : ℕ) (here : e ≡ next_of 32 at (drop at line)) (from : at ≤ e)
     (b : Bool) (is : b ≡ same_bytes w (take (e - at) (drop at line))) where
@@ -64,14 +62,14 @@ module _ (w line : List ℕ) (k at : ℕ) (inv : Sought w line k at) (e : ℕ) (
       ∙ ap (λ (l : List ℕ). word ∷ words_of l) (drop-drop (suc (e - at)) at line ∙ ap (λ (n : ℕ). drop n line) j)
 
   -- the place by what stands behind the word
-  by : (others : List (List ℕ)) → words_of (drop at line) ≡ word ∷ others → cond b k (place_from (suc k) w others) ≡ place_from 0 w (words_of line)
+  by : (others : List (List ℕ)) → words_of (drop at line) ≡ word ∷ others → cond b (Some k) (place_from (suc k) w others) ≡ place_from 0 w (words_of line)
   unfolding place_from
   by others f = rw is (rw f at inv.left)
 
-  pub is_here : b ≡ true → k ≡ place_from 0 w (words_of line)
+  pub is_here : b ≡ true → Some k ≡ place_from 0 w (words_of line)
   is_here y = ⊎_elim (λ h. rw y at (by _ (one_more h))) (λ h. rw y at (by _ (the_last h))) (below e (length line))
 
-  pub is_none : b ≡ false → length line ≤ e → largest ≡ place_from 0 w (words_of line)
+  pub is_none : b ≡ false → length line ≤ e → None ≡ place_from 0 w (words_of line)
   unfolding place_from
   is_none n h = rw n at (by [] (the_last h))
 

@@ -1,18 +1,19 @@
 -- The pieces of an answer, one after the other. Assumes nothing.
-use Prim.Native.Nat.{ℕ, zero, suc, ◌+◌, ◌-◌, ◌*◌, ◌≤◌, ◌<◌}
-use mathlib.Core.Path.{◌≡◌, refl}
+use Prim.Native.Nat.{ℕ, zero, suc, ◌+◌, ◌-◌, ◌*◌, ◌/◌, ◌≤◌, ◌<◌, min}
+use mathlib.Core.Path.{◌≡◌, refl, ap}
 use mathlib.Core.Bool.{Bool, true, false, cond}
+use mathlib.Core.Logic.{⊎_elim}
+use Rattle.wire_bytes.proofs.Order.{below}
 use mathlib.Core.List.{List, [], ◌∷◌, ◌++◌}
 use native.Mathlib.Numerals.{add-one}
 use native.Mathlib.Omega.{arith}
 use lib.Dec.{leb}
 use lib.IntN.{ℤ, pos}
-use lib.ListN.{length, get_or, drop, take, length-drop}
-use lib.Seq.{drop-cons, drop-length}
+use lib.ListN.{length, get_or, drop, take, length-drop, drop_of_length-le}
+use lib.Seq.{drop-cons}
 use borrow.Author.Tests.{le-leb, lt-leb, eq-eqb, ne_eqb}
 use Rattle.wire_bytes.specs.Bytes.{put, put_whole, past_whole}
 use Rattle.text.specs.Text.{signed, hex}
-use Rattle.text.proofs.Pieces.{ToDo, all_to_do}
 use Rattle.console_words.specs.Answers.{hex_or_none, list_pieces, pair_pieces, pairs_in, report_pieces}
 
 -- bytes or none
@@ -38,28 +39,25 @@ put-nothing s p = go (leb (p + 0) (length s))
     go true = (omega arith, refl)
     go false = (refl, refl)
 
--- a list's numbers
-pub list_to_do : (s : List ℕ) (p n : ℕ) (l : List ℤ) → ToDo s p (list_pieces n l) s p (list_pieces (n - 0) (drop 0 l))
-list_to_do s p n l = let e : n - 0 ≡ n = omega arith in rw e (all_to_do s p (list_pieces n l))
+-- a list's numbers: those that are shown, all of them
+abbrev pub all_pieces : List ℤ → List (List ℕ)
+all_pieces l = list_pieces (length l) l
 
-pub list_next : (l : List ℤ) (n i : ℕ) → i < length l → i < n
-    → list_pieces (n - i) (drop i l) ≡ (32 ∷ []) ∷ signed (get_or l i (pos 0)) ∷ list_pieces (n - (i + 1)) (drop (i + 1) l)
+pub list_shown : (l : List ℤ) (n m : ℕ) → m ≡ min (length l) n → list_pieces n l ≡ all_pieces (take m l)
 unfolding list_pieces
-list_next l n i h k =
-    let e : n - i ≡ suc (n - suc i) = omega arith in
-    rw (add-one i, e, drop-cons l i (pos 0) h) refl
+list_shown l zero m e = let z : m ≡ 0 = omega arith in rw z refl
+list_shown [] (suc n) m e = let z : m ≡ 0 = omega arith in rw z refl
+list_shown (x ∷ l) (suc n) m e =
+    let s : m ≡ suc (min (length l) n) = omega arith in
+    rw s (ap (λ ps. (32 ∷ []) ∷ signed x ∷ ps) (list_shown l n (min (length l) n) refl))
 
-pub list_full : (l : List ℤ) (n i : ℕ) → n ≤ i → list_pieces (n - i) (drop i l) ≡ []
+pub list_next : (l : List ℤ) (i : ℕ) → i < length l → all_pieces (drop i l) ≡ (32 ∷ []) ∷ signed (get_or l i (pos 0)) ∷ all_pieces (drop (i + 1) l)
 unfolding list_pieces
-list_full l n i h = let e : n - i ≡ 0 = omega arith in rw e refl
+list_next l i h = rw (add-one i, drop-cons l i (pos 0) h) refl
 
-list_empty : (n : ℕ) → list_pieces n [] ≡ []
+pub list_over : (l : List ℤ) (i : ℕ) → length l ≤ i → all_pieces (drop i l) ≡ []
 unfolding list_pieces
-list_empty zero = refl
-list_empty (suc n) = refl
-
-pub list_over : (l : List ℤ) (n i : ℕ) → i ≡ length l → list_pieces (n - i) (drop i l) ≡ []
-list_over l n i h = let e : drop i l ≡ [] = rw h (drop-length l) in rw e (list_empty (n - i))
+list_over l i h = rw (drop_of_length-le l h) refl
 
 -- a report's pairs
 pub report_none : (l : List ℕ) (n : ℕ) → n ≡ 0 → (32 ∷ 45 ∷ []) ∷ [] ≡ report_pieces n l
@@ -70,9 +68,6 @@ pub report_some : (l : List ℕ) (n : ℕ) → (n ≡ 0 → ⊥) → pairs_in n 
 unfolding report_pieces
 report_some l zero e = absurd (e refl)
 report_some l (suc n) e = refl
-
-pub pairs-to_do : (s : List ℕ) (p n : ℕ) (l : List ℕ) → ToDo s p (pairs_in n l) s p (pairs_in (n - 0) (drop (2 * 0) l))
-pairs-to_do s p n l = let e : n - 0 ≡ n = omega arith in rw e (all_to_do s p (pairs_in n l))
 
 pub pair_next : (l : List ℕ) (n i k m : ℕ) → k ≡ 2 * i → m ≡ k + 2 → k + 1 < length l → i < n
     → pairs_in (n - i) (drop k l) ≡ pair_pieces (get_or l k 0) (get_or l (k + 1) 0) ++ pairs_in (n - (i + 1)) (drop m l)
@@ -97,3 +92,6 @@ pairs-short (suc n) (g ∷ k ∷ l) h = absurd (omega arith)
 
 pub pair_over : (l : List ℕ) (n i k : ℕ) → length l < k + 2 → pairs_in (n - i) (drop k l) ≡ []
 pair_over l n i k h = pairs-short (n - i) (drop k l) (omega (arith, length-drop k l))
+
+pub pair_past : (l : List ℕ) (n i k : ℕ) → k ≡ 2 * i → min (length l / 2) n ≤ i → pairs_in (n - i) (drop k l) ≡ []
+pair_past l n i k d h = ⊎_elim (λ lt. pair_over l n i k (omega arith)) (λ le. pair_full l n i k le) (below i n)

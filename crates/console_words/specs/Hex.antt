@@ -1,7 +1,6 @@
 -- A word as bytes in lowercase hex; `-` is none. Assumes nothing: these are definitions.
-use Rattle.std.specs.Prelude.{ℕ, ◌+◌, ◌*◌, ◌/◌, ◌%◌, Bool, true, false, ◌&&◌, ◌||◌, cond, List, [], ◌∷◌, ltb, leb, eqb, length, get_or}
+use Rattle.std.specs.Prelude.{ℕ, ◌+◌, ◌*◌, ◌/◌, ◌%◌, Bool, true, false, ◌&&◌, ◌||◌, cond, List, [], ◌∷◌, ltb, leb, eqb, length, get_or, Option, Some, None}
 use Rattle.wire_bytes.specs.Bytes.{put}
-use Rattle.console_words.specs.declared.hex.Read.{Read}
 
 -- 0 to 9, a to f
 unfoldable pub is_hex : ℕ → Bool
@@ -29,10 +28,9 @@ is_none s = eqb (length s) 1 && eqb (get_or s 0 0) 45
 unfoldable pub is_pairs : List ℕ → ℕ → Bool
 is_pairs s room = ltb 0 (length s) && eqb (length s % 2) 0 && leb (length s / 2) room && all_hex s
 
--- the answer: whether the word is good, and how many bytes it says
-unfoldable pub hex_read : List ℕ → ℕ → Read
-hex_read s room =
-    cond (is_none s || is_pairs s room) (record { good = true; count = length s / 2 }) (record { good = false; count = 0 })
+-- the answer: how many bytes the word says, none where it is bad
+unfoldable pub hex_read : List ℕ → ℕ → Option ℕ
+hex_read s room = cond (is_none s || is_pairs s room) (Some (length s / 2)) None
 
 -- the room afterwards: the bytes at its front, unchanged for a bad word
 unfoldable pub hex_after : List ℕ → List ℕ → List ℕ

@@ -1,8 +1,8 @@
 -- Where a line's words are, and when two are the same. Assumes nothing: these are definitions.
-use Rattle.std.specs.Prelude.{ℕ, zero, suc, ◌+◌, ◌-◌, Bool, true, false, cond, ◌&&◌, List, [], ◌∷◌, leb, eqb, length, get_or, take, drop}
+use Rattle.std.specs.Prelude.{ℕ, zero, suc, ◌+◌, ◌-◌, Bool, true, false, cond, ◌&&◌, List, [], ◌∷◌, leb, eqb, length, get_or, take, drop, Option, Some, None}
 use Rattle.std.proofs.lemmas.List.Edits.{sets}
 use Rattle.console_words.specs.Numbers.{at_most_largest}
-use Rattle.console_words.specs.declared.spans.Bounds.{Bounds}
+use Rattle.std.specs.declared.ops.Range.{Range}
 
 -- the position of the first byte b of a text that stands at p, or its end
 unfoldable pub next_of : ℕ → ℕ → List ℕ → ℕ
@@ -22,9 +22,9 @@ word_ends s = ends_from 32 0 s
 abbrev pub largest : ℕ
 largest = 18446744073709551615
 
--- how many words a line has; the largest number where there is no room for so many ends
-unfoldable pub words_in : List ℕ → ℕ → ℕ
-words_in s room = cond (leb (length (word_ends s)) room) (length (word_ends s)) largest
+-- how many words a line has; none where there is no room for so many ends
+unfoldable pub words_in : List ℕ → ℕ → Option ℕ
+words_in s room = cond (leb (length (word_ends s)) room) (Some (length (word_ends s))) None
 
 -- the room afterwards: the ends at its front, as far as they fit
 unfoldable pub ends_after : List ℕ → List ℕ → List ℕ
@@ -35,8 +35,8 @@ unfoldable pub start_of : List ℕ → ℕ → ℕ
 start_of ends zero = 0
 start_of ends (suc k) = at_most_largest (get_or ends k 0 + 1)
 
-unfoldable pub span_of : List ℕ → ℕ → Bounds
-span_of ends k = record { from = start_of ends k; to = get_or ends k 0 }
+unfoldable pub span_of : List ℕ → ℕ → Range ℕ
+span_of ends k = record { start = start_of ends k; end = get_or ends k 0 }
 
 -- byte for byte
 unfoldable pub same_bytes : List ℕ → List ℕ → Bool
@@ -48,8 +48,8 @@ same_bytes (a ∷ s) (b ∷ t) = cond (eqb a b) (same_bytes s t) false
 -- whether word k of a line is w, by the ends of its words
 unfoldable pub is_word : List ℕ → List ℕ → ℕ → List ℕ → Bool
 is_word s ends k w =
-    cond (leb (span_of ends k).to (length s) && leb (span_of ends k).from (span_of ends k).to)
-    (same_bytes (take ((span_of ends k).to - (span_of ends k).from) (drop (span_of ends k).from s)) w)
+    cond (leb (span_of ends k).end (length s) && leb (span_of ends k).start (span_of ends k).end)
+    (same_bytes (take ((span_of ends k).end - (span_of ends k).start) (drop (span_of ends k).start s)) w)
     false
 
 -- the words themselves
@@ -61,7 +61,7 @@ unfoldable pub words_of : List ℕ → List (List ℕ)
 words_of [] = [] ∷ []
 words_of (x ∷ s) = cond (eqb x 32) ([] ∷ words_of s) (longer x (words_of s))
 
--- which of them is the same as w, counted from k on: the first that is; the largest number where none is
-unfoldable pub place_from : ℕ → List ℕ → List (List ℕ) → ℕ
-place_from k w [] = largest
-place_from k w (x ∷ ws) = cond (same_bytes w x) k (place_from (suc k) w ws)
+-- which of them is the same as w, counted from k on: the first that is
+unfoldable pub place_from : ℕ → List ℕ → List (List ℕ) → Option ℕ
+place_from k w [] = None
+place_from k w (x ∷ ws) = cond (same_bytes w x) (Some k) (place_from (suc k) w ws)

@@ -1,81 +1,44 @@
 // A decimal number: any count of digits, with or without a minus sign.
-ghost use Rattle.std.specs.Prelude.{◌≡◌, ◌+◌, ◌*◌, ◌%◌, drop, eqb, get_or};
-ghost use Rattle.console_words.specs.Numbers.{is_digit, at_most_largest, no_number, digits_from, digits_of, negated, number_of, number_in};
-ghost use Rattle.console_words.specs.declared.numbers.Number.{Number};
+ghost use Rattle.std.specs.Prelude.{◌≡◌, ◌+◌, ◌*◌, ◌%◌};
+ghost use Rattle.console_words.specs.Numbers.{at_most_largest, digits_of, negated, number_of, number_in};
 
-const MOST: u64 = 18446744073709551615;
-
-// Whether the word is a number, whether that is below zero, and its value: the largest word for one that 64 bits do not
-// hold, which is out of every range.
-#[derive(Clone, Copy)]
+// A number: whether it is below zero, and its value, the largest word for one that 64 bits do not hold, which is out of
+// every range.
+#[derive(Clone, Copy, PartialEq, Eq)]
 pub struct Number {
-    pub good: bool,
     pub negative: bool,
     pub value: u64,
-}
-
-// What a word that is no number says.
-pub fn no_number() -> Number
-    ensures { result ≡ no_number }
-{
-    Number {
-        good: false,
-        negative: false,
-        value: 0,
-    }
-}
-
-fn is_digit(b: u8) -> bool
-    ensures { result ≡ is_digit b }
-{
-    (48 <= b) & (b <= 57)
 }
 
 // The low four bits of a digit are its value.
 fn with_digit(value: u64, b: u8) -> u64
     ensures { result ≡ at_most_largest (10 * value + b % 16) }
 {
-    let digit = (b % 16) as u64;
-    if (MOST - digit) / 10 < value {
-        return MOST;
-    }
-    10 * value + digit
+    value.saturating_mul(10).saturating_add(u64::from(b % 16))
 }
 
-// The number that the bytes from `from` on say, at least one.
-fn digits(word: &[u8], from: usize) -> Number
-    ensures { result ≡ digits_of (drop from word.now) }
+// The number that digits say, at least one.
+fn digits(word: &[u8]) -> Option<Number>
+    ensures { result ≡ digits_of word.now }
 {
-    if word.len() <= from {
-        return no_number();
+    if word.is_empty() {
+        return None;
     }
-    let mut value: u64 = 0;
-    let mut i = from;
-    while i < word.len() {
-        let b = word[i];
-        if !is_digit(b) {
-            return no_number();
+    let mut value = 0;
+    for b in word {
+        if !b.is_ascii_digit() {
+            return None;
         }
-        value = with_digit(value, b);
-        i += 1;
+        value = with_digit(value, *b);
     }
-    Number {
-        good: true,
+    Some(Number {
         negative: false,
         value,
-    }
-}
-
-fn is_minus(word: &[u8]) -> bool
-    ensures { result ≡ eqb (get_or word.now 0 0) 45 }
-{
-    if 0 < word.len() {
-        return word[0] == 45;
-    }
-    false
+    })
 }
 
 // Below zero every number is out of every range, and is the largest word.
+#[tactic(auto, unfolding(crate::specs::Numbers::negated))]
 fn negate(n: Number) -> Number
     ensures { result ≡ negated n }
 {
@@ -83,31 +46,26 @@ fn negate(n: Number) -> Number
         return n;
     }
     Number {
-        good: n.good,
         negative: true,
-        value: MOST,
+        value: u64::MAX,
     }
 }
 
-// The number that a whole word says.
-pub fn read_number(word: &[u8]) -> Number
+// The number that a whole word says; none where it says no number.
+#[tactic(auto, unfolding(crate::specs::Numbers::number_of))]
+pub fn read_number(word: &[u8]) -> Option<Number>
     ensures { result ≡ number_of word.now }
 {
-    if is_minus(word) {
-        return negate(digits(word, 1));
+    match word {
+        [b'-', rest @ ..] => digits(rest).map(negate),
+        _ => digits(word),
     }
-    digits(word, 0)
 }
 
 // The number of a word by its bounds; none where they are past the line.
-pub fn number_in(line: &[u8], from: usize, to: usize) -> Number
+#[tactic(auto, unfolding(crate::specs::Numbers::number_in))]
+pub fn number_in(line: &[u8], from: usize, to: usize) -> Option<Number>
     ensures { result ≡ number_in line.now from to }
 {
-    if line.len() < to {
-        return no_number();
-    }
-    if to < from {
-        return no_number();
-    }
-    read_number(&line[from..to])
+    read_number(line.get(from..to)?)
 }

@@ -1,5 +1,5 @@
 // The parts of an answer, written into a lent slice, each where it fits.
-ghost use Rattle.std.specs.Prelude.{◌≡◌, [], ◌∷◌, get_or};
+ghost use Rattle.std.specs.Prelude.{◌≡◌, [], ◌∷◌};
 ghost use Rattle.wire_bytes.specs.Bytes.{put_whole, past_whole};
 ghost use Rattle.text.specs.Pieces.{put_all, past_all};
 ghost use Rattle.console_words.specs.Answers.{bad_line, number_pieces, hex_or_none, bytes_pieces, list_pieces, pair_pieces, report_pieces};
@@ -59,26 +59,13 @@ pub fn put_list(out: &mut [u8], at: usize, list: &[i64], n: u64) -> usize
     ensures value { result ≡ past_all out.old at (list_pieces n list.now) }
     ensures out_after { out.new ≡ put_all out.old at (list_pieces n list.now) }
 {
+    let shown = &list[..list.len().min(n as usize)];
     let mut p = at;
-    let mut i = 0;
-    while i < list.len() {
-        if n <= i as u64 {
-            return p;
-        }
+    for x in shown {
         p = wire_bytes::put_byte(out, p, b' ');
-        p = text::put_signed(out, p, list[i]);
-        i += 1;
+        p = text::put_signed(out, p, *x);
     }
     p
-}
-
-fn word(list: &[u64], i: usize) -> u64
-    ensures { result ≡ get_or list.now i 0 }
-{
-    if i < list.len() {
-        return list[i];
-    }
-    0
 }
 
 fn put_pair(out: &mut [u8], at: usize, group: u64, number: u64) -> usize
@@ -99,15 +86,10 @@ pub fn put_pairs(out: &mut [u8], at: usize, pairs: &[u64], n: u64) -> usize
     if n == 0 {
         return wire_bytes::put_bytes(out, at, b" -", 2);
     }
-    let half = pairs.len() / 2;
+    let shown = (pairs.len() / 2).min(n as usize);
     let mut p = at;
-    let mut i = 0;
-    while i < half {
-        if n <= i as u64 {
-            return p;
-        }
-        p = put_pair(out, p, word(pairs, 2 * i), word(pairs, 2 * i + 1));
-        i += 1;
+    for i in 0..shown {
+        p = put_pair(out, p, pairs[2 * i], pairs[2 * i + 1]);
     }
     p
 }

@@ -1,4 +1,5 @@
 -- Each return stands under the tests of its choice in the definition.
+use native.Mathlib.Omega.{arith}
 use Rattle.console_words.proofs.Pairs.{read_none, read_pairs, read_bad, pairs-fit}
 use Rattle.console_words.proofs.hex.read_hex.Goals as goal
 
@@ -6,19 +7,19 @@ pub returns-then-is_none : goal.returns-then-is_none
 returns-then-is_none c =
     let both =
     read_none _ _ _ c.is_none.ensures c.if-is_none.true in
-    record { value = both.0; out_after = both.1 }
+    record { value = both.0; within = omega arith; out_after = both.1 }
 
 pub store-requires : goal.store-requires
-store-requires c = pairs-fit _ _ _ c.is_pairs.ensures c.if-is_pairs.true
-
-pub returns-then-is_pairs : goal.returns-then-is_pairs
-returns-then-is_pairs c =
-    let both =
-    read_pairs _ _ _ c.is_none.ensures c.if-is_none.false _ c.is_pairs.ensures _ c.if-is_pairs.true c.store.ensures in
-    record { value = both.0; out_after = both.1 }
+store-requires c = pairs-fit _ _ _ c.is_pairs.ensures c.if-not-is_pairs.false
 
 pub returns : goal.returns
 returns c =
     let both =
-    read_bad _ _ _ c.is_none.ensures c.if-is_none.false _ c.is_pairs.ensures c.if-is_pairs.false in
-    record { value = both.0; out_after = both.1 }
+    read_pairs _ _ _ c.is_none.ensures c.if-is_none.false _ c.is_pairs.ensures _ c.if-not-is_pairs.false c.store.ensures in
+    record { value = both.0; within = pairs-fit _ _ _ c.is_pairs.ensures c.if-not-is_pairs.false; out_after = both.1 }
+
+pub returns-then-not-is_pairs : goal.returns-then-not-is_pairs
+returns-then-not-is_pairs c =
+    let both =
+    read_bad _ _ _ c.is_none.ensures c.if-is_none.false _ c.is_pairs.ensures c.if-not-is_pairs.true in
+    record { value = both.0; within = tt; out_after = both.1 }

@@ -7,12 +7,11 @@ use Rattle.console_words.proofs.hex.store.Goals as goal
 
 pub loop-n-preserved : goal.loop-n-preserved
 loop-n-preserved c = (
-  omega arith,
   search rules,
-  store-turn c.args.word.now c.loop-n.out c.loop-n.n (2 * c.loop-n.n) _ c.loop-n.invariant.2
+  store-turn c.args.word.now c.loop-n.out c.loop-n.n (2 * c.loop-n.n) _ c.loop-n.invariant.1
       (2 * (c.loop-n.n + 1)) _ (omega arith) (omega arith) c.pair.ensures,
 )
 
 pub returns : goal.returns
 returns c =
-    store-end c.args.word.now c.loop-n.out c.loop-n.n (2 * c.loop-n.n) _ c.loop-n.invariant.2 (omega arith)
+    store-end c.args.word.now c.loop-n.out c.loop-n.n (2 * c.loop-n.n) _ c.loop-n.invariant.1 (omega arith)

@@ -1,10 +1,11 @@
--- The test by division is the test of the sum, which is then not too large.
-use Rattle.console_words.proofs.Digits.{large, fits}
+-- Both steps stop at the largest word.
+use mathlib.Core.Path.{◌≡◌, ◌∙◌}
+use Prim.Native.Nat.{min, ◌+◌, ◌*◌, ◌%◌}
 use native.Mathlib.Omega.{arith}
+use Rattle.console_words.proofs.Digits.{capped}
 use Rattle.console_words.proofs.numbers.with_digit.Goals as goal
 
-pub returns-then-digit-value : goal.returns-then-digit-value
-returns-then-digit-value c = large _ _ (omega arith) (omega arith)
-
 pub returns : goal.returns
-returns c = fits _ _ (omega arith) (omega arith)
+returns c =
+    let h : c.saturating_add.result ≡ min (10 * c.args.value + c.args.b % 16) 18446744073709551615 = omega arith in
+    h ∙ capped _

@@ -4,7 +4,7 @@ use mathlib.Core.List.{[], ◌∷◌}
 use Prim.Native.Nat.{◌+◌, ◌*◌}
 use native.Mathlib.Omega.{arith}
 use Rattle.text.proofs.Pieces.{all_to_do, one_done, run-done, all_done}
-use Rattle.console_words.proofs.Written.{report_none, report_some, pair_next, pair_full, pair_over}
+use Rattle.console_words.proofs.Written.{report_none, report_some, pair_next, pair_past}
 use Rattle.console_words.proofs.print.put_pairs.Goals as goal
 
 pub returns-then-n-eq0 : goal.returns-then-n-eq0
@@ -14,21 +14,13 @@ returns-then-n-eq0 c =
     (all_done _ _ _ _ _ _ w refl) in
     rw (← report_none c.args.pairs.now c.args.n c.if-n-eq0.true) (record { value = both.0; out_after = both.1 })
 
-pub returns-then-n-i : goal.returns-then-n-i
-returns-then-n-i c =
-    let both =
-    (all_done _ _ _ _ _ _ c.loop-i.invariant.0 (pair_full c.args.pairs.now c.args.n c.loop-i.i (2 * c.loop-i.i) c.if-n-i.true)) in
-    rw (← report_some c.args.pairs.now c.args.n c.if-n-eq0.false) (record { value = both.0; out_after = both.1 })
-
 pub loop-i-preserved : goal.loop-i-preserved
 loop-i-preserved c =
-    let next = pair_next c.args.pairs.now c.args.n c.loop-i.i (2 * c.loop-i.i) (2 * (c.loop-i.i + 1)) refl (omega arith) (omega arith) (omega arith) in (
-      run-done _ _ _ _ _ _ _ _ _ (rw next at c.loop-i.invariant.0) (rw (c.word.ensures, c.word-in-loop-i.ensures) at c.put_pair-p.ensures.value, rw (c.word.ensures, c.word-in-loop-i.ensures) at c.put_pair-p.ensures.out_after),
-      omega arith,
-    )
+    let next = pair_next c.args.pairs.now c.args.n c.loop-i.i (2 * c.loop-i.i) (2 * (c.loop-i.i + 1)) refl (omega arith) (omega arith) (omega arith) in
+    run-done _ _ _ _ _ _ _ _ _ (rw next at c.loop-i.invariant) (c.put_pair-p.ensures.value, c.put_pair-p.ensures.out_after)
 
 pub returns : goal.returns
 returns c =
     let both =
-    (all_done _ _ _ _ _ _ c.loop-i.invariant.0 (pair_over c.args.pairs.now c.args.n c.loop-i.i (2 * c.loop-i.i) (omega arith))) in
+    (all_done _ _ _ _ _ _ c.loop-i.invariant (pair_past c.args.pairs.now c.args.n c.loop-i.i (2 * c.loop-i.i) refl (omega arith))) in
     rw (← report_some c.args.pairs.now c.args.n c.if-n-eq0.false) (record { value = both.0; out_after = both.1 })

@@ -1,13 +1,10 @@
 -- What was put and what is left from each pair on make the whole.
 use lib.ListN.{drop}
-use Prim.Native.Nat.{◌*◌, ◌≤◌, ◌-◌}
+use Prim.Native.Nat.{◌*◌, ◌-◌}
 use Rattle.text.proofs.Pieces.{ToDo}
 use Rattle.console_words.specs.Answers.{pairs_in}
 use Rattle.console_words.proofs.print.put_pairs.Given as goal
 
 abbrev pub invariant-loop-i : goal.invariant-loop-i
 invariant-loop-i l =
-    ToDo l.initial.out l.at (pairs_in l.n l.pairs) l.out l.p (pairs_in (l.n - l.i) (drop (2 * l.i) l.pairs)) × (l.i ≤ l.half)
-
-abbrev pub decreases-loop-i : goal.decreases-loop-i
-decreases-loop-i l = l.half - l.i
+    ToDo l.initial.out l.at (pairs_in l.n l.pairs) l.out l.p (pairs_in (l.n - l.i) (drop (2 * l.i) l.pairs))

@@ -1,24 +1,19 @@
--- Where no byte so far is b, the answer is that of what is left.
+-- The position in what is left, counted from the start of the text.
+use mathlib.Core.Path.{◌≡◌, ap, ◌∙◌}
+use Rattle.std.proofs.lemmas.Slice.{between_to_end}
+use Prim.Native.Nat.{◌+◌}
+use lib.Dec.{eqb}
+use lib.ListN.{length, drop, length-drop}
 use native.Mathlib.Omega.{arith}
-use Rattle.console_words.proofs.Ends.{next_here, next-turn, next-end}
+use Rattle.std.proofs.Common.{rules}
+use Rattle.std.specs.List.{position}
+use Rattle.std.specs.Prelude.{MatchOption}
+use Rattle.console_words.proofs.Ends.{next_from}
 use Rattle.console_words.proofs.spans.next.Goals as goal
 
-pub returns-then-s-i : goal.returns-then-s-i
-returns-then-s-i c =
-    record {
-      lower_bound = omega arith;
-      upper_bound = omega arith;
-      value = next_here c.args.b c.args.s.now c.loop-i.i _ c.loop-i.invariant.2 (omega arith) c.if-s-i.true;
-    }
-
-pub loop-i-preserved : goal.loop-i-preserved
-loop-i-preserved c =
-    (omega arith, omega arith, next-turn c.args.b c.args.s.now c.loop-i.i _ c.loop-i.invariant.2 (omega arith) c.if-s-i.false)
-
-pub returns : goal.returns
-returns c =
-    record {
-      lower_bound = omega arith;
-      upper_bound = omega arith;
-      value = next-end c.args.b c.args.s.now c.loop-i.i _ c.loop-i.invariant.2 (omega arith);
-    }
+pub returns-clause-value : goal.returns-clause-value
+returns-clause-value c =
+    let h : c.first.result ≡ position (λ x. eqb x c.args.b) (drop c.args.from c.args.s.now) =
+    c.first.ensures ∙ ap (λ t. position (λ x. eqb x c.args.b) t) (between_to_end c.args.s.now c.args.from (length c.args.s.now) (omega arith)) in
+    let m : MatchOption c.first.result (c.map_or.result ≡ length c.args.s.now) (λ k. c.map_or.result ≡ c.args.from + k) = search rules in
+    next_from c.args.b c.args.from _ _ _ _ h m (omega (arith, length-drop c.args.from c.args.s.now))

@@ -1,11 +1,6 @@
 -- Each end is stored within the room, and the text left gives the ends left.
-use Prim.Native.Nat.{◌-◌}
-use lib.ListN.{length}
 use Rattle.console_words.proofs.Ends.{Left}
 use Rattle.console_words.proofs.spans.split.Given as goal
 
 abbrev pub invariant-loop-n : goal.invariant-loop-n
 invariant-loop-n l = Left l.line l.initial.ends l.ends l.n l.at
-
-abbrev pub decreases-loop-n : goal.decreases-loop-n
-decreases-loop-n l = length l.initial.ends - l.n
