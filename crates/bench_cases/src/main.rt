@@ -1,28 +1,17 @@
 // Runs bench scripts one after the other, each behind four bytes of length: a line `script N`, then what bench prints.
 #![tactic(auto)]
 
-ghost use Rattle.std.specs.Prelude.{◌≤◌};
-
 use std::io;
 use std::io::{Read, Write};
-
-// How much of `rest` a buffer of `len` bytes takes.
-fn part(rest: u64, len: usize) -> usize
-    ensures { (result ≤ len) × (result ≤ rest) }
-{
-    if rest < len as u64 {
-        return rest as usize;
-    }
-    len
-}
 
 // Reads `left` bytes and passes them over.
 fn skip<R: Read>(input: &mut R, left: u64) -> io::Result<()> {
     let mut room = program_io::large_buffer();
     let buf: &mut [u8] = &mut room;
     let mut rest = left;
+    // By hand: only a read tells how much it brings.
     while 0 < rest {
-        let end = part(rest, buf.len());
+        let end = rest.min(buf.len() as u64) as usize;
         let n = program_io::read_full(input, &mut buf[..end])?;
         if n == 0 {
             return Ok(());
@@ -47,12 +36,9 @@ fn case<R: Read, W: Write>(input: &mut R, output: &mut W, n: u64) -> io::Result<
 fn main(rt: HostRuntime) -> io::Result<()> {
     let mut input = rt.stdin();
     let mut output = rt.stdout();
-    let mut n: u64 = 0;
-    while n < u64::MAX {
-        if case(&mut input, &mut output, n)? {
-            n += 1;
-        } else {
-            return Ok(());
+    for n in 0..u64::MAX {
+        if !case(&mut input, &mut output, n)? {
+            break;
         }
     }
     Ok(())

@@ -11,6 +11,7 @@ use std::io;
 use std::io::{Read, Write};
 
 // How a script ended: at a bad record, or at the end of what may be read; and how many bytes of that were not read.
+// By hand: the clauses say `left` of a good end too, where an Option would have to be taken apart.
 #[derive(Clone, Copy)]
 pub struct Ended {
     pub left: u64,

@@ -8,8 +8,8 @@ use std::io;
 use std::io::{Read, Write};
 
 fn show<W: Write>(output: &mut W, bytes: &[u8], n: usize) -> io::Result<()> {
-    if n <= bytes.len() {
-        output.write_all(&bytes[..n])?;
+    if let Some(front) = bytes.get(..n) {
+        output.write_all(front)?;
     }
     Ok(())
 }
@@ -24,14 +24,13 @@ fn step<W: Write>(
     out: &mut [u8],
     rows: &mut [i64],
 ) -> io::Result<usize> {
-    let x = bench_script::step(d, s, at, out, rows);
-    if x.good {
-        let p = bench_script::print_answer(page, 0, x.number, rows, x.count);
-        show(output, page, p)?;
-        return Ok(x.next);
-    }
-    output.write_all(b"bad record\n")?;
-    Ok(s.len())
+    let Some(x) = bench_script::step(d, s, at, out, rows) else {
+        output.write_all(b"bad record\n")?;
+        return Ok(s.len());
+    };
+    let n = bench_script::print_answer(page, 0, x.number, rows, x.count);
+    show(output, page, n)?;
+    Ok(x.next)
 }
 
 // A script has no more records than bytes.
@@ -44,13 +43,11 @@ fn play_with<W: Write>(
     rows: &mut [i64],
 ) -> io::Result<()> {
     let mut at = 0;
-    let mut left = s.len();
-    while 0 < left {
+    for _ in 0..s.len() {
         if s.len() <= at {
-            return Ok(());
+            break;
         }
         at = step(output, d, s, at, page, out, rows)?;
-        left -= 1;
     }
     Ok(())
 }
@@ -74,9 +71,8 @@ fn run<W: Write>(
     let x = rescue_walk::rescue(input, kept, report);
     let n = rescue_walk::put_text(page, 0, x.number, x.runs, report);
     show(output, page, n)?;
-    let end = x.length;
-    if end <= kept.len() {
-        play(output, &kept[..end], page)?;
+    if let Some(s) = kept.get(..x.length) {
+        play(output, s, page)?;
     }
     Ok(())
 }
@@ -95,12 +91,12 @@ fn take<R: Read, W: Write>(
     script: &mut [u8],
     size: usize,
 ) -> io::Result<bool> {
-    if size <= script.len() {
-        let got = program_io::read_full(input, &mut script[..size])?;
-        rescue(output, &script[..size])?;
-        return Ok(got == size);
-    }
-    Ok(false)
+    let Some(s) = script.get_mut(..size) else {
+        return Ok(false);
+    };
+    let got = program_io::read_full(input, s)?;
+    rescue(output, s)?;
+    Ok(got == size)
 }
 
 // The next script; says false where there is none.
@@ -118,12 +114,9 @@ fn case<R: Read, W: Write>(input: &mut R, output: &mut W, n: u64) -> io::Result<
 fn main(rt: HostRuntime) -> io::Result<()> {
     let mut input = rt.stdin();
     let mut output = rt.stdout();
-    let mut n: u64 = 0;
-    while n < u64::MAX {
-        if case(&mut input, &mut output, n)? {
-            n += 1;
-        } else {
-            return Ok(());
+    for n in 0..u64::MAX {
+        if !case(&mut input, &mut output, n)? {
+            break;
         }
     }
     Ok(())

@@ -1,9 +1,0 @@
--- The count of scripts rises, so that it ends at the largest number at the latest.
-use Prim.Native.Nat.{◌-◌}
-use Rattle.bench_cases.proofs.main.Given as goal
-
-abbrev pub invariant-loop-n : goal.invariant-loop-n
-invariant-loop-n l = Unit {0}
-
-abbrev pub decreases-loop-n : goal.decreases-loop-n
-decreases-loop-n l = 18446744073709551615 - l.n
