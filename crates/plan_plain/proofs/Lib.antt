@@ -1,5 +1,4 @@
 -- What the proofs of several functions use, and the laws that callers cite.
-pub mod ReadBack
 pub mod Next
 pub mod Onward
 pub mod Fill

@@ -10,6 +10,7 @@ use device_holds::values_at;
 use device_store::{State, VALUES, clock};
 use refusals::NO_SPACE;
 
+#[tactic(auto, unfolding(crate::specs::Records::row_of))]
 fn row_of(t: u64, values: [i64; VALUES]) -> Row
     ensures { result ≡ row_of t values }
 {

@@ -22,10 +22,7 @@ pub fn next_row(d: &State, t: u64) -> u64
     ensures { result ≡ next_row (situation_of d.now) t }
 {
     let mut n = next_after(d, t);
-    while n < END {
-        if !unchanged(d, n) {
-            return n;
-        }
+    while n < END && unchanged(d, n) {
         n = next_after(d, n);
     }
     n

@@ -8,9 +8,9 @@ use Rattle.plan_plain.proofs.rows.next_row.Goals as goal
 pub loop-n-init : goal.loop-n-init
 loop-n-init c = looking_start _ _ _ c.next_after-n.ensures
 
-pub returns-then-not-unchanged : goal.returns-then-not-unchanged
-returns-then-not-unchanged c =
-    looking_found _ _ _ c.loop-n.invariant (omega arith) (via c.unchanged.ensures c.if-not-unchanged.true)
+pub returns-else-unchanged : goal.returns-else-unchanged
+returns-else-unchanged c =
+    looking_found _ _ _ c.loop-n.invariant (omega arith) (via c.unchanged.ensures c.if-unchanged.false)
 
 pub loop-n-smaller : goal.loop-n-smaller
 loop-n-smaller c =
@@ -18,7 +18,7 @@ loop-n-smaller c =
 
 pub loop-n-preserved : goal.loop-n-preserved
 loop-n-preserved c =
-    looking_on _ _ _ c.loop-n.invariant (omega arith) (via c.unchanged.ensures c.if-not-unchanged.false) _ c.next_after-n-in-loop-n.ensures
+    looking_on _ _ _ c.loop-n.invariant (omega arith) (via c.unchanged.ensures c.if-unchanged.true) _ c.next_after-n-in-loop-n.ensures
 
-pub returns : goal.returns
-returns c = looking_end _ _ _ c.loop-n.invariant (omega arith)
+pub returns-after-loop-n : goal.returns-after-loop-n
+returns-after-loop-n c = looking_end _ _ _ c.loop-n.invariant (omega arith)
