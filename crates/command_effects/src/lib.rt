@@ -7,6 +7,6 @@ mod outcomes; // the result in the response
 
 pub use actions::Action;
 pub use command_fields::{is_negative, natural_of};
-pub use command_tests::{content_number, is_capped, is_unserved};
+pub use command_tests::{check_content, is_capped, is_unserved};
 pub use obey::obeyed;
 pub use outcomes::{current_outcome, limit_outcome, setpoint_outcome};

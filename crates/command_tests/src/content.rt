@@ -1,5 +1,6 @@
 // What is asked of a command itself, whatever zone it comes from: one test for each number.
 ghost use Rattle.std.specs.Prelude.{◌≡◌, not, ◌&&◌, eqb};
+ghost use Rattle.refusals.specs.Answers.{number_in};
 ghost use Rattle.refusals.specs.Refusals.{first_of};
 ghost use Rattle.command_tests.specs.Content.{accepts, aim_unsupported, unsupported, is_unserved, sets_limits};
 ghost use Rattle.command_tests.specs.Content.{invalid, below_the_minimum, content_tests, is_capped};
@@ -8,7 +9,7 @@ use crate::asks::{FieldTest, some_field_is};
 use command_by_quantity::{Kind, aim_of, is_set, kind_of, says};
 use command_fields::field_too_low;
 use device_store::{Settings, supports};
-use refusals::{BAD_VALUE, BELOW_MINIMUM, NOT_SUPPORTED, OVERRIDDEN};
+use refusals::Refusal;
 use wire_messages::Command;
 
 fn accepts(s: Settings, k: Kind) -> bool
@@ -75,24 +76,24 @@ fn is_below_minimum(s: Settings, c: Command) -> bool
     field_too_low(s.minimum, says(c, 0))
 }
 
-// What is asked of the command itself, once its zone is joined and up.
+// Why the command itself is refused, if it is, once its zone is joined and up.
 #[tactic(auto, unfolding(refusals::specs::Refusals::first_of))]
-pub fn content_number(s: Settings, overridden: u64, c: Command) -> u64
-    ensures { result ≡ first_of (content_tests s overridden c) }
+pub fn check_content(s: Settings, overridden: u64, c: Command) -> Result<(), Refusal>
+    ensures { number_in result ≡ first_of (content_tests s overridden c) }
 {
     if is_unsupported(s, c) {
-        return NOT_SUPPORTED;
+        return Err(Refusal::NotSupported);
     }
     if is_stopped(c, overridden) {
-        return OVERRIDDEN;
+        return Err(Refusal::Overridden);
     }
     if is_invalid(s, c) {
-        return BAD_VALUE;
+        return Err(Refusal::BadValue);
     }
     if is_below_minimum(s, c) {
-        return BELOW_MINIMUM;
+        return Err(Refusal::BelowMinimum);
     }
-    0
+    Ok(())
 }
 
 // Some quantity's number is above its top.

@@ -5,5 +5,5 @@ mod asks; // one test, tried on each field of a command
 mod content; // 11 to 14: what a command itself is refused for
 mod order; // 4, 5, 9, 10, then these
 
-pub use content::{content_number, is_capped, is_unserved};
-pub use order::number_of;
+pub use content::{check_content, is_capped, is_unserved};
+pub use order::check_command;

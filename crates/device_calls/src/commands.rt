@@ -4,6 +4,7 @@ ghost use Rattle.device_calls.specs.Commands.{decision_of, outcome_for, enacted}
 
 use crate::{Change, Decision, SLOTS, State};
 use device_holds::values_with;
+use refusals::number_in;
 use wire_messages::{Command, Outcome, SET_LIMIT, has_result};
 
 // The number, and the record that the zone would then have.
@@ -13,7 +14,7 @@ pub fn decide(d: &State, zone: u64, t: u64, c: Command) -> Decision
     let slot = device_store::slot_of_joined(d, zone);
     let x = device_store::zone_at(d, slot);
     let s = device_store::settings_at(d);
-    let n = command_tests::number_of(
+    let n = number_in(command_tests::check_command(
         device_store::clock(d),
         slot < SLOTS,
         x.up,
@@ -21,7 +22,7 @@ pub fn decide(d: &State, zone: u64, t: u64, c: Command) -> Decision
         device_store::overridden(d),
         t,
         c,
-    );
+    ));
     if n == 0 {
         return Decision {
             number: 0,

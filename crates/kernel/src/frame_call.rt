@@ -4,8 +4,8 @@
 //   1                `frame`: its length
 //   2                `wire_requests::read_payload`: strict CBOR
 //   3, 4, 3          `read_message` there: the envelope, what is served, the parameters
-//   5, 9, 10         `command_tests::number_of`: the second, the zone, its link
-//   11, 12, 13, 14   `content_number` there: the command itself
+//   5, 9, 10         `command_tests::check_command`: the second, the zone, its link
+//   11, 12, 13, 14   `check_content` there: the command itself
 //   15               `answer`: the response that has no space, once nothing else is refused
 ghost use Rattle.std.specs.Prelude.{◌≡◌, length};
 ghost use Rattle.wire_cbor.specs.Item.{payload_of};
