@@ -14,12 +14,10 @@ use wire_fields::{Range, all3, is_number};
 fn marks_fit(words: &Words) -> bool
     ensures { result ≡ marks_fit words.now 36 0 }
 {
-    let mut i = 0;
-    while i < PLACES {
+    for i in 0..PLACES {
         if 2 < words[2 * i] {
             return false;
         }
-        i += 1;
     }
     true
 }
@@ -49,15 +47,13 @@ fn row_fits(words: &Words, place: usize, row: Row) -> bool
 fn rows_fit(words: &Words) -> bool
     ensures { result ≡ rows_fit rows (held words.now) }
 {
-    let mut i = 0;
     let mut place: usize = 0;
-    while i < ROWS {
+    for i in 0..ROWS {
         let row = row_at(i);
         if !row_fits(words, place, row) {
             return false;
         }
         place += row.1 as usize;
-        i += 1;
     }
     true
 }

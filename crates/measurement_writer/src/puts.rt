@@ -40,13 +40,11 @@ fn count_rows(words: &Words) -> u64
     ensures upper_bound { result ≤ 24 }
 {
     let mut r: u64 = 0;
-    let mut i = 0;
     let mut place: usize = 0;
-    while i < ROWS {
+    for i in 0..ROWS {
         let row = row_at(i);
         r += count_row(words, place, row);
         place += row.1 as usize;
-        i += 1;
     }
     r
 }
@@ -84,13 +82,11 @@ fn put_rows(out: &mut [u8], at: usize, words: &Words) -> usize
     ensures { PutsShort out.old at (encode_pairs (present (fields_of rows (held words.now)))) rows_room out.new result }
 {
     let mut p = at;
-    let mut i = 0;
     let mut place: usize = 0;
-    while i < ROWS {
+    for i in 0..ROWS {
         let row = row_at(i);
         p = put_row(out, p, words, place, row);
         place += row.1 as usize;
-        i += 1;
     }
     p
 }

@@ -6,6 +6,3 @@ use Rattle.measurement_writer.proofs.fits.marks_fit.Given as goal
 
 abbrev pub invariant-loop-i : goal.invariant-loop-i
 invariant-loop-i l = (l.i ≤ 36) × (marks_fit l.words (36 - l.i) l.i ≡ marks_fit l.words 36 0)
-
-abbrev pub decreases-loop-i : goal.decreases-loop-i
-decreases-loop-i l = 36 - l.i

@@ -1,5 +1,5 @@
 -- What is left of the rows makes the whole.
-use Prim.Native.Nat.{◌+◌, ◌-◌, ◌≤◌}
+use Prim.Native.Nat.{◌+◌, ◌≤◌}
 use mathlib.Core.Path.{◌≡◌}
 use lib.ListN.{drop}
 use Rattle.measurement_table.specs.Table.{rows, places}
@@ -11,6 +11,3 @@ use Rattle.measurement_writer.proofs.fits.rows_fit.Given as goal
 abbrev pub invariant-loop-i : goal.invariant-loop-i
 invariant-loop-i l =
     (l.i ≤ 24) × (l.place + places (drop l.i rows) ≡ 36) × (rows_fit (drop l.i rows) (held_by l.words (drop l.i rows) l.place) ≡ rows_fit rows (held l.words))
-
-abbrev pub decreases-loop-i : goal.decreases-loop-i
-decreases-loop-i l = 24 - l.i

@@ -1,5 +1,5 @@
 -- What is counted and what is left make the whole.
-use Prim.Native.Nat.{◌+◌, ◌-◌, ◌≤◌}
+use Prim.Native.Nat.{◌+◌, ◌≤◌}
 use mathlib.Core.Path.{◌≡◌}
 use lib.ListN.{drop}
 use Rattle.wire_cbor.specs.Item.{count_pairs}
@@ -14,6 +14,3 @@ abbrev pub invariant-loop-i : goal.invariant-loop-i
 invariant-loop-i l =
     (l.i ≤ 24) × (l.place + places (drop l.i rows) ≡ 36) × (l.r ≤ l.i)
     × (l.r + count_pairs (present (fields_of (drop l.i rows) (held_by l.words (drop l.i rows) l.place))) ≡ count_pairs (present (fields_of rows (held l.words))))
-
-abbrev pub decreases-loop-i : goal.decreases-loop-i
-decreases-loop-i l = 24 - l.i

@@ -1,5 +1,5 @@
 -- What is left to put makes the whole.
-use Prim.Native.Nat.{◌+◌, ◌-◌, ◌*◌, ◌≤◌, ℕ}
+use Prim.Native.Nat.{◌+◌, ◌*◌, ◌≤◌, ℕ}
 use mathlib.Core.Path.{◌≡◌}
 use mathlib.Core.List.{List}
 use lib.ListN.{drop, length}
@@ -18,6 +18,3 @@ invariant-loop-i l =
     × ((t : List ℕ) (q : ℕ) → PutsShort l.out l.p (encode_pairs (present (fields_of (drop l.i rows) (held_by l.words (drop l.i rows) l.place))))
     (place_room * places (drop l.i rows)) t q
     → PutsShort l.initial.out l.at (encode_pairs (present (fields_of rows (held l.words)))) rows_room t q)
-
-abbrev pub decreases-loop-i : goal.decreases-loop-i
-decreases-loop-i l = 24 - l.i
