@@ -3,8 +3,8 @@ use Rattle.std.specs.Prelude
 use Rattle.std.specs.Prelude.{None, Some}
 use Prim.Native.Nat.{ℕ}
 use mathlib.Core.Path.{◌≡◌, refl, ap, ◌∙◌}
-use mathlib.Core.Bool.{Bool, true, false, ◌&&◌}
-use mathlib.Core.Option.{Option, some, none, bind, map}
+use mathlib.Core.Bool.{Bool, true, false}
+use mathlib.Core.Option.{Option, bind}
 use Rattle.wire_cbor.specs.Item.{Item}
 use Rattle.wire_cbor.specs.Scan.{key_head_of, pairs_in}
 use Rattle.wire_fields.specs.Fields.{number_up_to, truth, map_in, needed, value_in, amount_in, success_in}
@@ -16,7 +16,7 @@ use Rattle.wire_fields.specs.Laws.{phase_key_head}
 use Rattle.wire_fields.proofs.ByKeyHead.{uint_reads, truth_reads, success_reads, map-reads}
 use Rattle.wire_fields.proofs.RangeLaws.{number_tells, value_reads, values-by_range, amounts_by_range}
 use Rattle.wire_fields.proofs.PhaseLaws.{phases_seen_tell, phases-read}
-use Rattle.wire_fields.proofs.Given.{when-ok}
+use Rattle.wire_fields.proofs.Given.{then_some_is}
 
 -- an answer with a test, as an Option
 pub found_given : {X : Type 0} (ok : Bool) (x : X) → found ok x ≡ given (when_ok ok x)
@@ -60,11 +60,11 @@ unfolding phases_in fields_seen PhasesRead
 phases_at null o =
     phases-read (signed_bits 64) null (value_in null) field_of phases_from (values-by_range null) (key_head_of o) (phase_key_head o 0) (phase_key_head o 1) (phase_key_head o 2) _
     (phases_seen_tell (signed_bits 64) null _ _ _ _ _ refl) _ _ _ refl refl refl _ refl o refl refl refl refl
-    ∙ ap given (when-ok _ _)
+    ∙ ap given (then_some_is _ _)
 
 pub currents_at : (most : ℕ) (o : Option Item) → currents_in most o ≡ given (amounts_seen most (key_head_of o) (phase_key_head o 0) (phase_key_head o 1) (phase_key_head o 2))
 unfolding currents_in amounts_seen PhasesRead
 currents_at most o =
     phases-read (up_to_most most) false (amount_in most) amount_of currents_from (amounts_by_range most) (key_head_of o) (phase_key_head o 0) (phase_key_head o 1) (phase_key_head o 2) _
     (phases_seen_tell (up_to_most most) false _ _ _ _ _ refl) _ _ _ refl refl refl _ refl o refl refl refl refl
-    ∙ ap given (when-ok _ _)
+    ∙ ap given (then_some_is _ _)

@@ -9,9 +9,9 @@ use Rattle.wire_cbor.specs.Item.{Item}
 use Rattle.wire_cbor.specs.declared.heads.KeyHead.{KeyHead}
 use Rattle.wire_fields.specs.KeyHeads.{found, when_ok, given, Reads, Gives}
 
-pub when-ok : {X : Type 0} (ok : Bool) (x : X) → then_some ok x ≡ when_ok ok x
-when-ok true x = refl
-when-ok false x = refl
+pub then_some_is : {X : Type 0} (ok : Bool) (x : X) → then_some ok x ≡ when_ok ok x
+then_some_is true x = refl
+then_some_is false x = refl
 
 pub given_found : {X : Type 0} (ok : Bool) (x : X) → found ok x ≡ given (then_some ok x)
 given_found true x = refl

@@ -1,18 +1,15 @@
 -- A message by its parts: what is seen in each place, and one reader after the other. Assumes nothing.
-use Rattle.std.specs.Prelude.{Some}
 use Prim.Native.Nat.{ℕ, ◌<◌}
-use mathlib.Core.Path.{◌≡◌, refl, sym, ap, ◌∙◌}
+use mathlib.Core.Path.{◌≡◌, refl, ap, ◌∙◌}
 use mathlib.Core.Bool.{Bool, true, false, ◌&&◌}
 use mathlib.Core.List.{List}
-use mathlib.Core.Option.{Option, some, none, bind, map}
+use mathlib.Core.Option.{Option, some, bind}
 use native.Mathlib.Omega.{arith}
-use Rattle.wire_cbor.specs.Item.{Item, Pairs}
+use Rattle.wire_cbor.specs.Item.{Pairs}
 use Rattle.wire_cbor.specs.Find.{value_of}
 use Rattle.wire_cbor.specs.Scan.{KEYS, LEVELS, key_head_of, map_at, key_head_at}
 use Rattle.wire_cbor.proofs.Passes.{key_head_exact}
-use Rattle.wire_fields.specs.Fields.{number_up_to, optional, aim_in, amount_in}
-use Rattle.wire_fields.specs.KeyHeads.{found, aim_of, Shown}
-use Rattle.wire_fields.proofs.ByKeyHead.{map_found}
+use Rattle.wire_fields.specs.KeyHeads.{found, Shown}
 
 -- PLACES
 module _ (ws : List ℕ) (path : ℕ) (ps : Pairs) (h : Shown ws path ps) where
@@ -39,16 +36,3 @@ module _ {X Y : Type 0} {o : Option X} (x : X) where
   unfolding bind
   last F true e = rw e refl
   last F false e = rw e refl
-
-  pub mapped : (F : X → Y) (a : Bool) → o ≡ found a x → map F o ≡ found a (F x)
-  mapped F a e = ap (map F) e ∙ map_found F a x
-
--- A NUMBER THAT MAY BE ABSENT, as the other readers keep it
-map-map : {X Y Z : Type 0} (f : Y → Z) (g : X → Y) (h : X → Z) → ((x : X) → f (g x) ≡ h x) → (o : Option X) → map h o ≡ map f (map g o)
-map-map f g h e (some x) = ap some (sym (e x))
-map-map f g h e none = refl
-
-pub aim_amount : (o : Option Item) → aim_in o ≡ map aim_of (amount_in 1 o)
-unfolding aim_in amount_in optional
-aim_amount none = refl
-aim_amount (some i) = map-map aim_of Some Some (λ x. refl) (number_up_to 1 i)

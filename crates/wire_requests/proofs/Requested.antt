@@ -2,7 +2,7 @@
 use Rattle.std.specs.Prelude
 use Rattle.std.specs.Prelude.{None, Some}
 use Prim.Native.Nat.{ℕ}
-use mathlib.Core.Path.{◌≡◌, refl, sym, ap, ◌∙◌}
+use mathlib.Core.Path.{◌≡◌, refl, ap, ◌∙◌}
 use mathlib.Core.Bool.{Bool, true, false, cond, ◌&&◌}
 use mathlib.Core.List.{List}
 use mathlib.Core.Option
@@ -23,8 +23,8 @@ use Rattle.wire_fields.specs.Fields.{map_in, needed, most32, aim_in, amount_in}
 use Rattle.wire_fields.specs.KeyHeads.{found, given, and_then, Reads, UintReads, MapReads, Shown, Inside}
 use Rattle.wire_fields.specs.Seen.{uint_seen, map_seen}
 use Rattle.wire_requests.specs.Settings.{setting_in, limits_from, setpoints_from, current_limits_in}
-use Rattle.wire_requests.specs.Requests.{Envelope, with_command, envelope_in, command_in, from_envelope, from_payload, read_request}
-use Rattle.wire_requests.specs.KeyHeads.{EnvelopeReads, CurrentLimitsRead, CommandReads, ClearReads, MessageReads, parameters_from, parameters_path, clear_of}
+use Rattle.wire_requests.specs.Requests.{with_command, envelope_in, command_in, from_envelope, from_payload, read_request}
+use Rattle.wire_requests.specs.KeyHeads.{EnvelopeReads, CurrentLimitsRead, MessageReads, parameters_from, parameters_path, clear_of}
 use Rattle.wire_requests.specs.KeyHeads.{envelope_of}
 use Rattle.wire_requests.specs.Seen.{envelope_seen, setting_seen, current_limits_seen, clear_seen, command_seen, request_seen, message_seen}
 use Rattle.wire_requests.specs.declared.reading.Reading.{Reading}

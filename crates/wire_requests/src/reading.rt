@@ -146,7 +146,7 @@ fn read_message(heads: &KeyHeads) -> Reading
     }
 }
 
-// The request that a payload holds.
+// The request that a payload holds. By hand, as wire_responses scans its own: a shared closure over the lent heads would be longer than these lines.
 pub fn read_payload(payload: &[u8]) -> Reading
     ensures { result ≡ from_payload (payload_of payload.now) }
 {

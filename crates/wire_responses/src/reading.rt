@@ -80,7 +80,7 @@ fn read_current(heads: &KeyHeads) -> Option<CurrentResult>
 }
 
 // The result of a served command.
-#[tactic(auto, unfolding(crate::specs::Seen::outcome_seen))]
+#[tactic(auto, using(wire_fields::proofs::Given::then_some_is), unfolding(crate::specs::Seen::outcome_seen))]
 fn read_outcome(heads: &KeyHeads, command: u64) -> Option<Outcome>
     ensures { result ≡ outcome_seen heads.now command }
 {
@@ -97,44 +97,32 @@ fn read_outcome(heads: &KeyHeads, command: u64) -> Option<Outcome>
             let current = read_current(heads)?;
             Some(Outcome::Current(current))
         }
-        _ => {
-            if is_success(key_head_of(heads, RESULT, 1)) {
-                Some(Outcome::Success)
-            } else {
-                None
-            }
-        }
+        _ => is_success(key_head_of(heads, RESULT, 1)).then_some(Outcome::Success),
     }
 }
 
 // The result that stands at a status, or its absence.
-#[tactic(auto, unfolding(crate::specs::Seen::result_seen))]
+#[tactic(auto, using(wire_fields::proofs::Given::then_some_is), unfolding(crate::specs::Seen::result_seen))]
 fn read_result(heads: &KeyHeads, command: u64, status: u64) -> Option<Outcome>
     ensures { result ≡ result_seen heads.now command status }
 {
     let result = key_head_of(heads, ANSWER, 3);
-    if has_result(command, status) {
-        if is_map(result) {
-            return read_outcome(heads, command);
-        }
-        return None;
+    if !has_result(command, status) {
+        return (result.major == NOTHING).then_some(Outcome::Nothing);
     }
-    if result.major == NOTHING {
-        return Some(Outcome::Nothing);
+    if is_map(result) {
+        read_outcome(heads, command)
+    } else {
+        None
     }
-    None
 }
 
-#[tactic(auto, unfolding(crate::specs::Seen::status_seen))]
+#[tactic(auto, using(wire_fields::proofs::Given::then_some_is), unfolding(crate::specs::Seen::status_seen))]
 fn read_status(heads: &KeyHeads) -> Option<u64>
     ensures { result ≡ status_seen heads.now }
 {
     let status = read_uint(key_head_of(heads, ANSWER, 2), 14)?;
-    if is_status(status) {
-        Some(status)
-    } else {
-        None
-    }
+    is_status(status).then_some(status)
 }
 
 // What is seen in a payload.
@@ -162,7 +150,7 @@ pub fn read_response(command: u64, frame: &[u8]) -> Answer
     Answer::Refused(NOT_SERVED)
 }
 
-// The response to a served command.
+// The response to a served command. By hand, as wire_requests scans its own: a shared closure over the lent heads would be longer than these lines.
 fn read_answer(command: u64, frame: &[u8]) -> Answer
     ensures { result ≡ answer_from command frame.now }
 {
