@@ -9,6 +9,7 @@ use console_words::{same, span};
 
 #[derive(Clone, Copy, PartialEq, Eq)]
 pub enum Command {
+    // No command, by a name of its own: the definitions `unknown` and `is_known` speak of it.
     Unknown,
     Start,
     Join,

@@ -14,6 +14,7 @@ use crate::bit_rules::broken_bit;
 use crate::sizes::{ATTRIBUTE_GROUP, BIT_GROUPS};
 use report_tables::{BITS, ROWS, Row, row_at};
 
+// Both are numbers, since the report writes them out for C.
 #[derive(Clone, Copy)]
 pub struct Pair {
     pub group: u64,
