@@ -1,4 +1,5 @@
 -- The bench reads record after record: each copied one stands in front of what is left, and behind the last is nothing. Assumes nothing.
+use Rattle.std.specs.Prelude.{Option, None, Some}
 use Prim.Native.Nat.{ℕ, zero, suc, ◌+◌, ◌%◌, ◌/◌, ◌<◌}
 use mathlib.Core.Path.{◌≡◌, refl, sym, ap, ◌∙◌}
 use mathlib.Core.Bool.{Bool, true, false, ◌&&◌}
@@ -14,7 +15,6 @@ use Rattle.text.specs.Pieces as texts
 use Rattle.bench_records.specs.Kinds.{head}
 use Rattle.bench_records.specs.Records.{record_at}
 use Rattle.bench_records.specs.declared.fields.Record.{Record}
-use Rattle.bench_records.specs.declared.fields.Scan.{Scan}
 use Rattle.bench_records.proofs.Scans.{record_within}
 use Rattle.device_calls.specs.Start.{start_after}
 use Rattle.bench_script.specs.Device.{bench_settings}
@@ -30,7 +30,7 @@ use Rattle.bench_laws.specs.Answers.{copies, answers_pieces, Answers, letterless
 use Rattle.bench_laws.specs.Laws.{BenchReads, NeverBad}
 
 -- the record in front, then the script behind it
-script-front : (ws s : List ℕ) (r : Record) → record_at s 0 ≡ Scan.Is r
+script-front : (ws s : List ℕ) (r : Record) → record_at s 0 ≡ Some r
     → script ws s ≡ behind (answered_pieces (record_answered ws s r)) (script (record_answered ws s r).words (drop (r.body + r.length) s))
 unfolding script played played_from
 script-front ws [] r e = absurd (let w = record_within [] 0 r e in omega (arith, w.0, w.1))
@@ -49,7 +49,7 @@ no_answers : (ws : List ℕ) → Answers ws [] 0
 unfolding answers_pieces
 no_answers ws = record { answers = []; many = refl; text = script-none ws }
 
-one_more : (ws s : List ℕ) (r : Record) (n : ℕ) → record_at s 0 ≡ Scan.Is r
+one_more : (ws s : List ℕ) (r : Record) (n : ℕ) → record_at s 0 ≡ Some r
     → Answers (record_answered ws s r).words (drop (r.body + r.length) s) n → Answers ws s (suc n)
 unfolding answers_pieces behind
 one_more ws s r n e k =
@@ -60,14 +60,14 @@ one_more ws s r n e k =
     }
 
 -- a record's bytes, and what stands behind them
-scan_front : (u v : List ℕ) (n : ℕ) (x : Scan) → record_at u 0 ≡ x → 0 < scan_len x → drop (scan_len x) u ≡ v
+scan_front : (u v : List ℕ) (n : ℕ) (x : Option Record) → record_at u 0 ≡ x → 0 < scan_len x → drop (scan_len x) u ≡ v
     → ((ws : List ℕ) → Answers ws v n) → (ws : List ℕ) → Answers ws u (suc n)
 unfolding scan_len
-scan_front u v n (Scan.Is r) e l d k ws =
+scan_front u v n (Some r) e l d k ws =
     let w = record_within u 0 r e in
     let b : r.body + r.length ≡ head + r.length = omega (arith, w.0) in
     one_more ws u r n e (rw (b, d) (k (record_answered ws u r).words))
-scan_front u v n Scan.Bad e l d k ws = absurd (omega arith)
+scan_front u v n None e l d k ws = absurd (omega arith)
 
 len_front : (u v : List ℕ) (n : ℕ) → 0 < record_len u → drop (record_len u) u ≡ v → ((ws : List ℕ) → Answers ws v n) → (ws : List ℕ) → Answers ws u (suc n)
 unfolding record_len

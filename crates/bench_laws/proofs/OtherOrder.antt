@@ -1,4 +1,5 @@
 -- A record is read alike whatever stands behind it, so that two frames in a script are the two frames of the law.
+use Rattle.std.specs.Prelude.{None, Some}
 use Prim.Native.Nat.{ℕ, zero, suc, ◌+◌, ◌<◌, ◌≤◌}
 use mathlib.Core.Bool.{Bool, true, false, cond}
 use mathlib.Core.Path.{◌≡◌, refl, sym, ap, ◌∙◌}
@@ -12,7 +13,6 @@ use Rattle.wire_prefix.specs.Prefix.{most_frame}
 use Rattle.bench_records.specs.Kinds.{head, right_body}
 use Rattle.bench_records.specs.Records.{is_mark, fields_at, good, record_at}
 use Rattle.bench_records.specs.declared.fields.Record.{Record}
-use Rattle.bench_records.specs.declared.fields.Scan.{Scan}
 use Rattle.bench_records.proofs.Scans.{both, record_within}
 use Rattle.bench_script.specs.Runs.{call_of, body_of}
 use Rattle.bench_script.specs.Bench.{Answered, numbered, answered, record_answered, plan_pieces, answered_pieces, behind, played_from, played, script}
@@ -45,7 +45,7 @@ module _ (a x : List ℕ) where
 never : {X : Type 0} → ◌≡◌ {A = ℕ} 0 1 → X
 never z = absurd (omega arith)
 
-scanned : (b : Bool) (q r : Record) → cond b (Scan.Is q) Scan.Bad ≡ Scan.Is r → (b ≡ true) × (q ≡ r)
+scanned : (b : Bool) (q r : Record) → cond b (Some q) None ≡ Some r → (b ≡ true) × (q ≡ r)
 scanned true q r e = (refl, cc)
 scanned false q r e = never (cc)
 
@@ -68,7 +68,7 @@ module _ (a x : List ℕ) (r : Record) (f : IsFrame a r) where
       let k = both (right_body r.kind r.length) _ m.1 in
       rw (mark a x long, m.0, k.0) (le-leb (r.body + r.length) (length (a ++ x)) (omega (arith, within.1, length-append a x)))
 
-  read_more : record_at (a ++ x) 0 ≡ Scan.Is r
+  read_more : record_at (a ++ x) 0 ≡ Some r
   unfolding record_at
   read_more = rw (fields a x long, good-read.1, good_more)
 
@@ -96,7 +96,7 @@ unfolding answered
 with_room ws z t bytes = rw (frame-number ws z t bytes most_frame (omega arith), frame-after ws z t bytes most_frame (omega arith))
 
 -- THE FIRST RECORD of a script, and then the script behind it
-script-first : (ws s : List ℕ) (r : Record) → record_at s 0 ≡ Scan.Is r → 0 < length s
+script-first : (ws s : List ℕ) (r : Record) → record_at s 0 ≡ Some r → 0 < length s
     → script ws s ≡ behind (answered_pieces (record_answered ws s r)) (script (record_answered ws s r).words (drop (r.body + r.length) s))
 unfolding script played played_from
 script-first ws [] r e h = absurd (omega arith)

@@ -1,17 +1,16 @@
 -- L13 on the bench: two frame records of different zones and one second change places in a script.
 -- The proof of OtherOrder is other_order, in proofs/. Assumes nothing: these are statements.
-use Rattle.std.specs.Prelude.{ℕ, ◌+◌, ◌≢◌, ◌≡◌, List, [], ◌∷◌, ◌++◌, length}
+use Rattle.std.specs.Prelude.{ℕ, ◌+◌, ◌≢◌, ◌≡◌, List, [], ◌∷◌, ◌++◌, length, Some}
 use Rattle.text.specs.Text.{decimal}
 use Rattle.device_store.specs.Sizes.{words}
 use Rattle.bench_records.specs.Kinds.{frame}
 use Rattle.bench_records.specs.Records.{record_at}
 use Rattle.bench_records.specs.declared.fields.Record.{Record}
-use Rattle.bench_records.specs.declared.fields.Scan.{Scan}
 use Rattle.bench_script.specs.Bench.{Played, behind, script}
 
 -- these bytes are one frame record, with nothing behind it
 pub record IsFrame (bytes : List ℕ) (r : Record) : Type 0 where
-  pub read : record_at bytes 0 ≡ Scan.Is r
+  pub read : record_at bytes 0 ≡ Some r
   pub whole : r.body + r.length ≡ length bytes
   pub kind : r.kind ≡ frame
 
