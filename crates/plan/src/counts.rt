@@ -14,11 +14,11 @@ pub fn count(d: &State, t: u64) -> usize
     let mut v = view_at(d, t);
     // By hand: it goes from due second to due second, and no list holds those.
     while v.next < END {
-        let last = v.values;
-        v = view_at(d, v.next);
-        if !alike(v.values, last) {
+        let w = view_at(d, v.next);
+        if !alike(w.values, v.values) {
             n += 1;
         }
+        v = w;
     }
     n
 }

@@ -37,13 +37,12 @@ pub fn find(d: &State, t: u64, out: &mut [i64]) -> usize
     let mut v = view_at(d, t);
     // By hand: it goes from due second to due second, and no list holds those.
     while v.next < END {
-        let due = v.next;
-        let last = v.values;
-        v = view_at(d, due);
-        if !alike(v.values, last) {
-            put_row(out, count * ROW, due, v.values);
+        let w = view_at(d, v.next);
+        if !alike(w.values, v.values) {
+            put_row(out, count * ROW, v.next, w.values);
             count += 1;
         }
+        v = w;
     }
     count
 }

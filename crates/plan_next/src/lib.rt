@@ -14,6 +14,7 @@ use plan::ROW;
 use refusals::BAD_TIME;
 
 // The answer: its number, how many rows it has, none or one, and that row's numbers, -1 each where there is none.
+// C reads it by its fields, so it is no Result.
 #[repr(C)]
 #[derive(Clone, Copy)]
 pub struct Answer {
@@ -51,12 +52,11 @@ fn first_change(d: &State, t: u64) -> Option<[i64; ROW]>
     let mut v = view_at(d, t);
     // By hand: it goes from due second to due second, and no list holds those.
     while v.next < END {
-        let due = v.next;
-        let last = v.values;
-        v = view_at(d, due);
-        if !alike(v.values, last) {
-            return Some(row_of(due, v.values));
+        let w = view_at(d, v.next);
+        if !alike(w.values, v.values) {
+            return Some(row_of(v.next, w.values));
         }
+        v = w;
     }
     None
 }

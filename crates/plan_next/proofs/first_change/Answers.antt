@@ -12,14 +12,14 @@ loop-v-init c = seeking_start c.args.d.now c.args.t c.view_at-v.ensures
 pub returns-then-not-alike : goal.returns-then-not-alike
 unfolding row_numbers
 returns-then-not-alike c =
-    rw (c.row_of.ensures, ← seeking_found c.loop-v.invariant c.view_at-v-in-loop-v.ensures (omega arith) (via c.alike.ensures c.if-not-alike.true))
+    rw (c.row_of.ensures, ← seeking_found c.loop-v.invariant c.view_at-w.ensures (omega arith) (via c.alike.ensures c.if-not-alike.true))
 
 pub loop-v-smaller : goal.loop-v-smaller
-loop-v-smaller c = omega (arith, seeking_later c.loop-v.invariant c.view_at-v-in-loop-v.ensures (omega arith))
+loop-v-smaller c = omega (arith, seeking_later c.loop-v.invariant c.view_at-w.ensures (omega arith))
 
 pub loop-v-preserved : goal.loop-v-preserved
 loop-v-preserved c =
-    seeking_same c.loop-v.invariant c.view_at-v-in-loop-v.ensures (omega arith) (via c.alike.ensures c.if-not-alike.false)
+    seeking_same c.loop-v.invariant c.view_at-w.ensures (omega arith) (via c.alike.ensures c.if-not-alike.false)
 
 pub returns : goal.returns
 unfolding row_numbers

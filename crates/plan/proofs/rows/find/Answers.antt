@@ -13,7 +13,7 @@ put_row-requires c =
       row_size_in_bounds = omega (
         arith,
         finding_length c.loop-v.invariant,
-        finding_room c.loop-v.invariant c.view_at-v-in-loop-v.ensures (omega arith)
+        finding_room c.loop-v.invariant c.view_at-w.ensures (omega arith)
             (via c.alike.ensures c.if-not-alike.true),
       );
       t_lt_end = omega arith;
@@ -21,20 +21,20 @@ put_row-requires c =
 
 pub loop-v-smaller-then-not-alike : goal.loop-v-smaller-then-not-alike
 loop-v-smaller-then-not-alike c =
-    omega (arith, counting_later c.loop-v.invariant.counted c.view_at-v-in-loop-v.ensures (omega arith))
+    omega (arith, counting_later c.loop-v.invariant.counted c.view_at-w.ensures (omega arith))
 
 pub loop-v-preserved-then-not-alike : goal.loop-v-preserved-then-not-alike
 loop-v-preserved-then-not-alike c =
-    finding_new c.loop-v.invariant c.view_at-v-in-loop-v.ensures (omega arith) (via c.alike.ensures c.if-not-alike.true)
+    finding_new c.loop-v.invariant c.view_at-w.ensures (omega arith) (via c.alike.ensures c.if-not-alike.true)
     c.put_row.ensures
 
 pub loop-v-smaller : goal.loop-v-smaller
 loop-v-smaller c =
-    omega (arith, counting_later c.loop-v.invariant.counted c.view_at-v-in-loop-v.ensures (omega arith))
+    omega (arith, counting_later c.loop-v.invariant.counted c.view_at-w.ensures (omega arith))
 
 pub loop-v-preserved : goal.loop-v-preserved
 loop-v-preserved c =
-    finding_same c.loop-v.invariant c.view_at-v-in-loop-v.ensures (omega arith) (via c.alike.ensures c.if-not-alike.false)
+    finding_same c.loop-v.invariant c.view_at-w.ensures (omega arith) (via c.alike.ensures c.if-not-alike.false)
 
 pub returns : goal.returns
 returns c =
