@@ -1,8 +1,10 @@
 -- Who holds each value at a second: "where q shows v, the best-placed joined zone (smaller rank, then smaller id) whose own
 -- unexpired value of q is v; else the failsafe; nobody where q is absent".
-use Rattle.std.specs.Prelude.{ℕ, ◌+◌, Bool, cond, not, ◌&&◌, ◌||◌, ltb, eqb, ℤ, pos, negsuc, replicate}
+use Rattle.std.specs.Prelude.{ℕ, ◌+◌, Bool, cond, not, ◌&&◌, ◌||◌, ltb, eqb, ℤ, pos, negsuc, replicate, Result, Ok, Err}
 use mathlib.Core.List.{List, [], ◌∷◌, foldl}
 use Rattle.refusals.specs.Refusals.{first_of, BAD_TIME}
+use Rattle.refusals.specs.Answers.{number_of}
+use Rattle.refusals.specs.declared.refusal.Refusal.{Refusal}
 use Rattle.device_store.specs.Sizes.{helds, ids, most}
 use Rattle.device_store.specs.Zones.{up_to, id_of, free_zone, is_joined, held_of}
 use Rattle.device_store.specs.Words.{clock_of}
@@ -11,7 +13,6 @@ use Rattle.device_store.specs.declared.Zone.{Zone}
 use Rattle.device_rules.specs.Rules.{late}
 use Rattle.device_holds.specs.Holds.{Situation, situation_of, value_at, shown}
 use Rattle.device_holders.specs.declared.Holder.{Holder}
-use Rattle.device_holders.specs.declared.Answer.{Answer}
 
 -- a joined zone's number is its id, 1 to 255; 0 is nobody, and the number past the largest id is the failsafe
 abbrev pub NOBODY : ℕ
@@ -52,6 +53,16 @@ holder_at s t q = holder_of s t q (shown (value_at s t q))
 -- "A second before the device's own, or past the end, is 5", and no other refusal
 unfoldable pub holders_number : List ℕ → ℕ → ℕ
 holders_number ws t = first_of ((late (clock_of ws) t, BAD_TIME) ∷ [])
+
+-- an answer: its number, and the holder of each quantity
+pub record Answer : Type 0 where
+  pub number : ℕ
+  pub holders : List Holder
+
+-- what the call says, as such an answer; beside a refusal nobody
+unfoldable pub holders_said : Result (List Holder) Refusal → Answer
+holders_said (Ok hs) = record { number = 0; holders = hs }
+holders_said (Err e) = record { number = number_of e; holders = replicate helds nobody }
 
 -- the number, and the holder of each quantity; beside a refusal nobody
 unfoldable pub holders_answer : List ℕ → ℕ → Answer

@@ -6,14 +6,14 @@ ghost use Rattle.device_store.specs.Sizes.{helds, slots};
 ghost use Rattle.device_store.specs.Zones.{up_to, free_zone, is_joined};
 ghost use Rattle.device_store.specs.Words.{zones_of};
 ghost use Rattle.device_holds.specs.Holds.{situation_of};
-ghost use Rattle.device_holders.specs.Holders.{holds_value, better_placed, best_placed, named, holder_of, holder_at, nobody, holders_answer};
+ghost use Rattle.device_holders.specs.Holders.{holds_value, better_placed, best_placed, named, holder_of, holder_at, nobody, holders_said, holders_answer};
 
 use device_holds::values_at;
 use device_rules::is_late;
 use device_store::{
     HELDS, IDS, SLOTS, State, clock, held_at, id_at, precedence_at, settings_at, since,
 };
-use refusals::BAD_TIME;
+use refusals::Refusal;
 
 // Who holds a value: NOBODY, a zone's id, or BY_FAILSAFE; and the second from which it holds no longer on its own.
 #[repr(C)]
@@ -21,14 +21,6 @@ use refusals::BAD_TIME;
 pub struct Holder {
     pub who: u64,
     pub until: u64,
-}
-
-// The answer: its number, and the holder of each quantity.
-#[repr(C)]
-#[derive(Clone, Copy)]
-pub struct Answer {
-    pub number: u64,
-    pub holders: [Holder; HELDS],
 }
 
 pub const NOBODY: u64 = 0;
@@ -121,17 +113,11 @@ fn holders_at(d: &State, t: u64) -> [Holder; HELDS]
 }
 
 // Who holds each quantity at t, if only the clock moved up to then: 5 before the device's own second and past the end.
-pub fn holders(d: &State, t: u64) -> Answer
-    ensures { result ≡ holders_answer d.now t }
+pub fn holders(d: &State, t: u64) -> Result<[Holder; HELDS], Refusal>
+    ensures { holders_said result ≡ holders_answer d.now t }
 {
     if is_late(clock(d), t) {
-        return Answer {
-            number: BAD_TIME,
-            holders: [NONE; HELDS],
-        };
+        return Err(Refusal::BadTime);
     }
-    Answer {
-        number: 0,
-        holders: holders_at(d, t),
-    }
+    Ok(holders_at(d, t))
 }

@@ -1,8 +1,9 @@
 -- The rows behind a second are those of the plan that is made there.
 use Prim.Native.Nat.{ℕ, zero, suc, ◌+◌, ◌-◌, ◌≤◌}
 use mathlib.Core.Path.{◌≡◌, refl, sym, ap, ◌∙◌, subst}
-use Rattle.std.specs.Prelude.{Option, None, Some}
+use Rattle.std.specs.Prelude.{Option, None, Some, Ok, Err}
 use Rattle.refusals.specs.Refusals.{first_of, BAD_TIME}
+use Rattle.refusals.specs.declared.refusal.Refusal.{Refusal}
 use mathlib.Core.Bool.{Bool, true, false, ◌||◌}
 use mathlib.Core.Logic.{ite}
 use mathlib.Core.List.{List, [], ◌∷◌, List-discrete}
@@ -19,7 +20,7 @@ use Rattle.device_holds.specs.Holds.{situation_of, values_at}
 use Rattle.plan.specs.Rows.{last, rows_of, plan, Ascending}
 use Rattle.plan.specs.Plan.{plan_of, rows_from}
 use Rattle.plan.proofs.IsPlan.{plan-is}
-use Rattle.plan_next.specs.Next.{next_of, first_row, next_number, next_answer, row_numbers, answer_with, answer_of}
+use Rattle.plan_next.specs.Next.{next_of, first_row, next_number, next_said, next_answer, row_numbers, answer_with, answer_of}
 use Rattle.plan_next.specs.Walked.{NextOfPlan}
 
 -- rows that are all past a
@@ -82,12 +83,12 @@ unfolding answer_with row_numbers answer_of
 with_row n None = refl
 with_row n (Some r) = refl
 
-pub answer_refused : (ws : List ℕ) (t : ℕ) → late (clock_of ws) t ≡ true → answer_with BAD_TIME None ≡ next_answer ws t
-unfolding next_answer next_number first_of row_numbers
+pub answer_refused : (ws : List ℕ) (t : ℕ) → late (clock_of ws) t ≡ true → next_said (Err Refusal.BadTime) ≡ next_answer ws t
+unfolding next_said next_answer next_number first_of row_numbers
 answer_refused ws t e = rw e (with_row BAD_TIME None)
 
-pub answer_found : (ws : List ℕ) (t : ℕ) → late (clock_of ws) t ≡ false → answer_with 0 (row_numbers (first_row (plan_of (situation_of ws) t))) ≡ next_answer ws t
-unfolding next_answer next_number first_of
+pub answer_found : (ws : List ℕ) (t : ℕ) → late (clock_of ws) t ≡ false → next_said (Ok (row_numbers (first_row (plan_of (situation_of ws) t)))) ≡ next_answer ws t
+unfolding next_said next_answer next_number first_of
 answer_found ws t e = rw e (with_row 0 (first_row (plan_of (situation_of ws) t)) ∙ ap (answer_of 0) (sym (next-in_time ws t e)))
 
 pub ruleset answers = (answer_refused, answer_found)

@@ -5,35 +5,13 @@ ghost use Rattle.std.specs.Prelude.{◌≡◌, ◌∷◌, ◌<◌, pos};
 ghost use Rattle.device_store.specs.Sizes.{end};
 ghost use Rattle.device_holds.specs.Holds.{situation_of};
 ghost use Rattle.plan.specs.Plan.{plan_of};
-ghost use Rattle.plan_next.specs.Next.{first_row, row_numbers, answer_with, next_answer};
+ghost use Rattle.plan_next.specs.Next.{first_row, row_numbers, next_said, next_answer};
 
 use device_holds::{alike, view_at};
 use device_rules::is_late;
 use device_store::{END, State, VALUES, clock};
 use plan::ROW;
-use refusals::BAD_TIME;
-
-// The answer: its number, how many rows it has, none or one, and that row's numbers, -1 each where there is none.
-// C reads it by its fields, so it is no Result.
-#[repr(C)]
-#[derive(Clone, Copy)]
-pub struct Answer {
-    pub number: u64,
-    pub count: u64,
-    pub row: [i64; ROW],
-}
-
-// A number, and a row where there is one.
-#[tactic(auto, unfolding(crate::specs::Next::answer_with))]
-fn answered(number: u64, row: Option<[i64; ROW]>) -> Answer
-    ensures { result ≡ answer_with number row }
-{
-    Answer {
-        number,
-        count: u64::from(row.is_some()),
-        row: row.unwrap_or([-1; ROW]),
-    }
-}
+use refusals::Refusal;
 
 // A second, and its values behind it.
 fn row_of(t: u64, values: [i64; VALUES]) -> [i64; ROW]
@@ -61,15 +39,14 @@ fn first_change(d: &State, t: u64) -> Option<[i64; ROW]>
     None
 }
 
-// The first row of the plan with a second above t: 5 before the device's own second and past the end.
+// The first row of the plan with a second above t, if there is one: 5 before the device's own second and past the end.
 #[tactic(auto, using(crate::proofs::Later::answers))]
-pub fn next_row(d: &State, t: u64) -> Answer
-    ensures { result ≡ next_answer d.now t }
+pub fn next_row(d: &State, t: u64) -> Result<Option<[i64; ROW]>, Refusal>
+    ensures { next_said result ≡ next_answer d.now t }
 {
     let own = clock(d);
     if is_late(own, t) {
-        answered(BAD_TIME, None)
-    } else {
-        answered(0, first_change(d, t))
+        return Err(Refusal::BadTime);
     }
+    Ok(first_change(d, t))
 }

@@ -1,4 +1,5 @@
 -- The number comes from the precedence that was found, and the record from the zone in it: Decisions says that these are the definition's.
+use mathlib.Core.Path.{◌∙◌}
 use Rattle.device_calls.proofs.Decisions.{decided, undecided}
 use Rattle.device_calls.proofs.commands.decide.Goals as goal
 
