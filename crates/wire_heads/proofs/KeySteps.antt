@@ -5,10 +5,10 @@ use mathlib.Core.Bool.{Bool, true, false, cond}
 use mathlib.Core.List.{List}
 use native.Mathlib.Omega.{arith}
 use lib.ListN.{length, get_or}
-use borrow.Author.Tests.{le-leb, lt-leb, ne_eqb}
+use borrow.Author.Tests.{lt-leb, ne_eqb}
 use Rattle.std.specs.Prelude.{Some, None}
 use Rattle.wire_heads.specs.Head.{ArgumentRead, arg_at, allowed, with_major, head_at}
-use Rattle.wire_heads.specs.Key.{KeyRead, key_is, key_from, key_of, key_at, least}
+use Rattle.wire_heads.specs.Key.{KeyRead, key_is, key_of, key_at}
 use Rattle.wire_heads.specs.declared.keys.Key.{Key}
 use Rattle.wire_heads.proofs.HeadSteps.{head-end, head-low}
 
@@ -17,17 +17,6 @@ pub key_parts : (k e l f : ℕ) → key_is k e ≡ key_is l f → (k ≡ l) × (
 key_parts k e l f h =
     let r : ◌≡◌ {A = Key} (record { key = k; next = e }) (record { key = l; next = f }) = cc in
     (ap (λ (a : Key). a.key) r, ap (λ (a : Key). a.next) r)
-
--- a key against the one before
-module _ (k q last : ℕ) (first : Bool) where
-  pub later_first : first ≡ true → key_is k q ≡ key_from (least first last) k q
-  later_first f = rw (f, le-leb 0 k (omega arith))
-
-  pub later-next : first ≡ false → last < k → key_is k q ≡ key_from (least first last) k q
-  later-next f lt = rw (f, le-leb (last + 1) k (omega arith))
-
-  pub later-not : first ≡ false → k ≤ last → None ≡ key_from (least first last) k q
-  later-not f le = rw (f, lt-leb (last + 1) k (omega arith))
 
 pub key_end : (s : List ℕ) (p lo : ℕ) → length s ≤ p → None ≡ key_at s lo p
 unfolding key_at

@@ -19,6 +19,7 @@ fn later(first: bool, last: u64, key: u64, next: usize) -> Option<Key>
 }
 
 // The key at `at`, whose major type is 0: its first byte is its additional information.
+// By hand: `first` beside `last` is no Option, since a public function keeps its parameters.
 pub fn read_key(s: &[u8], at: usize, first: bool, last: u64) -> Option<Key>
     ensures { result ≡ key_at s.now (least first last) at }
 {
