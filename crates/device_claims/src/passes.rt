@@ -133,6 +133,7 @@ fn no_leading_setpoints(next: u64) -> LeadingSetpoints
 }
 
 // The pass over the limits of all slots; `next` is the nearest end known before it.
+// Two passes and no trait over both: a trait would need their numbers, step, order and laws, for two loops of three lines.
 fn lowest_values<S: ReadSlots>(s: &S, t: u64, next: u64) -> LowestValues
     ensures lowest_values_met { LowestValuesMet result (λ q. winner t q (S.zones s.now)) }
     ensures next_value { result.next ≡ foldl (nearer t) next (low_dues (S.zones s.now)) }

@@ -8,6 +8,7 @@ use crate::lenses::all;
 use crate::quantities::HELDS;
 use crate::{Change, HEAD, Held, MARKS, SETTINGS, SLOTS, Settings, State, WORDS, ZONE, Zone};
 
+// By hand: of what `d.get_mut(i)` lends, a proof knows the length alone afterwards.
 fn put_word(d: &mut State, i: usize, v: u64)
     ensures { d.new ≡ set d.old i v }
 {
