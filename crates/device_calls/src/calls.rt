@@ -55,6 +55,7 @@ fn slot_of_zone(d: &State, zone: u64) -> Result<usize, Refusal>
 }
 
 // A new device in the lent words, whatever stood there.
+#[tactic(auto, unfolding(crate::specs::Start::start_number, crate::specs::Start::start_after, crate::specs::Refusals::first_of))]
 pub fn start(d: &mut State, s: Settings) -> Result<(), Refusal>
     ensures value { number_in result ≡ start_number s }
     ensures d_after { d.new ≡ start_after s }
@@ -181,6 +182,7 @@ pub fn back(d: &mut State, zone: u64, t: u64) -> Result<(), Refusal>
     link(d, zone, true, t)
 }
 
+#[tactic(auto, unfolding(crate::specs::Calls::override_word))]
 fn override_word(reason: u64, direction: u64) -> u64
     requires { (reason < 5) × (direction < 2) }
     ensures { result ≡ override_word reason direction }
@@ -215,6 +217,7 @@ pub fn clear_override(d: &mut State, t: u64) -> Result<(), Refusal>
 }
 
 // What holds at the device's own last time. The device is lent without the right to change it: nothing moves.
+#[tactic(auto, unfolding(crate::specs::Calls::ask_answer))]
 pub fn ask(d: &State) -> [i64; VALUES]
     ensures { result ≡ ask_answer d.now }
 {
