@@ -1,21 +1,20 @@
 -- The pieces of an answer, one behind the other. Assumes nothing.
-use Prim.Native.Nat.{ℕ, ◌≤◌, ◌<◌}
+use Prim.Native.Nat.{ℕ}
 use mathlib.Core.Path.{◌≡◌, refl, sym, ◌∙◌}
-use mathlib.Core.Bool.{Bool, true, false, cond, ◌||◌}
+use mathlib.Core.Bool.{Bool, true, false}
 use Rattle.std.specs.Prelude.{Option, Some, None}
 use mathlib.Core.List.{List, [], ◌∷◌, ◌++◌}
 use lib.ListN.{length, take}
 use lib.Seq.{take-length}
-use borrow.Author.Tests.{le-leb, lt-leb, ne_eqb}
-use Rattle.wire_bytes.specs.Bytes.{put, put_whole, past_whole}
-use Rattle.wire_bytes.proofs.PutLaws.{length-put}
+use borrow.Author.Tests.{ne_eqb}
+use Rattle.wire_bytes.specs.Bytes.{put_whole, past_whole}
 use Rattle.wire_output.specs.Writing.{written_of, left_by}
 use Rattle.wire_output.specs.declared.Written.{Written}
 use Rattle.text.specs.Text.{decimal}
 use Rattle.text.specs.Pieces.{put_all, past_all}
 use Rattle.text.proofs.Pieces.{all_to_do, one_done, two-done, run-done, all_done}
 use Rattle.console_words.specs.Answers.{hex_or_none, bad_line}
-use Rattle.console_words.specs.Hex.{is_none, is_pairs, hex_bytes, hex_read, hex_after}
+use Rattle.console_words.specs.Hex.{hex_read, hex_after}
 use Rattle.measurement_table.specs.Words.{cell_of, held_at, held_from, held, range_number}
 use Rattle.measurement_table.specs.Rows.{rows}
 use Rattle.measurement_table.specs.Payload.{read_number, read_after}

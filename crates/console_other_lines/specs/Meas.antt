@@ -1,5 +1,5 @@
 -- What a line `meas BYTES` answers. Assumes nothing: these are definitions.
-use Rattle.std.specs.Prelude.{ℕ, ◌≡◌, Bool, true, false, cond, ◌&&◌, ◌||◌, List, [], ◌∷◌, ◌++◌, length, take, replicate, eqb, Option, Some, None}
+use Rattle.std.specs.Prelude.{ℕ, ◌≡◌, Bool, true, false, cond, ◌||◌, List, [], ◌∷◌, ◌++◌, length, take, replicate, eqb, Option, Some, None}
 use Rattle.wire_cbor.specs.Item.{encode}
 use Rattle.wire_output.specs.Writing.{written_of, left_by}
 use Rattle.text.specs.Text.{decimal}
