@@ -18,8 +18,8 @@ struct Done {
 }
 
 fn show<W: Write>(output: &mut W, bytes: &[u8], n: usize) -> io::Result<()> {
-    if n <= bytes.len() {
-        output.write_all(&bytes[..n])?;
+    if let Some(front) = bytes.get(..n) {
+        output.write_all(front)?;
     }
     Ok(())
 }
