@@ -17,11 +17,12 @@ fn unchanged(d: &State, n: u64) -> bool
     alike(values_at(d, n), values_at(d, n - 1))
 }
 
-// The second of the next row after t, END where there is none.
+// The second of the next row after t, END where there is none: no Option, since a record is promised at END too.
 pub fn next_row(d: &State, t: u64) -> u64
     ensures { result ≡ next_row (situation_of d.now) t }
 {
     let mut n = next_after(d, t);
+    // By hand: each candidate is found from the one before it, and no list holds them in order.
     while n < END && unchanged(d, n) {
         n = next_after(d, n);
     }
@@ -34,6 +35,7 @@ pub fn count(d: &State) -> usize
 {
     let mut n = 0;
     let mut t = next_row(d, clock(d));
+    // By hand: each row is found from the one before it.
     while t < END {
         n += 1;
         t = next_row(d, t);
