@@ -8,6 +8,8 @@ use borrow.Author.Tests.{ltb-true, eq-eqb, ne_eqb, eqb-true, eqb-false}
 use lib.Dec.{ltb, eqb}
 use lib.ListN.{length, get_or}
 use lib.Seq.{set_out}
+use Rattle.refusals.specs.Answers.{number_of}
+use Rattle.refusals.specs.declared.refusal.Refusal.{Refusal}
 use Rattle.wire_messages.specs.declared.Command.{Command}
 use Rattle.wire_messages.specs.declared.Outcome.{Outcome}
 use Rattle.device_store.specs.Sizes.{helds, slots, words}
@@ -40,6 +42,27 @@ passed false true there up n e = absurd (omega arith)
 passed false false false up n e = absurd (omega arith)
 passed false false true false n e = absurd (omega arith)
 passed false false true true n e = (refl, refl)
+
+-- a refusal's number is not 0
+pub refused_number : (e : Refusal) → number_of e ≡ 0 → ⊥
+refused_number Refusal.BadLength q = absurd (omega (arith, q))
+refused_number Refusal.BadCbor q = absurd (omega (arith, q))
+refused_number Refusal.BadMessage q = absurd (omega (arith, q))
+refused_number Refusal.NotServed q = absurd (omega (arith, q))
+refused_number Refusal.BadTime q = absurd (omega (arith, q))
+refused_number Refusal.BadZone q = absurd (omega (arith, q))
+refused_number Refusal.Already q = absurd (omega (arith, q))
+refused_number Refusal.Full q = absurd (omega (arith, q))
+refused_number Refusal.NotJoined q = absurd (omega (arith, q))
+refused_number Refusal.LinkDown q = absurd (omega (arith, q))
+refused_number Refusal.NotSupported q = absurd (omega (arith, q))
+refused_number Refusal.Overridden q = absurd (omega (arith, q))
+refused_number Refusal.BadValue q = absurd (omega (arith, q))
+refused_number Refusal.BelowMinimum q = absurd (omega (arith, q))
+refused_number Refusal.NoSpace q = absurd (omega (arith, q))
+refused_number Refusal.BadSettings q = absurd (omega (arith, q))
+refused_number Refusal.NotAscending q = absurd (omega (arith, q))
+refused_number Refusal.BadOverride q = absurd (omega (arith, q))
 
 module _ (ws : List ℕ) (z t : ℕ) (c : Command) where
   pub may_command : command_number ws z t c ≡ 0 → (joined (zones_of ws) z ≡ true) × ((zone_of (zones_of ws) z).up ≡ true)

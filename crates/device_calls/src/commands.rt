@@ -4,7 +4,6 @@ ghost use Rattle.device_calls.specs.Commands.{decision_of, outcome_for, enacted}
 
 use crate::{Change, Decision, SLOTS, State};
 use device_holds::values_with;
-use refusals::number_in;
 use wire_messages::{Command, Outcome, SET_LIMIT, has_result};
 
 // The number, and the record that the zone would then have.
@@ -14,7 +13,7 @@ pub fn decide(d: &State, zone: u64, t: u64, c: Command) -> Decision
     let slot = device_store::slot_of_joined(d, zone);
     let x = device_store::zone_at(d, slot);
     let s = device_store::settings_at(d);
-    let n = number_in(command_tests::check_command(
+    let checked = command_tests::check_command(
         device_store::clock(d),
         slot < SLOTS,
         x.up,
@@ -22,18 +21,18 @@ pub fn decide(d: &State, zone: u64, t: u64, c: Command) -> Decision
         device_store::overridden(d),
         t,
         c,
-    ));
-    if n == 0 {
-        return Decision {
+    );
+    match checked {
+        Ok(()) => Decision {
             number: 0,
             slot,
             zone: command_effects::obeyed(s, c, t, x),
-        };
-    }
-    Decision {
-        number: n,
-        slot: SLOTS,
-        zone: device_store::free_zone(),
+        },
+        Err(refusal) => Decision {
+            number: refusal.number(),
+            slot: SLOTS,
+            zone: device_store::free_zone(),
+        },
     }
 }
 
