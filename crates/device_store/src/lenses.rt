@@ -15,15 +15,12 @@ pub fn all(d: &State) -> State
     *d
 }
 
-// By hand: `d.get(i)` answers a reference in an Option, which the archive's module may not hold.
+// A word, 0 past the last.
 fn word(d: &State, i: usize) -> u64
     ensures { result ≡ get_or d.now i 0 }
 {
-    if i < WORDS {
-        return d[i];
-    }
     let _a = all(d);
-    0
+    d.get(i).copied().unwrap_or(0)
 }
 
 // The second of the last accepted call.

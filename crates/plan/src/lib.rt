@@ -12,7 +12,7 @@ use device_store::{State, clock};
 use refusals::NO_SPACE;
 pub use rows::{PLAN, ROW};
 
-// The answer to a plan: its number, and the count of rows written. C reads it by its fields, so it is no Result.
+// The answer to a plan: its number, and the count of rows written.
 #[repr(C)]
 #[derive(Clone, Copy)]
 pub struct Planned {

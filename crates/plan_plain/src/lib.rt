@@ -30,7 +30,7 @@ pub struct Row {
     pub cProduction: i64,
 }
 
-// The answer: its number, and the count of rows written. C reads it by its fields, so it is no Result.
+// The answer: its number, and the count of rows written.
 #[repr(C)]
 #[derive(Clone, Copy)]
 pub struct Planned {

@@ -9,7 +9,7 @@ use refusals::NO_SPACE;
 use wire_bytes::has_room;
 use wire_prefix::PREFIX;
 
-// What a writer answers: the refusal number or 0, and the length of what was written. By hand: the C interface takes the two numbers as they stand.
+// What a writer answers: the refusal number or 0, and the length of what was written.
 #[repr(C)]
 #[derive(Clone, Copy)]
 pub struct Written {

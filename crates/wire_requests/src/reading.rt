@@ -46,10 +46,12 @@ fn is_envelope(heads: &KeyHeads) -> bool
 }
 
 // The cause, which each Set command has under the same key.
+#[tactic(auto, unfolding(wire_fields::specs::Seen::uint_read))]
 fn read_cause(heads: &KeyHeads) -> Option<u64>
     ensures { result ≡ uint_read 255 (key_head_at heads.now 1 4) }
 {
-    read_uint(key_head_of(heads, PARAMETERS, 4), 255)
+    let k = key_head_of(heads, PARAMETERS, 4);
+    is_uint(k, true, 255).then_some(k.arg)
 }
 
 // The parameters of a Set command, with null or without; `None` is refusal 3, here and below.

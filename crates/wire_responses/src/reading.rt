@@ -14,7 +14,7 @@ use wire_messages::{
 };
 use wire_prefix::{PREFIX, is_framed};
 
-// A response, or a refusal number. By hand: the kernel, the C interface and the console match on these names.
+// A response, or a refusal number.
 #[derive(Clone, Copy)]
 pub enum Answer {
     Is(Response),
