@@ -172,7 +172,7 @@ class Room:
 
 def pages():
     yield from sorted(f for f in os.listdir(ROOT) if f.endswith('.md'))
-    yield from sorted('docs/' + f for f in os.listdir(os.path.join(ROOT, 'docs')) if f.endswith('.md') and f != 'PORT.md')
+    yield from sorted('docs/' + f for f in os.listdir(os.path.join(ROOT, 'docs')) if f.endswith('.md') and f not in ('PORT.md', 'DESIGN-PASS.md'))
     yield 'perf/README.md'
 
 
