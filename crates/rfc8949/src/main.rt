@@ -15,13 +15,11 @@ fn text<W: Write>(output: &mut W, s: &[u8]) -> io::Result<()> {
 
 // The value of a hex digit.
 fn digit(b: u8) -> u8 {
-    if b >= b'a' {
-        return (b - b'a') % 6 + 10;
+    match b {
+        b'a'.. => (b - b'a') % 6 + 10,
+        b'0'.. => (b - b'0') % 10,
+        _ => 0,
     }
-    if b >= b'0' {
-        return (b - b'0') % 10;
-    }
-    0
 }
 
 fn pair(high: u8, low: u8) -> u8 {
@@ -30,12 +28,9 @@ fn pair(high: u8, low: u8) -> u8 {
 
 // Puts the bytes that hex digits say into `out`, as far as it goes, and says how many there are.
 fn decode(hex: &[u8], out: &mut [u8]) -> usize {
-    for (i, two) in hex.chunks_exact(2).enumerate() {
-        if let [high, low] = two {
-            if i < out.len() {
-                out[i] = pair(digit(*high), digit(*low));
-            }
-        }
+    let (pairs, _) = hex.as_chunks::<2>();
+    for (b, [high, low]) in out.iter_mut().zip(pairs) {
+        *b = pair(digit(*high), digit(*low));
     }
     hex.len() / 2
 }
@@ -101,6 +96,7 @@ fn show_head<W: Write>(output: &mut W, s: &[u8], head: Head) -> io::Result<usize
 
 fn show_heads<W: Write>(output: &mut W, s: &[u8]) -> io::Result<()> {
     let mut at = 0;
+    // By hand: each head tells where the next one starts, and there are no more heads than bytes.
     for _ in 0..s.len() {
         let Some(head) = read_head(s, at) else {
             return Ok(());
@@ -150,12 +146,10 @@ fn show<W: Write>(output: &mut W, s: &[u8]) -> io::Result<()> {
 
 // The name up to the first space, and the digits behind it.
 fn parts(line: &[u8]) -> (&[u8], &[u8]) {
-    for (i, b) in line.iter().enumerate() {
-        if *b == b' ' {
-            return (&line[..i], &line[i + 1..]);
-        }
+    match line.iter().position(|b| *b == b' ') {
+        Some(i) => (&line[..i], &line[i + 1..]),
+        None => (line, &[]),
     }
-    (line, &line[line.len()..])
 }
 
 // One line: the name up to the space, the bytes behind it, by way of `out`.
