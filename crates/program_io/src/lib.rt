@@ -1,13 +1,14 @@
-// What the programs share of their streams: buffers by value, and a read that goes on until its buffer is full. A stream is
-// lent, so that a program hands its own and a test what it likes. A read that fails is handed on as its error, also one that a
+// What the programs share of their streams: buffers by value, a read that goes on until its buffer is full, and a write of a
+// buffer's front. A stream is lent, so that a program hands its own and a test what it likes. A read that fails is handed on as its error, also one that a
 // signal interrupts before it moves a byte.
 #![tactic(auto)]
 
-ghost use Rattle.std.specs.Prelude.{◌≡◌, length};
+ghost use Rattle.std.specs.Prelude.{◌≡◌, ◌≤◌, length, take, OnOk};
 ghost use Rattle.std.specs.Io.{ReadsAtMost};
+ghost use Rattle.std.specs.Io.KnownBytes.{Appends};
 
 use std::io;
-use std::io::Read;
+use std::io::{Read, Write};
 
 // 4,096 zeros. Two functions and no size as a parameter: a caller would say the size again, and each is one expression.
 pub fn buffer() -> [u8; 4096]
@@ -38,4 +39,14 @@ pub fn read_full<R: Read>(input: &mut R, buf: &mut [u8]) -> io::Result<usize>
         done += n;
     }
     Ok(done)
+}
+
+// Writes the first `n` bytes, and nothing where there are fewer.
+pub fn write_front<W: Write>(output: &mut W, bytes: &[u8], n: usize) -> io::Result<()>
+    ensures { OnOk result (n ≤ length bytes.now → Appends (W.contents output.old) (W.contents output.new) (take n bytes.now)) }
+{
+    if let Some(front) = bytes.get(..n) {
+        output.write_all(front)?;
+    }
+    Ok(())
 }
