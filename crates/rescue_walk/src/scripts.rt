@@ -57,10 +57,7 @@ pub fn rescue(input: &[u8], out: &mut [u8], report: &mut [u64]) -> Rescued
         return refused(TOO_LONG);
     }
     let c = count(input);
-    if out.len() < c.kept {
-        return refused(NO_ROOM);
-    }
-    if report.len() < 2 * c.runs {
+    if out.len() < c.kept || report.len() < 2 * c.runs {
         return refused(NO_ROOM);
     }
     write(input, out, report);
