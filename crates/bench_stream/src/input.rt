@@ -51,6 +51,7 @@ pub(crate) fn fill<R: Read>(input: &mut R, buf: &mut [u8], x: Input) -> io::Resu
     buf.copy_within(x.from..x.to, 0);
     let mut to = x.to - x.from;
     let mut left = x.left;
+    // By hand: only a read tells how far it came.
     while is_short(to, left) {
         let n = read_more(input, buf, to, left)?;
         if n == 0 {

@@ -1,10 +1,10 @@
 // The records of one piece of a script.
 ghost use Rattle.std.specs.Prelude.{◌≡◌, true, false, List, [], ◌++◌, ℕ, ◌+◌, ◌≤◌, ◌<◌, leb, length, drop};
-ghost use Rattle.bench_script.specs.Bench.{script, frame_room, rows_room, answer_room, remaining, Comes};
+ghost use Rattle.bench_script.specs.Bench.{script, answer_room, remaining, Comes};
 ghost use Rattle.bench_stream.specs.Ready.{is_told, is_ready, PieceRun};
 
 use bench_records::{LONGEST, read_record};
-use kernel::{PLAN, State};
+use kernel::{PLAN, RESPONSE, State};
 
 // A number's digits, and the byte behind them.
 const CELL: usize = text::DIGITS + 1;
@@ -26,10 +26,10 @@ fn next(
     s: &[u8],
     p: Place,
     page: &mut [u8],
-    out: &mut [u8],
-    rows: &mut [i64],
+    out: &mut [u8; RESPONSE],
+    rows: &mut [i64; PLAN],
 ) -> Place
-    requires { (p.from < length s.now) × (p.at + answer_room ≤ length page.old) × (frame_room ≤ length out.old) × (length rows.old ≡ rows_room) }
+    requires { (p.from < length s.now) × (p.at + answer_room ≤ length page.old) }
     ensures from_lt_from { (p.from < result.from) × (result.from ≤ length s.now) × (result.good ≡ false → result.from ≡ length s.now) }
     ensures by_index { (more : List ℕ) → (is_told s.now p.from ≡ false → more ≡ [])
         → Comes page.old p.at (script d.old (drop p.from s.now ++ more))
@@ -78,10 +78,9 @@ pub(crate) fn run(
     s: &[u8],
     last: bool,
     page: &mut [u8],
-    out: &mut [u8],
-    rows: &mut [i64],
+    out: &mut [u8; RESPONSE],
+    rows: &mut [i64; PLAN],
 ) -> Place
-    requires { (frame_room ≤ length out.old) × (length rows.old ≡ rows_room) }
     ensures { PieceRun d.old s.now last page.old result d.new page.new }
 {
     let mut p = Place {

@@ -1,6 +1,6 @@
 // A script from its first record to its last.
 ghost use Rattle.std.specs.Prelude.{◌≡◌, true, ◌≤◌, length, IfOk, MatchResult};
-ghost use Rattle.bench_script.specs.Bench.{frame_room, rows_room, answer_room};
+ghost use Rattle.bench_script.specs.Bench.{answer_room};
 ghost use Rattle.bench_stream.specs.Buffer.{Takes};
 ghost use Rattle.bench_stream.specs.Ready.{goes_on};
 
@@ -20,9 +20,7 @@ pub struct Ended {
 
 // Writes the answers on a page, and the last line where a record was bad.
 fn show<W: Write>(output: &mut W, page: &[u8], p: Place) -> io::Result<()> {
-    if let Some(answers) = page.get(..p.at) {
-        output.write_all(answers)?;
-    }
+    program_io::write_front(output, page, p.at)?;
     if !p.good {
         output.write_all(b"bad record\n")?;
     }
@@ -44,10 +42,10 @@ fn play_with<R: Read, W: Write>(
     limit: u64,
     buf: &mut [u8],
     page: &mut [u8],
-    out: &mut [u8],
-    rows: &mut [i64],
+    out: &mut [u8; RESPONSE],
+    rows: &mut [i64; PLAN],
 ) -> io::Result<Ended>
-    requires { (frame_room ≤ length out.old) × (length rows.old ≡ rows_room) × (answer_room ≤ length page.old) }
+    requires { answer_room ≤ length page.old }
     ensures ended { IfOk result (λ e. (e.left ≤ limit) × (e.good ≡ true → e.left ≡ 0)) }
     ensures taken { MatchResult result (λ e. Takes (R.remaining input.old) (R.remaining input.new) e.left limit)
         (λ _. Takes (R.remaining input.old) (R.remaining input.new) 0 limit) }
@@ -57,6 +55,7 @@ fn play_with<R: Read, W: Write>(
         to: 0,
         left: limit,
     };
+    // By hand: only a read tells how much of the script comes next.
     loop {
         x = fill(input, buf, x)?;
         let p = run(d, &buf[..x.to], x.left == 0, page, out, rows);

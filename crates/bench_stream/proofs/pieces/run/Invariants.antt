@@ -9,7 +9,7 @@ use Rattle.bench_stream.proofs.pieces.run.Given as goal
 
 abbrev pub invariant-loop-d : goal.invariant-loop-d
 invariant-loop-d l =
-    (l.p.from ≤ length l.s) × (length l.page ≡ length l.initial.page) × (length l.out ≡ length l.initial.out) × (length l.rows ≡ length l.initial.rows)
+    (l.p.from ≤ length l.s) × (length l.page ≡ length l.initial.page)
     × (l.p.good ≡ false → l.p.from ≡ length l.s) × (l.p.from ≡ 0 → l.p.at ≡ 0)
     × ((more : List ℕ) → (l.last ≡ true → more ≡ []) → Comes l.initial.page 0 (script l.initial.d (l.s ++ more)) l.page l.p.at
     (remaining l.p.good l.d (drop l.p.from l.s ++ more)))

@@ -14,13 +14,13 @@ use Rattle.bench_stream.proofs.scripts.play_with.Goals as goal
 pub returns-in_err-x-clause-taken : goal.returns-in_err-x-clause-taken
 returns-in_err-x-clause-taken g c =
     let p = err_from_is_err_and c.from_residual.result c.from_residual.ensures.1 in
-    rw (p.1) (takes_then _ _ _ _ _ _ c.loop-x.invariant.7 c.in_err-x.ensures.taken)
+    rw (p.1) (takes_then _ _ _ _ _ _ c.loop-x.invariant.5 c.in_err-x.ensures.taken)
 
 pub returns-in_err-show-clause-taken : goal.returns-in_err-show-clause-taken
 returns-in_err-show-clause-taken g c =
     let p = err_from_is_err_and c.from_residual-in_err-show.result c.from_residual-in_err-show.ensures.1 in
     let t : Takes (g.R.Read.remaining c.args.input.now) (g.R.Read.remaining c.fill.new.input) 0 c.args.limit =
-    takes_fewer _ _ 0 _ _ (omega arith) (takes_then _ _ _ _ _ _ c.loop-x.invariant.7 c.in_ok-x.ensures.taken) in
+    takes_fewer _ _ 0 _ _ (omega arith) (takes_then _ _ _ _ _ _ c.loop-x.invariant.5 c.in_ok-x.ensures.taken) in
     rw (p.1) t
 
 pub loop-x-smaller : goal.loop-x-smaller
@@ -41,10 +41,8 @@ loop-x-preserved g c =
       h,
       search rules,
       search rules,
-      search rules,
-      search rules,
-      omega (arith, l, c.run-p.ensures.within, w.counted, c.loop-x.invariant.6),
-      takes_then _ _ _ _ _ _ c.loop-x.invariant.7 c.in_ok-x.ensures.taken,
+      omega (arith, l, c.run-p.ensures.within, w.counted, c.loop-x.invariant.4),
+      takes_then _ _ _ _ _ _ c.loop-x.invariant.5 c.in_ok-x.ensures.taken,
     )
 
 pub returns-then-not-goes_on-clause-ended : goal.returns-then-not-goes_on-clause-ended
@@ -53,10 +51,10 @@ returns-then-not-goes_on-clause-ended g c =
     let within = w.within in
     let h : c.in_ok-x.x.to ≤ length c.fill.new.buf = omega (arith, within) in
     let l = length-take-le c.in_ok-x.x.to c.fill.new.buf h in (
-      omega (arith, w.counted, c.loop-x.invariant.6),
+      omega (arith, w.counted, c.loop-x.invariant.4),
       λ y. read_all _ _ c.in_ok-x.x.to c.in_ok-x.x.left _ c.run-p.result _ _ (sym l) w.enough
-          (omega (arith, c.requires.2, c.loop-x.invariant.3)) c.run-p.ensures (sym c.goes_on.ensures ∙ c.if-not-goes_on.true) y,
+          (omega (arith, c.requires, c.loop-x.invariant.3)) c.run-p.ensures (sym c.goes_on.ensures ∙ c.if-not-goes_on.true) y,
     )
 
 pub returns-then-not-goes_on-clause-taken : goal.returns-then-not-goes_on-clause-taken
-returns-then-not-goes_on-clause-taken g c = takes_then _ _ _ _ _ _ c.loop-x.invariant.7 c.in_ok-x.ensures.taken
+returns-then-not-goes_on-clause-taken g c = takes_then _ _ _ _ _ _ c.loop-x.invariant.5 c.in_ok-x.ensures.taken

@@ -11,8 +11,6 @@ invariant-loop-x g l =
     × (l.x.to ≤ length l.buf)
     × (length l.buf ≡ length l.initial.buf)
     × (length l.page ≡ length l.initial.page)
-    × (length l.out ≡ length l.initial.out)
-    × (length l.rows ≡ length l.initial.rows)
     × ((l.x.to - l.x.from) + l.x.left ≤ l.limit)
     × Takes (g.R.Read.remaining l.initial.input) (g.R.Read.remaining l.input) l.x.left l.limit
 
