@@ -36,6 +36,7 @@ fn case<R: Read, W: Write>(input: &mut R, output: &mut W, n: u64) -> io::Result<
 fn main(rt: HostRuntime) -> io::Result<()> {
     let mut input = rt.stdin();
     let mut output = rt.stdout();
+    // By hand: a loop must end, and this is a bound that no input comes to. The input's end is the way out.
     for n in 0..u64::MAX {
         if !case(&mut input, &mut output, n)? {
             break;

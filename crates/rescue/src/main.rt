@@ -8,20 +8,12 @@ ghost use Rattle.rescue_walk.specs.Program.{kept_text, said_text, report_room, t
 
 use rescue_walk::{REPORT, SCRIPT, TEXT};
 use std::io;
-use std::io::Write;
 
 // How many bytes come out, and how many are said.
 #[derive(Clone, Copy)]
 struct Done {
     kept: usize,
     said: usize,
-}
-
-fn show<W: Write>(output: &mut W, bytes: &[u8], n: usize) -> io::Result<()> {
-    if let Some(front) = bytes.get(..n) {
-        output.write_all(front)?;
-    }
-    Ok(())
 }
 
 // Rescues a script: what comes out stands at the front of `out`, all that is said of it at the front of `page`.
@@ -44,6 +36,6 @@ fn main(rt: HostRuntime) -> io::Result<()> {
     let mut page = [0u8; TEXT];
     let n = program_io::read_full(&mut rt.stdin(), &mut input)?;
     let x = run(&input[..n], &mut out, &mut report, &mut page);
-    show(&mut rt.stdout(), &out, x.kept)?;
-    show(&mut rt.stderr(), &page, x.said)
+    program_io::write_front(&mut rt.stdout(), &out, x.kept)?;
+    program_io::write_front(&mut rt.stderr(), &page, x.said)
 }

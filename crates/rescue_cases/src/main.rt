@@ -7,13 +7,6 @@ use rescue_walk::{REPORT, SCRIPT};
 use std::io;
 use std::io::{Read, Write};
 
-fn show<W: Write>(output: &mut W, bytes: &[u8], n: usize) -> io::Result<()> {
-    if let Some(front) = bytes.get(..n) {
-        output.write_all(front)?;
-    }
-    Ok(())
-}
-
 // Runs the record at `at` and prints its answer; says where the next one starts, the end behind a bad one.
 fn step<W: Write>(
     output: &mut W,
@@ -29,11 +22,10 @@ fn step<W: Write>(
         return Ok(s.len());
     };
     let n = bench_script::print_answer(page, 0, x.number, rows, x.count);
-    show(output, page, n)?;
+    program_io::write_front(output, page, n)?;
     Ok(x.next)
 }
 
-// A script has no more records than bytes.
 fn play_with<W: Write>(
     output: &mut W,
     d: &mut State,
@@ -43,6 +35,7 @@ fn play_with<W: Write>(
     rows: &mut [i64],
 ) -> io::Result<()> {
     let mut at = 0;
+    // By hand: each step tells where the next record starts, and a script has no more records than bytes.
     for _ in 0..s.len() {
         if s.len() <= at {
             break;
@@ -70,7 +63,7 @@ fn run<W: Write>(
 ) -> io::Result<()> {
     let x = rescue_walk::rescue(input, kept, report);
     let n = rescue_walk::put_text(page, 0, x.number, x.runs, report);
-    show(output, page, n)?;
+    program_io::write_front(output, page, n)?;
     if let Some(s) = kept.get(..x.length) {
         play(output, s, page)?;
     }
@@ -114,6 +107,7 @@ fn case<R: Read, W: Write>(input: &mut R, output: &mut W, n: u64) -> io::Result<
 fn main(rt: HostRuntime) -> io::Result<()> {
     let mut input = rt.stdin();
     let mut output = rt.stdout();
+    // By hand: a loop must end, and this is a bound that no input comes to. The input's end is the way out.
     for n in 0..u64::MAX {
         if !case(&mut input, &mut output, n)? {
             break;
