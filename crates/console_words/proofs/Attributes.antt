@@ -58,7 +58,7 @@ module _ (word out₀ : List ℕ) (b : Bool) (dash : b ≡ is_none word) (other 
     unfolding listed_from
     listed-some = numbers_some word at (ends_from 44 at (drop at word)) (ends_some 44 at (drop at word))
 
-    -- no room is left
+    -- the slice is full
     pub list_full : (r : Option ℕ) → r ≡ None → length out₀ ≤ n → Answers word out₀ r out
     list_full r z h =
         let m : length out₀ - n ≡ 0 = omega arith in

@@ -9,11 +9,13 @@ use native.Mathlib.Numerals.{add-one}
 use native.Mathlib.Omega.{arith}
 use lib.Dec.{leb}
 use lib.IntN.{ℤ, pos}
-use lib.ListN.{length, get_or, drop, take, length-drop, drop_of_length-le}
-use lib.Seq.{drop-cons}
+use lib.ListN.{length, get_or, drop, take, length-drop, length-take, drop_of_length-le}
+use lib.Seq.{drop-cons, get_or-take}
 use borrow.Author.Tests.{le-leb, lt-leb, eq-eqb, ne_eqb}
 use Rattle.wire_bytes.specs.Bytes.{put, put_whole, past_whole}
 use Rattle.text.specs.Text.{signed, hex}
+use Rattle.std.specs.Simd.{first_chunks}
+use Rattle.console_words.proofs.Pairs.{one_of}
 use Rattle.console_words.specs.Answers.{hex_or_none, list_pieces, pair_pieces, pairs_in, report_pieces}
 
 -- bytes or none
@@ -69,7 +71,7 @@ unfolding report_pieces
 report_some l zero e = absurd (e refl)
 report_some l (suc n) e = refl
 
-pub pair_next : (l : List ℕ) (n i k m : ℕ) → k ≡ 2 * i → m ≡ k + 2 → k + 1 < length l → i < n
+pair_next : (l : List ℕ) (n i k m : ℕ) → k ≡ 2 * i → m ≡ k + 2 → k + 1 < length l → i < n
     → pairs_in (n - i) (drop k l) ≡ pair_pieces (get_or l k 0) (get_or l (k + 1) 0) ++ pairs_in (n - (i + 1)) (drop m l)
 unfolding pairs_in
 pair_next l n i k m d c h g =
@@ -79,7 +81,7 @@ pair_next l n i k m d c h g =
     let h₁ : suc k < length l = omega arith in
     rw (f, add-one i, add-one k, e, drop-cons l k 0 h₀, drop-cons l (suc k) 0 h₁) refl
 
-pub pair_full : (l : List ℕ) (n i k : ℕ) → n ≤ i → pairs_in (n - i) (drop k l) ≡ []
+pair_full : (l : List ℕ) (n i k : ℕ) → n ≤ i → pairs_in (n - i) (drop k l) ≡ []
 unfolding pairs_in
 pair_full l n i k h = let e : n - i ≡ 0 = omega arith in rw e refl
 
@@ -90,8 +92,22 @@ pairs-short (suc n) [] h = refl
 pairs-short (suc n) (g ∷ []) h = refl
 pairs-short (suc n) (g ∷ k ∷ l) h = absurd (omega arith)
 
-pub pair_over : (l : List ℕ) (n i k : ℕ) → length l < k + 2 → pairs_in (n - i) (drop k l) ≡ []
+pair_over : (l : List ℕ) (n i k : ℕ) → length l < k + 2 → pairs_in (n - i) (drop k l) ≡ []
 pair_over l n i k h = pairs-short (n - i) (drop k l) (omega (arith, length-drop k l))
 
-pub pair_past : (l : List ℕ) (n i k : ℕ) → k ≡ 2 * i → min (length l / 2) n ≤ i → pairs_in (n - i) (drop k l) ≡ []
+pair_past : (l : List ℕ) (n i k : ℕ) → k ≡ 2 * i → min (length l / 2) n ≤ i → pairs_in (n - i) (drop k l) ≡ []
 pair_past l n i k d h = ⊎_elim (λ lt. pair_over l n i k (omega arith)) (λ le. pair_full l n i k le) (below i n)
+
+-- the pairs as they are lent, two numbers each
+module _ (l : List ℕ) (cs : List (List ℕ)) (is : cs ≡ first_chunks 2 (length l / 2) l) where
+  pub pair_turn : (n m i : ℕ) → m ≡ min (length l / 2) n → i < length (take m cs)
+      → pairs_in (n - i) (drop (2 * i) l)
+      ≡ pair_pieces (get_or (get_or (take m cs) i []) 0 0) (get_or (get_or (take m cs) i []) 1 0) ++ pairs_in (n - (i + 1)) (drop (2 * (i + 1)) l)
+  pair_turn n m i e g =
+      let h : i < m = omega (arith, length-take m cs) in
+      let z : 2 * i + 0 ≡ 2 * i = omega arith in
+      rw (get_or-take m cs i [] h, one_of l cs is i 0 (omega arith) (omega arith), one_of l cs is i 1 (omega arith) (omega arith), z)
+      (pair_next l n i (2 * i) (2 * (i + 1)) refl (omega arith) (omega arith) (omega arith))
+
+  pub pairs_over : (n m i : ℕ) → length cs ≡ length l / 2 → m ≡ min (length l / 2) n → length (take m cs) ≤ i → pairs_in (n - i) (drop (2 * i) l) ≡ []
+  pairs_over n m i k e h = pair_past l n i (2 * i) refl (omega (arith, length-take m cs))

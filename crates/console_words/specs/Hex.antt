@@ -24,7 +24,7 @@ hex_bytes (a ∷ b ∷ s) = (16 * nibble a + nibble b) ∷ hex_bytes s
 unfoldable pub is_none : List ℕ → Bool
 is_none s = eqb (length s) 1 && eqb (get_or s 0 0) 45
 
--- digits in pairs, at least one, of which the bytes fit into so much room
+-- digits in pairs, at least one, of which the bytes fit into so many
 unfoldable pub is_pairs : List ℕ → ℕ → Bool
 is_pairs s room = ltb 0 (length s) && eqb (length s % 2) 0 && leb (length s / 2) room && all_hex s
 
@@ -32,6 +32,6 @@ is_pairs s room = ltb 0 (length s) && eqb (length s % 2) 0 && leb (length s / 2)
 unfoldable pub hex_read : List ℕ → ℕ → Option ℕ
 hex_read s room = cond (is_none s || is_pairs s room) (Some (length s / 2)) None
 
--- the room afterwards: the bytes at its front, unchanged for a bad word
+-- the lent slice afterwards: the bytes at its front, unchanged for a bad word
 unfoldable pub hex_after : List ℕ → List ℕ → List ℕ
 hex_after s out = cond (is_none s || is_pairs s (length out)) (put out 0 (hex_bytes s)) out

@@ -28,12 +28,12 @@ attributes_of [] = []
 attributes_of (None ∷ ns) = []
 attributes_of (Some n ∷ ns) = cond (is_attribute n) (n.value ∷ attributes_of ns) []
 
--- the answer: how many attributes there are, none where one is bad or there is no room for them
+-- the answer: how many attributes there are, none where one is bad or they do not fit
 unfoldable pub list_read : List ℕ → ℕ → Option ℕ
 list_read s room =
     cond (is_none s) (Some 0)
     (cond (eqb (length (attributes_of (listed s))) (length (listed s)) && leb (length (listed s)) room) (Some (length (listed s))) None)
 
--- the room afterwards: the attributes at its front, as far as they are good and fit
+-- the lent slice afterwards: the attributes at its front, as far as they are good and fit
 unfoldable pub list_after : List ℕ → List ℕ → List ℕ
 list_after s out = cond (is_none s) out (sets out 0 (take (length out) (attributes_of (listed s))))

@@ -22,11 +22,11 @@ word_ends s = ends_from 32 0 s
 abbrev pub largest : ℕ
 largest = 18446744073709551615
 
--- how many words a line has; none where there is no room for so many ends
+-- how many words a line has; none where so many ends do not fit
 unfoldable pub words_in : List ℕ → ℕ → Option ℕ
 words_in s room = cond (leb (length (word_ends s)) room) (Some (length (word_ends s))) None
 
--- the room afterwards: the ends at its front, as far as they fit
+-- the lent slice afterwards: the ends at its front, as far as they fit
 unfoldable pub ends_after : List ℕ → List ℕ → List ℕ
 ends_after s ends = sets ends 0 (take (length ends) (word_ends s))
 

@@ -1,5 +1,5 @@
 // Attributes parted by commas; `-` is none.
-ghost use Rattle.std.specs.Prelude.{◌≡◌, ◌≤◌, IfSome, length};
+ghost use Rattle.std.specs.Prelude.{◌≡◌, ◌≤◌, true, false, IfSome, MatchOption, length};
 ghost use Rattle.console_words.specs.Lists.{is_attribute, list_read, list_after};
 
 use crate::hex::is_none;
@@ -7,10 +7,10 @@ use crate::numbers::{Number, number_in};
 use crate::spans::next;
 
 #[tactic(auto, unfolding(crate::specs::Lists::is_attribute))]
-fn is_attribute(n: Number) -> bool
-    ensures { result ≡ is_attribute n }
+fn attribute_of(n: Number) -> Option<u16>
+    ensures { MatchOption result (is_attribute n ≡ false) (λ v. (is_attribute n ≡ true) × (v ≡ n.value)) }
 {
-    n.value < 65536
+    u16::try_from(n.value).ok()
 }
 
 // The attributes that a word lists, from the front of `out`, and how many they are. One above 65,535 is bad, and so are
@@ -24,13 +24,10 @@ pub fn read_list(word: &[u8], out: &mut [u16]) -> Option<usize>
         return Some(0);
     }
     let mut at = 0;
-    for n in 0..out.len() {
+    for (n, place) in out.iter_mut().enumerate() {
         let end = next(word, at, b',');
         let number = number_in(word, at, end)?;
-        if !is_attribute(number) {
-            return None;
-        }
-        out[n] = number.value as u16;
+        *place = attribute_of(number)?;
         if word.len() <= end {
             return Some(n + 1);
         }

@@ -86,10 +86,11 @@ pub fn put_pairs(out: &mut [u8], at: usize, pairs: &[u64], n: u64) -> usize
     if n == 0 {
         return wire_bytes::put_bytes(out, at, b" -", 2);
     }
-    let shown = (pairs.len() / 2).min(n as usize);
+    let (all, _) = pairs.as_chunks::<2>();
+    let shown = &all[..all.len().min(n as usize)];
     let mut p = at;
-    for i in 0..shown {
-        p = put_pair(out, p, pairs[2 * i], pairs[2 * i + 1]);
+    for [group, number] in shown {
+        p = put_pair(out, p, *group, *number);
     }
     p
 }

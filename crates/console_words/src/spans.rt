@@ -20,15 +20,15 @@ pub fn next(s: &[u8], from: usize, b: u8) -> usize
     first(&s[from..], b).map_or(s.len(), |k| from + k)
 }
 
-// Stores where each word ends, as far as there is room, and says how many words there are; none where there are more.
+// Stores where each word ends, as far as they fit, and says how many words there are; none where there are more.
 pub fn split(line: &[u8], ends: &mut [usize]) -> Option<usize>
     ensures value { result ≡ words_in line.now (length ends.old) }
     ensures ends_after { ends.new ≡ ends_after line.now ends.old }
 {
     let mut at = 0;
-    for n in 0..ends.len() {
+    for (n, place) in ends.iter_mut().enumerate() {
         let end = next(line, at, b' ');
-        ends[n] = end;
+        *place = end;
         if line.len() <= end {
             return Some(n + 1);
         }

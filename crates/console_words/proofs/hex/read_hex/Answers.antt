@@ -1,6 +1,6 @@
 -- Each return stands under the tests of its choice in the definition.
 use native.Mathlib.Omega.{arith}
-use Rattle.console_words.proofs.Pairs.{read_none, read_pairs, read_bad, pairs-fit}
+use Rattle.console_words.proofs.Pairs.{read_none, read_pairs, read_bad, pairs-fit, pairs-digits}
 use Rattle.console_words.proofs.hex.read_hex.Goals as goal
 
 pub returns-then-is_none : goal.returns-then-is_none
@@ -10,7 +10,11 @@ returns-then-is_none c =
     record { value = both.0; within = omega arith; out_after = both.1 }
 
 pub store-requires : goal.store-requires
-store-requires c = pairs-fit _ _ _ c.is_pairs.ensures c.if-not-is_pairs.false
+store-requires c =
+    record {
+      digits = pairs-digits _ _ _ c.is_pairs.ensures c.if-not-is_pairs.false;
+      fits = pairs-fit _ _ _ c.is_pairs.ensures c.if-not-is_pairs.false;
+    }
 
 pub returns : goal.returns
 returns c =

@@ -5,6 +5,6 @@ use Rattle.text.proofs.Pieces.{ToDo}
 use Rattle.console_words.specs.Answers.{pairs_in}
 use Rattle.console_words.proofs.print.put_pairs.Given as goal
 
-abbrev pub invariant-loop-i : goal.invariant-loop-i
-invariant-loop-i l =
-    ToDo l.initial.out l.at (pairs_in l.n l.pairs) l.out l.p (pairs_in (l.n - l.i) (drop (2 * l.i) l.pairs))
+abbrev pub invariant-loop-group : goal.invariant-loop-group
+invariant-loop-group l =
+    ToDo l.initial.out l.at (pairs_in l.n l.pairs) l.out l.p (pairs_in (l.n - l.group-index) (drop (2 * l.group-index) l.pairs))

@@ -1,4 +1,4 @@
--- Each end is stored within the room, and the text left gives the ends left.
+-- Each end is stored where it fits, and the text left gives the ends left.
 use native.Mathlib.Omega.{arith}
 use Rattle.console_words.proofs.Ends.{none-stored, last_stored, one_stored, no_room}
 use Rattle.console_words.proofs.spans.split.Goals as goal

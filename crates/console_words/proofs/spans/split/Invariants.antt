@@ -1,4 +1,4 @@
--- Each end is stored within the room, and the text left gives the ends left.
+-- Each end is stored where it fits, and the text left gives the ends left.
 use Rattle.console_words.proofs.Ends.{Left}
 use Rattle.console_words.proofs.spans.split.Given as goal
 
