@@ -1,13 +1,13 @@
 // `frame ZONE TIME ROOM BYTES`, `request BYTES`, `response COMMAND BYTES`: frames given to the device, and the codecs alone.
 
-use console_line::{Command, FIELDS, smaller};
+use console_line::{Command, FIELDS};
 use console_words::{put_bad, put_bytes, read_hex};
-use kernel::{FRAME, State};
+use kernel::{FRAME, Refusal, State};
 
 fn frame(d: &mut State, f: [u64; FIELDS], bytes: &[u8], out: &mut [u8], at: usize) -> usize {
     let mut response = [0u8; FRAME];
-    let room = smaller(f[2], FRAME);
-    let r = kernel::frame(d, f[0], f[1], bytes, &mut response[..room]);
+    let lent = FRAME.min(f[2] as usize);
+    let r = kernel::frame(d, f[0], f[1], bytes, &mut response[..lent]);
     put_bytes(out, at, r.number, &response, r.length)
 }
 
@@ -18,7 +18,9 @@ fn request(bytes: &[u8], out: &mut [u8], at: usize) -> usize {
             let w = kernel::write_request(&mut again, r);
             put_bytes(out, at, w.number, &again, w.length)
         }
-        kernel::Reading::Unserved(_) => put_bytes(out, at, 4, &again, 0),
+        kernel::Reading::Unserved(_) => {
+            put_bytes(out, at, Refusal::NotServed.number(), &again, 0)
+        }
         kernel::Reading::Refused(n) => put_bytes(out, at, n, &again, 0),
     }
 }

@@ -2,7 +2,6 @@
 ghost use Rattle.std.specs.Prelude.{◌≡◌};
 ghost use Rattle.console_kernel_lines.specs.Values.{values_in};
 
-use console_line::smaller;
 use console_words::{put_end, put_list};
 use kernel::{Row, State, VALUES};
 
@@ -48,8 +47,8 @@ fn put_rows(d: &State, n: usize, out: &mut [u8], at: usize) -> usize {
 }
 
 // The answer's number, then all the rows' numbers.
-pub fn rows(d: &State, room: u64, out: &mut [u8], at: usize) -> usize {
-    let a = kernel::plain_answer(d, smaller(room, RECORDS));
+pub fn rows(d: &State, lent: u64, out: &mut [u8], at: usize) -> usize {
+    let a = kernel::plain_answer(d, RECORDS.min(lent as usize));
     let p = text::put_decimal(out, at, a.number);
     let q = put_rows(d, a.count, out, p);
     put_end(out, q)

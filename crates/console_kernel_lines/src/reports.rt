@@ -1,10 +1,10 @@
 // `conf TYPE MAP PHASES DIRECTIONS LIMITS CURRENT SETPOINTS PROCESS ROOM ATTRIBUTES`: what the report says of a device.
 
-use console_line::{FIELDS, smaller};
+use console_line::FIELDS;
 use console_words::{put_bad, put_end, put_pairs, read_list};
 use kernel::REPORT;
 
-// More than a line has room for.
+// More than a line can list.
 const ATTRIBUTES: usize = 8192;
 
 fn inputs_of(f: [u64; FIELDS]) -> kernel::Inputs {
@@ -27,8 +27,8 @@ pub fn conf(f: [u64; FIELDS], word: &[u8], out: &mut [u8], at: usize) -> usize {
         return put_bad(out, at);
     };
     let mut pairs = [0u64; REPORT];
-    let room = smaller(f[8], REPORT);
-    let r = kernel::report(inputs_of(f), &attributes[..n], &mut pairs[..room]);
+    let lent = REPORT.min(f[8] as usize);
+    let r = kernel::report(inputs_of(f), &attributes[..n], &mut pairs[..lent]);
     let p = text::put_decimal(out, at, r.number);
     let q = put_pairs(out, p, &pairs, r.count);
     put_end(out, q)

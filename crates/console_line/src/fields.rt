@@ -1,5 +1,5 @@
 // The numbers of a line: the words behind the command's name, each of a kind.
-ghost use Rattle.std.specs.Prelude.{◌≡◌, min, set};
+ghost use Rattle.std.specs.Prelude.{◌≡◌, set};
 ghost use Rattle.console_line.specs.Fields.{none_in, below_none, maximum_in, is_of, field_in, all_good, stored_from};
 
 use console_words::{Number, is_none, number_in, span};
@@ -95,11 +95,4 @@ pub(crate) fn read(line: &[u8], ends: &[usize], kinds: &[Kind], fields: &mut [u6
         put(fields, k, n.value);
     }
     true
-}
-
-// How much is lent: no more than there is.
-pub fn smaller(n: u64, most: usize) -> usize
-    ensures { result ≡ min n most }
-{
-    most.min(n as usize)
 }

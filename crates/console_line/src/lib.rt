@@ -5,4 +5,4 @@ mod commands; // commands.rt: a command's name, how many words it has, and what 
 mod fields; // fields.rt: the numbers of a line
 
 pub use commands::{Command, Line, line_of, read_numbers};
-pub use fields::{FIELDS, smaller};
+pub use fields::FIELDS;

@@ -5,10 +5,10 @@ ghost use Rattle.device_calls.specs.Start.{refused_settings};
 
 use crate::LONGEST;
 use console_kernel_lines::{conf, rows, settings_of, with_bytes};
-use console_line::{Command, FIELDS, Line, line_of, read_numbers, smaller};
+use console_line::{Command, FIELDS, Line, line_of, read_numbers};
 use console_other_lines::{is_rescue, is_scrap, is_tick, meas, rescue, scrap, tick};
 use console_words::{put_bad, put_end, put_list, put_number, span, split};
-use kernel::{PLAN, State};
+use kernel::{PLAN, Refusal, State};
 use receiver::RECORD;
 use ticks::FRONT;
 
@@ -18,19 +18,9 @@ const WORDS: usize = 1 + FIELDS;
 // The numbers of a plan's row.
 const ROW: u64 = kernel::ROW as u64;
 
-// The calls that answer a number only.
-fn call(d: &mut State, c: Command, f: [u64; FIELDS]) -> u64 {
-    let answer = match c {
-        Command::Start => kernel::start(d, settings_of(f)),
-        Command::Join => kernel::join(d, f[0], f[1], f[2]),
-        Command::Leave => kernel::leave(d, f[0], f[1]),
-        Command::Lost => kernel::lost(d, f[0], f[1]),
-        Command::Back => kernel::back(d, f[0], f[1]),
-        Command::Override => kernel::set_override(d, f[0], f[1], f[2]),
-        Command::Move => kernel::move_clock(d, f[0]),
-        _ => kernel::clear_override(d, f[0]),
-    };
-    kernel::number_in(answer)
+// The answer of a call that says its number only.
+fn told(answer: Result<(), Refusal>, out: &mut [u8], at: usize) -> usize {
+    put_number(out, at, kernel::number_in(answer))
 }
 
 // An ask is never refused: its number is 0.
@@ -41,10 +31,10 @@ fn ask(d: &State, out: &mut [u8], at: usize) -> usize {
     put_end(out, q)
 }
 
-fn plan(d: &State, room: u64, out: &mut [u8], at: usize) -> usize {
+fn plan(d: &State, lent: u64, out: &mut [u8], at: usize) -> usize {
     let mut rows = [0i64; PLAN];
-    let room = smaller(room, PLAN);
-    let r = kernel::plan(d, &mut rows[..room]);
+    let lent = PLAN.min(lent as usize);
+    let r = kernel::plan(d, &mut rows[..lent]);
     let p = text::put_decimal(out, at, r.number);
     let q = put_list(out, p, &rows, r.count.saturating_mul(ROW));
     put_end(out, q)
@@ -61,6 +51,15 @@ fn run(
     at: usize,
 ) -> usize {
     match c {
+        Command::Unknown => put_bad(out, at),
+        Command::Start => told(kernel::start(d, settings_of(f)), out, at),
+        Command::Join => told(kernel::join(d, f[0], f[1], f[2]), out, at),
+        Command::Leave => told(kernel::leave(d, f[0], f[1]), out, at),
+        Command::Lost => told(kernel::lost(d, f[0], f[1]), out, at),
+        Command::Back => told(kernel::back(d, f[0], f[1]), out, at),
+        Command::Override => told(kernel::set_override(d, f[0], f[1], f[2]), out, at),
+        Command::Clear => told(kernel::clear_override(d, f[0]), out, at),
+        Command::Move => told(kernel::move_clock(d, f[0]), out, at),
         Command::Ask => ask(d, out, at),
         Command::Plan => plan(d, f[0], out, at),
         Command::Rows => rows(d, f[0], out, at),
@@ -69,7 +68,6 @@ fn run(
         ),
         Command::Conf => conf(f, word, out, at),
         Command::Meas => meas(word, bytes, out, at),
-        _ => put_number(out, at, call(d, c, f)),
     }
 }
 
@@ -95,7 +93,7 @@ fn line(
 }
 
 // Writes the answer to a line behind `at`, and says the position past it. `words` and `room` are the receiver's, `front` is the
-// tick counter's, `bytes` is room for the bytes of a line: half of the longest line is enough.
+// tick counter's, `bytes` is for the bytes of a line: half of the longest line is enough.
 pub fn answer(
     d: &mut State,
     words: &mut [u64; RECORD],
