@@ -50,13 +50,11 @@ const TABLE: [Row; ROWS] = [
 ];
 
 // The row k; past the end a row of no places.
+#[tactic(auto, unfolding(crate::specs::Rows::rows))]
 pub fn row_at(k: usize) -> Row
     ensures { result ≡ get_or rows k no_row }
 {
-    if k < ROWS {
-        return TABLE[k];
-    }
-    Row(0, 0, 0)
+    TABLE.get(k).copied().unwrap_or(Row(0, 0, 0))
 }
 
 const KINDS: usize = 6;
@@ -90,11 +88,10 @@ const RANGES: [Range; KINDS] = [
 ];
 
 // The range of a kind; that of no kind holds 0 alone.
+#[tactic(auto, unfolding(crate::specs::Rows::range_of, crate::specs::Rows::ranges))]
 pub fn range_of(kind: usize) -> Range
     ensures { result ≡ range_of kind }
 {
-    if kind < KINDS {
-        return RANGES[kind];
-    }
-    Range { below: 0, high: 0 }
+    let none = Range { below: 0, high: 0 };
+    RANGES.get(kind).copied().unwrap_or(none)
 }

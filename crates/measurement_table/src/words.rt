@@ -6,7 +6,7 @@ ghost use Rattle.measurement_table.specs.Words.{place_of, held_at};
 // The places of all rows.
 pub const PLACES: usize = 36;
 
-pub const WORDS: usize = 72;
+pub const WORDS: usize = 2 * PLACES;
 
 pub type Words = [u64; WORDS];
 
@@ -25,25 +25,17 @@ fn all(words: &Words) -> Words
 }
 
 // The cell at a place, as a mark of 0 to 2 and a number; past the end nothing.
+#[tactic(auto, using(crate::proofs::Held::get_one, crate::proofs::Held::get_two, crate::proofs::Held::get_none))]
 pub fn place_at(words: &Words, at: usize) -> Place
     ensures { result ≡ place_of (held_at words.now at) }
 {
     if at < PLACES {
-        let mark = words[2 * at];
         let size = words[2 * at + 1];
-        if mark == 1 {
-            return Place {
-                mark: 1,
-                size: size,
-            };
-        }
-        if mark == 2 {
-            return Place {
-                mark: 2,
-                size: size,
-            };
-        }
-        return Place { mark: 0, size: 0 };
+        return match words[2 * at] {
+            1 => Place { mark: 1, size },
+            2 => Place { mark: 2, size },
+            _ => Place { mark: 0, size: 0 },
+        };
     }
     let _a = all(words);
     Place { mark: 0, size: 0 }
