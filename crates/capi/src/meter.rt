@@ -5,13 +5,13 @@ ghost use Rattle.measurement.specs.Flow.{ac_active_power, ac_active_power_per_ph
 ghost use Rattle.capi.specs.Meter.{measurement_written, measurement_left, flow_in};
 
 use crate::words::hand_out;
-use measurement::{Words, flow_number};
+use measurement::{Words, flow_number, number_in};
 
 pub fn cekarum_interface_2_read_measurement(payload: &[u8], words: &mut Words) -> u64
     ensures value { result ≡ read_number payload.now }
     ensures words_after { words.new ≡ read_after payload.now words.old }
 {
-    measurement::read_measurement(payload, words)
+    number_in(measurement::read_measurement(payload, words))
 }
 
 #[tactic(auto, unfolding(crate::specs::Meter::measurement_written, crate::specs::Meter::measurement_left))]

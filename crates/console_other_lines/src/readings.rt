@@ -7,7 +7,8 @@ ghost use Rattle.console_other_lines.specs.Meas.{is_there, flow_pieces, some_flo
 
 use console_words::{put_bad, put_end, put_hex_or_none, read_hex};
 use measurement::{
-    Flow, WORDS, Words, dc_flow, phase_flow, power_flow, read_measurement, write_measurement,
+    Flow, WORDS, Words, dc_flow, number_in, phase_flow, power_flow, read_measurement,
+    write_measurement,
 };
 
 // Bytes of the longest payload that is written.
@@ -88,7 +89,7 @@ fn payload(s: &[u8], out: &mut [u8], at: usize) -> usize
     ensures out_after { out.new ≡ put_all out.old at (payload_pieces s.now) }
 {
     let mut words = [0u64; WORDS];
-    let number = read_measurement(s, &mut words);
+    let number = number_in(read_measurement(s, &mut words));
     let p = text::put_decimal(out, at, number);
     let q = wire_bytes::put_byte(out, p, b' ');
     let r = put_again(out, q, number, &words);

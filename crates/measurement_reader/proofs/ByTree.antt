@@ -95,28 +95,24 @@ module _ (s before : List ℕ) (b : Bool) (be : b ≡ length_fits s) where
     unfolding read_number first_of
     read_item g = stays 2 (rw (sym be ∙ f, sym te ∙ g) refl) (λ z. omega arith)
 
-    module _ (g : t ≡ true) (ok : Bytes s) (ws ws' : List ℕ) (r : Bool) (h : Filled (payload_at s (head_at s 0)) 0 ws r ws')
-        (after : List ℕ) (ae : after ≡ cond r ws' before) where
+    module _ (g : t ≡ true) (ok : Bytes s) (ws ws' : List ℕ) (r : Bool) (h : Filled (payload_at s (head_at s 0)) 0 ws r ws') where
       the_walk : payload_at s (head_at s 0) ≡ cells_of s
       the_walk = let x = is-some (payload_of s) (sym te ∙ g) in payload_walk s ok x.0 x.1
 
-      pub read_whole : length ws ≡ 72 → r ≡ true → (0 ≡ read_number s) × (after ≡ read_after s before)
+      pub read_whole : length ws ≡ 72 → r ≡ true → (0 ≡ read_number s) × (ws' ≡ read_after s before)
       unfolding read_number first_of read_after flat_or
       read_whole m z =
           let x = filled-some (payload_at s (head_at s 0)) 0 ws ws' r z h in
           let c : cells_of s ≡ some x.0 = sym the_walk ∙ x.1 in
           let l = payload_long s (head_at s 0) x.0 x.1 in
           let y : ws' ≡ flat x.0 = x.2 ∙ sets-whole ws (flat x.0) (omega (arith, flat-long x.0)) in
-          let stored : after ≡ ws' = rw z at ae in
-          rw (sym be ∙ f, sym te ∙ g, c) (refl, stored ∙ y)
+          rw (sym be ∙ f, sym te ∙ g, c) (refl, y)
 
-      pub read_rows : r ≡ false → (3 ≡ read_number s) × (after ≡ read_after s before)
+      pub read_rows : r ≡ false → (3 ≡ read_number s) × (before ≡ read_after s before)
       unfolding read_number first_of
       read_rows z =
           let c : cells_of s ≡ none = sym the_walk ∙ filled_none (payload_at s (head_at s 0)) 0 ws ws' r z h in
-          let kept : after ≡ before = rw z at ae in
-          let y = stays 3 (rw (sym be ∙ f, sym te ∙ g, c) refl) (λ y. omega arith) in
-          (y.0, kept ∙ y.1)
+          stays 3 (rw (sym be ∙ f, sym te ∙ g, c) refl) (λ y. omega arith)
 
 module _ (s : List ℕ) (ws ws' : List ℕ) (i : ℕ) (h : HeadRead) (he : h ≡ head_at s 0) where
   pub payload_no_head : h ≡ None → Filled (payload_at s (head_at s 0)) i ws false ws'
@@ -124,7 +120,7 @@ module _ (s : List ℕ) (ws ws' : List ℕ) (i : ℕ) (h : HeadRead) (he : h ≡
   payload_no_head e = rw (← he, e) refl
 
   module _ (m n q : ℕ) (e : h ≡ head_is m n q) where
-    pub payload_no_map : (m ≡ 5 → ⊥) → Filled (payload_at s (head_at s 0)) i ws false ws'
+    pub payload_no_map : (m ≡ 5 → ⊥) → Filled (payload_at s (head_at s 0)) i ws (eqb m 5) ws'
     unfolding payload_at Filled
     payload_no_map z = rw (← he, e, ne_eqb m 5 z) refl
 

@@ -159,23 +159,23 @@ pub cells_start : (s : List ℕ) (d : ℕ) (g : Range) (w n q i : ℕ) (words : 
 cells_start s d g w n q i words ok ws h = let a : i + 0 ≡ i = omega arith in let b : w - 0 ≡ w = omega arith in rw (a, b) at h
 
 module _ (s : List ℕ) (g : Range) (w at i : ℕ) (ws ws' : List ℕ) (h : HeadRead) (he : h ≡ head_at s at) where
-  pub phases-no_head : h ≡ None → Filled (phases_from s 6 g w (head_at s at)) i ws false ws'
+  pub phases_no_head : h ≡ None → Filled (phases_from s 6 g w (head_at s at)) i ws false ws'
   unfolding phases_from Filled
-  phases-no_head e = rw (← he, e) refl
+  phases_no_head e = rw (← he, e) refl
 
   module _ (m n q : ℕ) (e : h ≡ head_is m n q) where
-    pub phases-no_map : (m ≡ 5 → ⊥) → Filled (phases_from s 6 g w (head_at s at)) i ws false ws'
+    pub phases_no_map : (m ≡ 5 → ⊥) → Filled (phases_from s 6 g w (head_at s at)) i ws false ws'
     unfolding phases_from Filled
-    phases-no_map z = rw (← he, e, ne_eqb m 5 z) refl
+    phases_no_map z = rw (← he, e, ne_eqb m 5 z) refl
 
-    pub phases-empty : n ≡ 0 → Filled (phases_from s 6 g w (head_at s at)) i ws false ws'
+    pub phases_empty : n ≡ 0 → Filled (phases_from s 6 g w (head_at s at)) i ws false ws'
     unfolding phases_from Filled
-    phases-empty z = rw (← he, e, eq-eqb n 0 z) (go (eqb m 5))
+    phases_empty z = rw (← he, e, eq-eqb n 0 z) (go (eqb m 5))
       where
         go : (b : Bool) → Filled (cond b none none) i ws false ws'
         go true = refl
         go false = refl
 
-    pub phases-map : m ≡ 5 → (n ≡ 0 → ⊥) → (ok : Bool) → Filled (cells_at s 6 g w 0 n q) i ws ok ws' → Filled (phases_from s 6 g w (head_at s at)) i ws ok ws'
+    pub phases_map : m ≡ 5 → (n ≡ 0 → ⊥) → (ok : Bool) → Filled (cells_at s 6 g w 0 n q) i ws ok ws' → Filled (phases_from s 6 g w (head_at s at)) i ws ok ws'
     unfolding phases_from
-    phases-map z y ok f = rw (← he, e, eq-eqb m 5 z, ne_eqb n 0 y) f
+    phases_map z y ok f = rw (← he, e, eq-eqb m 5 z, ne_eqb n 0 y) f

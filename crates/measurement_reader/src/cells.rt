@@ -41,7 +41,7 @@ pub(crate) fn cell_at(s: &[u8], range: Range, there: bool, at: usize) -> Place
     Place { mark: 0, size: 0 }
 }
 
-// Where a walk goes on.
+// Where a walk goes on. No item that a walk finds is bad; 0 only stands where the definition has it.
 pub(crate) fn next_at(s: &[u8], depth: u64, there: bool, at: usize) -> usize
     ensures { result ≡ next_at s.now depth there at }
 {

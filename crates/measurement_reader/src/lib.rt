@@ -6,3 +6,4 @@ mod reading; // reading.rt: the payload, with its refusals
 mod walk; // walk.rt: the rows of the table beside the pairs of the map
 
 pub use reading::read_measurement;
+pub use refusals::number_in;

@@ -1,5 +1,6 @@
 // A payload of Measurement, read.
-ghost use Rattle.std.specs.Prelude.{◌≡◌, cond, ◌&&◌, leb};
+ghost use Rattle.std.specs.Prelude.{◌≡◌, ◌&&◌, leb};
+ghost use Rattle.refusals.specs.Answers.{number_in};
 ghost use Rattle.wire_heads.specs.Head.{head_at};
 ghost use Rattle.wire_cbor.specs.Item.{payload_of, is_some};
 ghost use Rattle.measurement_table.specs.Payload.{read_number, read_after};
@@ -7,6 +8,7 @@ ghost use Rattle.measurement_reader.specs.Walk.{Filled, payload_at};
 
 use crate::walk::rows_into;
 use measurement_table::{WORDS, Words};
+use refusals::Refusal;
 
 const LONGEST: usize = 2048;
 
@@ -30,41 +32,26 @@ fn payload_into(s: &[u8], words: &mut Words) -> bool
     ensures { Filled (payload_at s.now (head_at s.now 0)) 0 words.old result words.new }
 {
     match wire_heads::read_head(s, 0) {
+        Some(head) => head.major == 5 && rows_into(s, head.next, head.arg, words),
         None => false,
-        Some(head) => {
-            if head.major != 5 {
-                return false;
-            }
-            rows_into(s, head.next, head.arg, words)
-        }
     }
 }
 
-// Stores what was read, where all of it is good: else the words stay as they were.
-fn store(words: &mut Words, found: &Words, good: bool)
-    ensures { words.new ≡ cond good found.now words.old }
-{
-    if good {
-        *words = *found;
-    }
-}
-
-// Reads a payload: 0, or the refusal 1, 2 or 3, which leaves the words as they were.
-pub fn read_measurement(s: &[u8], words: &mut Words) -> u64
-    ensures value { result ≡ read_number s.now }
+// Reads a payload, or says why it is refused: then the words stay as they were.
+pub fn read_measurement(s: &[u8], words: &mut Words) -> Result<(), Refusal>
+    ensures value { number_in result ≡ read_number s.now }
     ensures words_after { words.new ≡ read_after s.now words.old }
 {
     if !has_length(s.len()) {
-        return 1;
+        return Err(Refusal::BadLength);
     }
     if !is_item(s) {
-        return 2;
+        return Err(Refusal::BadCbor);
     }
     let mut found = [0u64; WORDS];
-    let good = payload_into(s, &mut found);
-    store(words, &found, good);
-    if !good {
-        return 3;
+    if !payload_into(s, &mut found) {
+        return Err(Refusal::BadMessage);
     }
-    0
+    *words = found;
+    Ok(())
 }

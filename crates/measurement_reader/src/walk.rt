@@ -16,7 +16,7 @@ const INNER: u64 = 6;
 
 const OUTER: u64 = 7;
 
-// Nothing in n places.
+// Nothing in n places. By a walk, since the contract counts places, of two words each.
 fn put_blanks(words: &mut Words, at: usize, n: usize)
     requires { at + n ≤ 36 }
     ensures { words.new ≡ sets words.old (2 * at) (flat (blanks n)) }
@@ -55,6 +55,7 @@ fn cells_into(
 }
 
 // The phases under an attribute, whose value stands at `at`.
+#[tactic(auto, using(crate::proofs::Fills::phases_no_head, crate::proofs::Fills::phases_map))]
 fn phases_into(
     s: &[u8],
     at: usize,
@@ -67,16 +68,13 @@ fn phases_into(
     ensures { Filled (phases_from s.now 6 range width (head_at s.now at)) (2 * place) words.old result words.new }
 {
     match wire_heads::read_head(s, at) {
-        None => false,
         Some(head) => {
-            if head.major != 5 {
-                return false;
-            }
-            if head.arg == 0 {
+            if head.major != 5 || head.arg == 0 {
                 return false;
             }
             cells_into(s, head.next, head.arg, range, width, place, words)
         }
+        None => false,
     }
 }
 

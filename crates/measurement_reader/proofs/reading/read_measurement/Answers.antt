@@ -16,17 +16,17 @@ returns-then-not-is_item c =
     read_item _ _ _ c.has_length.ensures c.if-not-has_length.false _ c.is_item.ensures c.if-not-is_item.true in
     record { value = both.0; words_after = both.1 }
 
-pub returns-then-not-good : goal.returns-then-not-good
-returns-then-not-good c =
+pub returns-then-not-payload_into : goal.returns-then-not-payload_into
+returns-then-not-payload_into c =
     let both =
     read_rows _ _ _ c.has_length.ensures c.if-not-has_length.false _ c.is_item.ensures c.if-not-is_item.false
-    (all_bytes _ c.type_inv.s) _ _ _ c.payload_into-good.ensures _ c.store.ensures c.if-not-good.true in
+    (all_bytes _ c.type_inv.s) _ _ _ c.payload_into.ensures c.if-not-payload_into.true in
     record { value = both.0; words_after = both.1 }
 
 pub returns : goal.returns
 returns c =
     let both =
     read_whole _ _ _ c.has_length.ensures c.if-not-has_length.false _ c.is_item.ensures c.if-not-is_item.false
-    (all_bytes _ c.type_inv.s) _ _ _ c.payload_into-good.ensures _ c.store.ensures (search rules)
-    c.if-not-good.false in
+    (all_bytes _ c.type_inv.s) _ _ _ c.payload_into.ensures (search rules)
+    c.if-not-payload_into.false in
     record { value = both.0; words_after = both.1 }

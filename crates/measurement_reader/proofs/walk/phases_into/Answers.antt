@@ -1,17 +1,11 @@
--- By the head: the cells of a map with pairs, and refused for anything else.
-use Rattle.measurement_reader.proofs.Fills.{phases-no_head, phases-no_map, phases-empty, phases-map}
+-- By the head: refused for no map, and for a map of no pairs.
+use mathlib.Core.Path.{◌≡◌}
+use mathlib.Core.Logic.{⊎_elim}
+use Rattle.measurement_reader.proofs.Fills.{phases_no_map, phases_empty}
 use Rattle.measurement_reader.proofs.walk.phases_into.Goals as goal
 
 pub returns-then-head-ne5 : goal.returns-then-head-ne5
-returns-then-head-ne5 c =
-    phases-no_map _ _ _ _ _ _ _ _ c.read_head.ensures _ _ _ c.in-Some.is c.if-head-ne5.true
-
-pub returns-then-head-eq0 : goal.returns-then-head-eq0
-returns-then-head-eq0 c = phases-empty _ _ _ _ _ _ _ _ c.read_head.ensures _ _ _ c.in-Some.is c.if-head-eq0.true
-
-pub returns-in-None : goal.returns-in-None
-returns-in-None c = phases-no_head _ _ _ _ _ _ _ _ c.read_head.ensures c.in-None.is
-
-pub returns-else-head-eq0 : goal.returns-else-head-eq0
-returns-else-head-eq0 c =
-    phases-map _ _ _ _ _ _ _ _ c.read_head.ensures _ _ _ c.in-Some.is c.if-head-ne5.false c.if-head-eq0.false _ c.cells_into.ensures
+returns-then-head-ne5 c = ⊎_elim
+    (λ z. phases_no_map _ _ _ _ _ _ _ _ c.read_head.ensures _ _ _ c.in-Some.is z)
+    (λ z. phases_empty _ _ _ _ _ _ _ _ c.read_head.ensures _ _ _ c.in-Some.is (let y : (c.in-Some.head.major ≡ 5) × (c.in-Some.head.arg ≡ 0) = z in y.1))
+    c.then-head-ne5.either
