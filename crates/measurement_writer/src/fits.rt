@@ -1,5 +1,6 @@
 // Whether words can be written: each mark means something, and each number is in the range of its row.
-ghost use Rattle.std.specs.Prelude.{◌≡◌, true, ◌+◌, ◌≤◌};
+ghost use Rattle.std.specs.Prelude.{◌≡◌, true, ◌+◌, ◌≤◌, MatchResult};
+ghost use Rattle.refusals.specs.declared.refusal.Refusal.{Refusal};
 ghost use Rattle.measurement_table.specs.Table.{rows, range_of};
 ghost use Rattle.measurement_table.specs.Cells.{cell_fits, cells_fit, rows_fit};
 ghost use Rattle.measurement_table.specs.Words.{held_at, held_from, held, marks_fit, range_number};
@@ -7,7 +8,7 @@ ghost use Rattle.measurement_writer.specs.Shape.{shaped};
 
 use crate::heads::cell_key_head;
 use measurement_table::{PLACES, ROWS, Row, Words, range_of, row_at};
-use refusals::BAD_MESSAGE;
+use refusals::Refusal;
 use wire_fields::{Range, all3, is_number};
 
 // No mark is above 2.
@@ -58,15 +59,13 @@ fn rows_fit(words: &Words) -> bool
     true
 }
 
-// The refusal of words, whatever the room: 3.
-pub fn range_number(words: &Words) -> u64
-    ensures { result ≡ range_number words.now }
+// Why words are refused, if they are, whatever the room.
+#[tactic(auto, unfolding(measurement_table::specs::Words::range_number))]
+pub fn check_ranges(words: &Words) -> Result<(), Refusal>
+    ensures { MatchResult result (λ _. range_number words.now ≡ 0) (λ e. (range_number words.now ≡ 3) × (e ≡ Refusal.BadMessage)) }
 {
-    if !marks_fit(words) {
-        return BAD_MESSAGE;
+    if marks_fit(words) && rows_fit(words) {
+        return Ok(());
     }
-    if !rows_fit(words) {
-        return BAD_MESSAGE;
-    }
-    0
+    Err(Refusal::BadMessage)
 }

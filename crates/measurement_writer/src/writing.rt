@@ -5,7 +5,7 @@ ghost use Rattle.wire_output.specs.Writing.{written_of, left_by};
 ghost use Rattle.measurement_table.specs.Payload.{item_of};
 ghost use Rattle.measurement_table.specs.Words.{held, range_number};
 
-use crate::fits::range_number;
+use crate::fits::check_ranges;
 use crate::puts::put_payload;
 use measurement_table::Words;
 use wire_output::{Written, refused, write_payload};
@@ -18,9 +18,8 @@ pub fn write_measurement(words: &Words, out: &mut [u8]) -> Written
     ensures value { result ≡ written_of (range_number words.now) (encode (item_of (held words.now))) (length out.old) }
     ensures out_after { out.new ≡ left_by (range_number words.now) (encode (item_of (held words.now))) out.old }
 {
-    let number = range_number(words);
-    if number != 0 {
-        return refused(number);
+    if let Err(refusal) = check_ranges(words) {
+        return refused(refusal.number());
     }
     let mut payload = [0u8; ROOM];
     let n = put_payload(&mut payload, words);
