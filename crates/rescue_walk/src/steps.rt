@@ -26,12 +26,9 @@ fn run_end(s: &[u8], at: usize) -> usize
     requires { at ≤ length s.now }
     ensures { result ≡ at + run_len (drop at s.now) }
 {
-    for e in at..s.len() {
-        if record_end(s, e).is_some() {
-            return e;
-        }
-    }
-    s.len()
+    (at..s.len())
+        .find(|e| record_end(s, *e).is_some())
+        .unwrap_or(s.len())
 }
 
 // Behind the next piece.
