@@ -61,7 +61,7 @@ function parts(l) {
 function function_name(l) { l = up_to_parameters(l); sub(/^[^@]*@"?/, "", l); sub(/"?\($/, "", l); return l }
 
 /^define / {
-    if ($0 !~ / #0 \{$/ || $0 ~ /align|noalias/) refuse("a function of another form: " $0)
+    if ($0 !~ / #[01] \{$/ || $0 ~ /align|noalias/) refuse("a function of another form: " $0)
     name = function_name($0)
     split("", aligned); split("", size); split("", base); split("", offset); split("", parameter)
     count = parts($0)
@@ -75,6 +75,8 @@ function function_name(l) { l = up_to_parameters(l); sub(/^[^@]*@"?/, "", l); su
     next
 }
 /^}$/ { inside = 0 }
+# a small function of the library is always put in line: that says who is inlined, and nothing of a pointer
+/^attributes #[01] = / && !/^attributes #[01] = \{ (alwaysinline )?nounwind / { refuse("attributes of another form: " $0) }
 !inside { line[NR] = $0; next }
 / = alloca / {
     if (!/^  %r[0-9]+ = alloca (\[[0-9]+ x i8\]|i8|i16|i32|i64|ptr|float|double), align (1|2|4|8|16)$/) refuse("a local of another form: " $0)
@@ -144,7 +146,8 @@ END {
                 sub(/^ptr /, lent (needs[name, k] > 1 ? "align " needs[name, k] " " : ""), part[k])
                 front = front (k > 1 ? ", " : "") part[k]
             }
-            l = front ") #0 {"
+            match(l, / #[01] \{$/)
+            l = front ")" substr(l, RSTART)
         }
         print l
     }
