@@ -15,12 +15,12 @@ pub fn all(d: &State) -> State
     *d
 }
 
-// A word, 0 past the last.
+// A word, 0 past the last. By index: an optional reference has another layout where pointers have 32 bits.
 fn word(d: &State, i: usize) -> u64
     ensures { result ≡ get_or d.now i 0 }
 {
     let _a = all(d);
-    d.get(i).copied().unwrap_or(0)
+    if i < WORDS { d[i] } else { 0 }
 }
 
 // The second of the last accepted call.

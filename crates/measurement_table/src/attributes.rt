@@ -49,12 +49,13 @@ const TABLE: [Row; ROWS] = [
     Row(60, 1, INT16), // temperature
 ];
 
-// The row k; past the end a row of no places.
+// The row k; past the end a row of no places. By index, here and below: an optional reference has another layout where pointers
+// have 32 bits.
 #[tactic(auto, unfolding(crate::specs::Rows::rows))]
 pub fn row_at(k: usize) -> Row
     ensures { result ≡ get_or rows k no_row }
 {
-    TABLE.get(k).copied().unwrap_or(Row(0, 0, 0))
+    if k < ROWS { TABLE[k] } else { Row(0, 0, 0) }
 }
 
 const KINDS: usize = 6;
@@ -92,6 +93,9 @@ const RANGES: [Range; KINDS] = [
 pub fn range_of(kind: usize) -> Range
     ensures { result ≡ range_of kind }
 {
-    let none = Range { below: 0, high: 0 };
-    RANGES.get(kind).copied().unwrap_or(none)
+    if kind < KINDS {
+        RANGES[kind]
+    } else {
+        Range { below: 0, high: 0 }
+    }
 }

@@ -70,9 +70,10 @@ const TABLE: [Row; ROWS] = [
 ];
 
 // The k-th row, so that the table is read in one place; past the last an optional attribute 0, which there is not.
+// By index: an optional reference has another layout where pointers have 32 bits.
 #[tactic(auto, unfolding(crate::specs::Attributes::rows))]
 pub fn row_at(k: usize) -> Row
     ensures { result ≡ get_or rows k no_row }
 {
-    TABLE.get(k).copied().unwrap_or(Row(0, Optional))
+    if k < ROWS { TABLE[k] } else { Row(0, Optional) }
 }

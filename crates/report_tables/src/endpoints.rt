@@ -27,12 +27,17 @@ const TABLE: [Cells; TYPES] = [
     Cells(0, 0), // SUB_METER
 ];
 
-// The bits that an endpoint type requires, as a map; none past the last type.
+// The bits that an endpoint type requires, as a map; none past the last type. By index, here and below: an optional reference has
+// another layout where pointers have 32 bits.
 #[tactic(auto, unfolding(crate::specs::Endpoints::required))]
 pub fn required_bits(endpoint: u64) -> u64
     ensures { result ≡ mask (bits_of required endpoint) }
 {
-    TABLE.get(endpoint as usize).map_or(0, |c| u64::from(c.0))
+    if endpoint < TYPES as u64 {
+        u64::from(TABLE[endpoint as usize].0)
+    } else {
+        0
+    }
 }
 
 // The bits that an endpoint type forbids, as a map; none past the last type.
@@ -40,5 +45,9 @@ pub fn required_bits(endpoint: u64) -> u64
 pub fn invalid_bits(endpoint: u64) -> u64
     ensures { result ≡ mask (bits_of invalid endpoint) }
 {
-    TABLE.get(endpoint as usize).map_or(0, |c| u64::from(c.1))
+    if endpoint < TYPES as u64 {
+        u64::from(TABLE[endpoint as usize].1)
+    } else {
+        0
+    }
 }
