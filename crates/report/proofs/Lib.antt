@@ -5,6 +5,7 @@ pub mod Tables
 pub mod Candidates
 pub mod Counts
 pub mod Writes
+pub mod Listed
 pub mod Answers
 -- The proofs of the laws, for callers to cite.
 pub mod Members

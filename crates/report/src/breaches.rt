@@ -4,12 +4,12 @@ ghost use Rattle.std.proofs.lemmas.List.Edits.{sets};
 ghost use Rattle.report_tables.specs.Endpoints.{types};
 ghost use Rattle.report_tables.specs.Attributes.{row_count, rows, no_row};
 ghost use Rattle.report.specs.Sizes.{pair_count};
-ghost use Rattle.report.specs.Lists.{member, front};
-ghost use Rattle.report.specs.Rules.{lacks_attribute, broken, candidates, no_pair, breaches};
+ghost use Rattle.report.specs.Lists.{flagged, front};
+ghost use Rattle.report.specs.Rules.{lacks_attribute, broken, candidates, no_pair, broken_in};
 ghost use Rattle.report.specs.Report.{flat};
 
 use crate::Inputs;
-use crate::attributes::meets;
+use crate::attributes::{flag, meets};
 use crate::bit_rules::broken_bit;
 use crate::sizes::{ATTRIBUTE_GROUP, BIT_GROUPS};
 use report_tables::{BITS, ROWS, Row, row_at};
@@ -49,18 +49,18 @@ fn candidate(k: usize) -> Pair
 
 // Group 6: whether the attribute of a row is mandatory and not listed.
 #[tactic(auto, using(crate::proofs::Tables::row_condition), unfolding(crate::specs::Rules::lacks_attribute, crate::specs::Attributes::mandatory))]
-fn lacks_attribute(i: Inputs, listed: &[u16], k: usize) -> bool
+fn lacks_attribute(i: Inputs, listed: &[bool], k: usize) -> bool
     requires { k < row_count }
-    ensures { result ≡ lacks_attribute i (λ n. member n listed.now) (get_or rows k no_row).0 }
+    ensures { result ≡ lacks_attribute i (flagged listed.now) (get_or rows k no_row).0 }
 {
     let Row(number, condition) = row_at(k);
-    i.endpoint != DEVICE_ROOT && meets(i, condition) && !listed.contains(&u16::from(number))
+    i.endpoint != DEVICE_ROOT && meets(i, condition) && !flag(listed, usize::from(number))
 }
 
 // Whether the rule of the k-th pair is broken.
-fn is_broken(i: Inputs, listed: &[u16], k: usize) -> bool
+fn is_broken(i: Inputs, listed: &[bool], k: usize) -> bool
     requires { (i.endpoint < types) × (k < pair_count) }
-    ensures { result ≡ broken i (λ n. member n listed.now) (get_or candidates k no_pair) }
+    ensures { result ≡ broken i (flagged listed.now) (get_or candidates k no_pair) }
 {
     if k < BIT_PAIRS {
         return broken_bit(i, k / BITS, (k % BITS) as u64);
@@ -69,9 +69,9 @@ fn is_broken(i: Inputs, listed: &[u16], k: usize) -> bool
 }
 
 // How many pairs the report has.
-pub fn count(i: Inputs, listed: &[u16]) -> usize
+pub fn count(i: Inputs, listed: &[bool]) -> usize
     requires { i.endpoint < types }
-    ensures { result ≡ length (breaches i listed.now) }
+    ensures { result ≡ length (broken_in i (flagged listed.now) candidates) }
 {
     let mut n: usize = 0;
     for k in 0..CANDIDATES {
@@ -91,10 +91,10 @@ fn put(pairs: &mut [u64], at: usize, p: Pair)
 }
 
 // The report's pairs, from the front of the buffer, which has the room.
-pub fn write(i: Inputs, listed: &[u16], pairs: &mut [u64])
+pub fn write(i: Inputs, listed: &[bool], pairs: &mut [u64])
     requires endpoint_lt_types { i.endpoint < types }
-    requires candidates_in_bounds { length (flat (breaches i listed.now)) ≤ length pairs.old }
-    ensures { pairs.new ≡ front (flat (breaches i listed.now)) pairs.old }
+    requires candidates_in_bounds { length (flat (broken_in i (flagged listed.now) candidates)) ≤ length pairs.old }
+    ensures { pairs.new ≡ front (flat (broken_in i (flagged listed.now) candidates)) pairs.old }
 {
     let mut at: usize = 0;
     for k in 0..CANDIDATES {

@@ -11,10 +11,11 @@ ghost use Rattle.std.specs.Prelude.{◌≡◌, length};
 ghost use Rattle.report.specs.Lists.{ascends};
 ghost use Rattle.report.specs.Report.{in_range, report_of, pairs_after};
 
+use attributes::mark_listed;
 use breaches::{count, write};
 use refusals::{BAD_SETTINGS, NO_SPACE, NOT_ASCENDING};
 use report_tables::{MAPS, TYPES};
-use sizes::{DIRECTIONS, PHASES};
+use sizes::{DIRECTIONS, NUMBERS, PHASES};
 
 // What a device says of itself. Numbers are wider than their ranges, so that one out of range can be told and refused.
 #[repr(C)]
@@ -73,14 +74,16 @@ pub fn report(inputs: Inputs, attributes: &[u16], pairs: &mut [u64]) -> Answer
             count: 0,
         };
     }
-    let n = count(inputs, attributes);
+    let mut listed = [false; NUMBERS];
+    mark_listed(attributes, &mut listed);
+    let n = count(inputs, &listed);
     if pairs.len() < 2 * n {
         return Answer {
             number: NO_SPACE,
             count: 0,
         };
     }
-    write(inputs, attributes, pairs);
+    write(inputs, &listed, pairs);
     Answer {
         number: 0,
         count: n as u64,

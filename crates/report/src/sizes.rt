@@ -8,3 +8,6 @@ pub const DIRECTIONS: u64 = 3;
 pub const BIT_GROUPS: usize = 5;
 
 pub const ATTRIBUTE_GROUP: u64 = BIT_GROUPS as u64 + 1;
+
+// One more than the largest attribute number.
+pub const NUMBERS: usize = 82;

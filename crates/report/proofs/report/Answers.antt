@@ -1,7 +1,6 @@
 -- Each return is one end of the call: 16, 17, 15 or the report.
-use mathlib.Core.Path.{refl}
 use native.Mathlib.Omega.{arith}
-use Rattle.report.specs.Rules.{breaches}
+use Rattle.report.proofs.Listed.{by_flags}
 use Rattle.report.proofs.Answers.{judged_type, few, room, ends-16, ends-17, ends-15, ends-0}
 use Rattle.report.proofs.report.Goals as goal
 
@@ -21,13 +20,12 @@ pub count-n-requires : goal.count-n-requires
 count-n-requires c = judged_type _ c.in_range.ensures c.if-not-in_range.false
 
 pub overflow_mul-n : goal.overflow_mul-n
-unfolding breaches
 overflow_mul-n c = omega (arith, few _ _ c.count-n.ensures)
 
 pub returns-then-pairs-n : goal.returns-then-pairs-n
 returns-then-pairs-n c =
     let both =
-    ends-15 _ _ _ c.in_range.ensures c.ascending.ensures c.if-not-in_range.false _ refl
+    ends-15 _ _ _ c.in_range.ensures c.ascending.ensures c.if-not-in_range.false _ (by_flags _ _ _ c.mark_listed.ensures)
     c.count-n.ensures c.if-not-ascending.false c.if-pairs-n.true in
     record { value = both.0; pairs_after = both.1 }
 
@@ -41,6 +39,6 @@ write-requires c =
 pub returns : goal.returns
 returns c =
     let both =
-    ends-0 _ _ _ c.in_range.ensures c.ascending.ensures c.if-not-in_range.false _ refl c.count-n.ensures
+    ends-0 _ _ _ c.in_range.ensures c.ascending.ensures c.if-not-in_range.false _ (by_flags _ _ _ c.mark_listed.ensures) c.count-n.ensures
     c.if-not-ascending.false _ c.write.ensures c.if-pairs-n.false in
     record { value = both.0; pairs_after = both.1 }

@@ -1,6 +1,5 @@
 -- What was counted and what is left from each place on make the whole.
 use native.Mathlib.Omega.{arith}
-use Rattle.report.specs.Rules.{breaches}
 use Rattle.report.proofs.Counts.{counted, passed, end}
 use Rattle.report.proofs.breaches.count.Goals as goal
 use Rattle.report.proofs.breaches.count.Goals.{then-is_broken, else-is_broken}
@@ -13,5 +12,4 @@ loop-k-preserved c =
     ]
 
 pub returns : goal.returns
-unfolding breaches
 returns c = end c.loop-k.invariant.1 (omega arith)

@@ -1,13 +1,11 @@
 -- What was written and what is left from each place on make the whole.
 use mathlib.Core.Path.{◌∙◌}
 use native.Mathlib.Omega.{arith}
-use Rattle.report.specs.Rules.{breaches}
 use Rattle.report.proofs.Writes.{start, room_for, stored, passed, end}
 use Rattle.report.proofs.breaches.write.Goals as goal
 use Rattle.report.proofs.breaches.write.Goals.{then-is_broken, else-is_broken}
 
 pub loop-k-init : goal.loop-k-init
-unfolding breaches
 loop-k-init c = (omega arith, start _ _ _ c.requires.candidates_in_bounds)
 
 pub put-requires : goal.put-requires
@@ -27,5 +25,4 @@ loop-k-preserved c =
     ]
 
 pub returns : goal.returns
-unfolding breaches
 returns c = end c.loop-k.invariant.1 (omega arith)
