@@ -151,7 +151,11 @@ fn link(d: &mut State, zone: u64, up: bool, t: u64) -> Result<(), Refusal>
     ensures d_after { d.new ≡ link_after d.old zone up t }
 {
     in_order(d, t)?;
-    let slot = slot_of_zone(d, zone)?;
+    // By hand: out of a Result the compiler no longer knows that the slot is one, and copies the whole record.
+    let slot = device_store::slot_of_joined(d, zone);
+    if SLOTS <= slot {
+        return Err(Refusal::NotJoined);
+    }
     if device_store::up_at(d, slot) == up {
         return Err(Refusal::Already);
     }
