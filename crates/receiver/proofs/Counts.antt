@@ -3,19 +3,18 @@ use Prim.Native.Nat.{ℕ, ◌+◌, ◌-◌, ◌^◌, ◌≤◌, ◌<◌}
 use mathlib.Core.Path.{◌≡◌, refl, sym, ap, ◌∙◌}
 use mathlib.Core.Bool.{Bool, true, false}
 use mathlib.Core.Logic.{⊎_elim}
-use mathlib.Core.List.{List, ◌++◌, append_assoc}
+use mathlib.Core.List.{List, ◌++◌}
+use native.Mathlib.Nat.{pow-le-pow_right}
 use native.Mathlib.Omega.{arith}
-use lib.ListN.{length, get_or, take, drop, length-append, get_or-append}
+use lib.ListN.{length, get_or, take, length-append, get_or-append}
 use lib.Seq.{length-take-le, get_or-take, get_or-append-add}
-use Rattle.std.proofs.lemmas.List.{take-append-drop}
 use lib.Dec.{leb, ltb, eqb}
 use borrow.Author.Tests.{ltb-true, ltb-false, leb-true, eqb-true, eqb-false, lt-ltb, le-ltb, le-leb, lt-leb, eq-eqb, ne_eqb}
-use Rattle.wire_bytes.specs.Bytes.{number_at, put_whole, past_whole, Bytes}
+use Rattle.wire_bytes.specs.Bytes.{number_at, Bytes}
 use Rattle.wire_bytes.proofs.Order.{below}
 use Rattle.wire_bytes.proofs.NumberLaws.{number_small}
-use Rattle.wire_bytes.proofs.PutLaws.{put_whole_lem, puts_join, put-stands}
 use Rattle.wire_prefix.specs.Prefix.{end_of}
-use Rattle.wire_prefix.proofs.Ends.{no_both, end_read, end_stays}
+use Rattle.wire_prefix.proofs.Ends.{no_both}
 use Rattle.receiver.specs.declared.record.Record.{Record}
 use Rattle.receiver.specs.Receive.{fresh, is_open, end_for, record_at, length_at}
 
@@ -103,43 +102,17 @@ module _ (have : ℕ) (room scrap : List ℕ) (l : have ≤ length room) where
       rw (ap (λ (i : ℕ). get_or (take have room ++ scrap) i 0) (sym e) ∙ get_or-append-add (take have room) scrap (k - have) 0) (b (k - have)))
       (below k have)
 
-  -- a prefix of which a part stands in the room, put together in four bytes
-  module _ (z p q : List ℕ) (four : length z ≡ 4) (few : have ≤ 4) (enough : 4 ≤ have + length scrap)
-      (first : p ≡ put_whole z 0 (take have room)) (then : q ≡ put_whole p have (take (4 - have) scrap)) where
-    abbrev both : List ℕ
-    both = take have room ++ take (4 - have) scrap
+  pub byte_held : (i : ℕ) → i < have → get_or room i 0 ≡ get_or (take have room ++ scrap) i 0
+  byte_held i b = sym (get_or-append (take have room) scrap 0 i (omega (arith, held_length)) ∙ get_or-take have room i 0 b)
 
-    both_length : length both ≡ 4
-    both_length = omega (arith, length-append (take have room) (take (4 - have) scrap), held_length, length-take-le (4 - have) scrap (omega arith))
+  pub byte_new : (i : ℕ) → have ≤ i → get_or scrap (i - have) 0 ≡ get_or (take have room ++ scrap) i 0
+  byte_new i b =
+      let e : length (take have room) + (i - have) ≡ i = omega (arith, held_length) in
+      sym (get_or-append-add (take have room) scrap (i - have) 0) ∙ ap (λ (k : ℕ). get_or (take have room ++ scrap) k 0) e
 
-    joined : q ≡ put_whole z 0 both
-    joined =
-        let a = put_whole_lem z (take have room) 0 (omega (arith, held_length)) in
-        let e : have ≡ past_whole z 0 (take have room) = omega (arith, held_length, a.1) in
-        then ∙ ap (λ (t : List ℕ). put_whole t have (take (4 - have) scrap)) first
-        ∙ ap (λ (k : ℕ). put_whole (put_whole z 0 (take have room)) k (take (4 - have) scrap)) e
-        ∙ (puts_join z (take have room) (take (4 - have) scrap) 0 (omega (arith, both_length))).0
-
-    abbrev rest : List ℕ
-    rest = drop (past_whole z 0 both) (put_whole z 0 both)
-
-    begins : q ≡ both ++ rest
-    begins = joined ∙ (put-stands z both 0 (omega (arith, both_length))).bytes
-
-    whole : take have room ++ scrap ≡ both ++ drop (4 - have) scrap
-    whole = ap (λ (t : List ℕ). take have room ++ t) (sym (take-append-drop (4 - have) scrap)) ∙ sym (append_assoc (take have room) (take (4 - have) scrap) (drop (4 - have) scrap))
-
-    pub end-told : 4 + number_at q 0 4 ≡ end_of (take have room ++ scrap)
-    end-told =
-        let n : 4 ≤ length q = omega (arith, ap length begins, length-append both rest, both_length) in
-        end_read q n ∙ ap end_of begins ∙ end_stays both rest (omega (arith, both_length))
-        ∙ sym (ap end_of whole ∙ end_stays both (drop (4 - have) scrap) (omega (arith, both_length)))
-
-    pub end-fits : Bytes room → Bytes scrap → 4 + number_at q 0 4 < 2 ^ 64
-    end-fits a b =
-        let small = number_small (take have room ++ scrap) (bytes_both a b) 4 0 in
-        let read = end_read (take have room ++ scrap) (omega (arith, length_both)) in
-        omega (arith, small, read, end-told)
+  -- the number of the first i bytes
+  pub payload_fits : Bytes room → Bytes scrap → (i : ℕ) → i ≤ 4 → number_at (take have room ++ scrap) 0 i < 2 ^ 32
+  payload_fits a b i h = omega (arith, number_small (take have room ++ scrap) (bytes_both a b) i 0, pow-le-pow_right {n = 256} (omega arith) h)
 
 module _ (r : Record) (room scrap : List ℕ) where
   pub end-new : r.need ≡ 0 → end_of (take r.have room ++ scrap) ≡ end_for r room scrap
