@@ -13,6 +13,10 @@ fn width_of(n: u64) -> usize
     ensures value { result ≡ width_in 19 n }
     ensures upper_bound { result ≤ most_digits }
 {
+    // Most numbers of an answer have one digit, and the logarithm costs more than to see that.
+    if n < 10 {
+        return 1;
+    }
     match n.checked_ilog10() {
         Some(power) => power as usize + 1,
         None => 1,

@@ -1,6 +1,8 @@
 // Numbers read: the bytes at a position, most significant first. A byte past the end counts as 0.
-ghost use Rattle.std.specs.Prelude.{◌≡◌, ◌+◌, ◌<◌, ◌≤◌, get_or};
+ghost use Rattle.std.specs.Prelude.{◌≡◌, ◌+◌, ◌<◌, ◌≤◌, length, get_or};
 ghost use Rattle.wire_bytes.specs.Bytes.{number_at};
+
+use crate::room::has_room;
 
 // The byte at `at`.
 pub fn byte_at(s: &[u8], at: usize) -> u64
@@ -18,11 +20,26 @@ fn byte_behind(s: &[u8], at: usize, i: usize) -> u64
     at.checked_add(i).map_or(0, |p| byte_at(s, p))
 }
 
-// The number that `W` bytes at `at` say, byte by byte.
+// The number that `W` bytes at `at` say, which are all there: no byte is tested.
+fn whole<const W: usize>(s: &[u8], at: usize) -> u64
+    requires { (W ≤ 8) × (at + W ≤ length s.now) }
+    ensures { result ≡ number_at s.now at W }
+{
+    let mut n = 0;
+    for i in 0..W {
+        n = n * 256 + u64::from(s[at + i]);
+    }
+    n
+}
+
+// The number that `W` bytes at `at` say, byte by byte where they are not all there.
 fn number<const W: usize>(s: &[u8], at: usize) -> u64
     requires { W ≤ 8 }
     ensures { result ≡ number_at s.now at W }
 {
+    if has_room(s.len(), at, W) {
+        return whole::<W>(s, at);
+    }
     let mut n = 0;
     for i in 0..W {
         n = n * 256 + byte_behind(s, at, i);
