@@ -33,8 +33,11 @@ pub enum Form {
 fn form_of(info: u64) -> Form
     ensures { result ≡ form_of info }
 {
+    // By an `if`: most items are one byte, and a `match` over all would look at the wider forms first.
+    if info < 24 {
+        return Form::Itself;
+    }
     match info {
-        0..24 => Form::Itself,
         24 => Form::Behind(1, 24),
         25 => Form::Behind(2, 256),
         26 => Form::Behind(4, 65536),

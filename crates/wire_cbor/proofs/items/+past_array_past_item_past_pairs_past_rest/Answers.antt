@@ -1,11 +1,12 @@
 -- `past_item`, `past_rest`, `past_array` and `past_pairs` call each other. Assumes nothing.
-use Rattle.wire_cbor.proofs.ItemSteps.{item_rest, item_ends, head-ends, key_ends, ended, refused, head-rest, items_none, items_bad, items_next}
+use Rattle.wire_cbor.proofs.ItemSteps.{item_rest, item_ends, head-ends, key_ends, ended, refused, items_none, items_bad, items_next}
 use Rattle.wire_cbor.proofs.ItemSteps.{pairs-none, pairs-key, pairs-bad, pairs_next, item_no_head, rest_flat, rest_string, rest_deep, rest_array, rest_pairs}
 use Rattle.std.proofs.Common.{◌≡◌, ◌+◌, ◌-◌, arith, ap, sym, ◌∙◌}
 use Rattle.wire_cbor.specs.Item.{item_at, end_of}
 use Rattle.wire_heads.specs.Key.{least}
 use Rattle.wire_bytes.proofs.NumberLaws.{all_bytes}
 use Rattle.wire_cbor.proofs.items.+past_array_past_item_past_pairs_past_rest.Goals as goal
+use Rattle.wire_cbor.proofs.items.+past_array_past_item_past_pairs_past_rest.Goals.{past_item-else-head-ge2-via-then-head-ge2+else-head-le5, past_item-else-head-ge2-via-else-head-ge2}
 
 pub past_array-past_item-requires : goal.past_array-past_item-requires
 past_array-past_item-requires t c = (omega (arith, c.loop-i.invariant.1, c.decreases), tt)
@@ -37,30 +38,22 @@ pub past_item-returns-in_err-head : goal.past_item-returns-in_err-head
 past_item-returns-in_err-head t c =
     c.from_residual.ensures ∙ ap end_of (item_no_head c.args.s.now c.args.depth c.args.at _ c.read_head.ensures c.in_err-head.was)
 
-pub past_item-returns-then-head-lt2 : goal.past_item-returns-then-head-lt2
-past_item-returns-then-head-lt2 t c =
-    item_rest c.args.s.now c.args.depth c.args.at _ c.read_head.ensures _ c.in_ok-head.was _
-    (rest_flat c.args.s.now _ _ _ c.args.depth (λ g l. omega arith))
-
-pub past_item-returns-then-head-eq7 : goal.past_item-returns-then-head-eq7
-past_item-returns-then-head-eq7 t c =
-    item_rest c.args.s.now c.args.depth c.args.at _ c.read_head.ensures _ c.in_ok-head.was _
-    (rest_flat c.args.s.now _ _ _ c.args.depth (λ g l. omega arith))
-
 pub past_item-past_rest-requires : goal.past_item-past_rest-requires
 past_item-past_rest-requires t c =
-    let h = head-ends c.args.s.now (all_bytes _ c.type_inv.s) c.args.at _ _ _ _ c.read_head.ensures c.in_ok-head.was in (
-      omega (arith, h.0, h.1, c.decreases),
-      (
-        omega arith,
-        head-rest c.args.s.now (all_bytes _ c.type_inv.s) c.args.at _ _ _ _ c.read_head.ensures c.in_ok-head.was c.if-head-eq7.false,
-        h.1,
-      ),
-    )
+    let h = head-ends c.args.s.now (all_bytes _ c.type_inv.s) c.args.at _ _ _ _ c.read_head.ensures c.in_ok-head.was in
+    (omega (arith, h.0, h.1, c.decreases), (omega arith, omega arith, h.1))
+
+pub past_item-returns-then-head-le5 : goal.past_item-returns-then-head-le5
+past_item-returns-then-head-le5 t c =
+    item_rest c.args.s.now c.args.depth c.args.at _ c.read_head.ensures _ c.in_ok-head.was _ c.past_rest.ensures
 
 pub past_item-returns : goal.past_item-returns
 past_item-returns t c =
-    item_rest c.args.s.now c.args.depth c.args.at _ c.read_head.ensures _ c.in_ok-head.was _ c.past_rest.ensures
+    item_rest c.args.s.now c.args.depth c.args.at _ c.read_head.ensures _ c.in_ok-head.was _
+    (rest_flat c.args.s.now _ _ _ c.args.depth (λ g l. elim c.else-head-ge2.branch [
+      | past_item-else-head-ge2-via-then-head-ge2+else-head-le5 w ↦ omega (arith, w.if-head-le5.false)
+      | past_item-else-head-ge2-via-else-head-ge2 w ↦ omega (arith, w.if-head-ge2.false)
+    ]))
 
 pub past_pairs-returns-in_err-key : goal.past_pairs-returns-in_err-key
 past_pairs-returns-in_err-key t c =
