@@ -21,40 +21,17 @@ pub record RunOn (s : List ℕ) (at e : ℕ) : Type 0 where
   pub within : e ≤ length s
   pub same : e + run_len (drop e s) ≡ at + run_len (drop at s)
 
-module _ (s : List ℕ) (at : ℕ) (within : at ≤ length s) where
-  step_on : (e : ℕ) → RunOn s at e → (o : Option ℕ) → o ≡ record_end s e → is_some o ≡ false → e < length s → RunOn s at (e + 1)
-  step_on e r (Some n) q b l = absurd (let f : ◌≡◌ {A = ℕ} 0 1 = cc in omega arith)
-  step_on e r None q b l = let k = run_on s e l (end_none s e (sym q)) in record { within = omega arith; same = omega (arith, r.same) }
+module _ (s : List ℕ) (at e : ℕ) (r : RunOn s at e) where
+  pub run-again : e < length s → (o : Option ℕ) → o ≡ record_end s e → is_some o ≡ false → RunOn s at (e + 1)
+  run-again l (Some n) q b = absurd (let f : ◌≡◌ {A = ℕ} 0 1 = cc in omega arith)
+  run-again l None q b = let k = run_on s e l (end_none s e (sym q)) in record { within = omega arith; same = omega (arith, r.same) }
 
-  -- no record starts at the n bytes from `at` on
-  along : (n : ℕ) → at + n ≤ length s → ((k : ℕ) → at ≤ k → k < at + n → is_some (record_end s k) ≡ false) → RunOn s at (at + n)
-  along zero l h =
-      let is : at ≡ at + 0 = omega arith in
-      subst (RunOn s at) is (record { within = within; same = refl })
-  along (suc n) l h =
-      let is : at + n + 1 ≡ at + suc n = omega arith in
-      subst (RunOn s at) is (step_on (at + n) (along n (omega arith) (λ k a b. h k a (omega arith))) (record_end s (at + n)) refl (h (at + n) (omega arith) (omega arith)) (omega arith))
+  pub run-found : (o : Option ℕ) → o ≡ record_end s e → is_some o ≡ true → e ≡ at + run_len (drop at s)
+  run-found (Some n) q b = let k = run-stop (drop e s) (end-some s e n (sym q)).0 in omega (arith, r.same)
+  run-found None q b = absurd (let f : ◌≡◌ {A = ℕ} 0 1 = cc in omega arith)
 
-  along_to : (e : ℕ) → at ≤ e → e ≤ length s → ((k : ℕ) → at ≤ k → k < e → is_some (record_end s k) ≡ false) → RunOn s at e
-  along_to e a l h =
-      let is : at + (e - at) ≡ e = omega arith in
-      subst (RunOn s at) is (along (e - at) (omega arith) (λ k x y. h k x (omega arith)))
-
-  stops_at : (e : ℕ) → RunOn s at e → (o : Option ℕ) → o ≡ record_end s e → is_some o ≡ true → e ≡ at + run_len (drop at s)
-  stops_at e r (Some n) q b = let k = run-stop (drop e s) (end-some s e n (sym q)).0 in omega (arith, r.same)
-  stops_at e r None q b = absurd (let f : ◌≡◌ {A = ℕ} 0 1 = cc in omega arith)
-
-  -- the first position from `at` on at which one starts, or the script's end
-  pub run_first : (o : Option ℕ)
-      → MatchOption o ((k : ℕ) → at ≤ k → k < length s → is_some (record_end s k) ≡ false)
-      (λ i. (at ≤ i) × (i < length s) × (is_some (record_end s i) ≡ true) × ((k : ℕ) → at ≤ k → k < i → is_some (record_end s k) ≡ false))
-      → unwrap_or o (length s) ≡ at + run_len (drop at s)
-  run_first None h =
-      let r = along_to (length s) within (omega arith) h in
-      let k = run_end s (length s) (omega arith) in
-      omega (arith, r.same)
-  run_first (Some i) h =
-      stops_at i (along_to i h.0 (omega (arith, h.1)) h.3) (record_end s i) refl h.2
+  pub run-over : length s ≤ e → length s ≡ at + run_len (drop at s)
+  run-over h = let k = run_end s e h in omega (arith, r.within, r.same)
 
 -- next
 pub cursor_eq : {a b c a' b' c' : ℕ} → a ≡ a' → b ≡ b' → c ≡ c'

@@ -1,15 +1,14 @@
 -- What is written piece by piece, and what `rescue` answers. Assumes nothing.
 use Prim.Native.Nat.{ℕ, ◌+◌, ◌-◌, ◌*◌, ◌≤◌, ◌<◌}
 use mathlib.Core.Path.{◌≡◌, refl, sym, ap, ◌∙◌}
-use mathlib.Core.List.{List, [], ◌∷◌, ◌++◌, append_assoc}
+use mathlib.Core.List.{List, [], ◌∷◌, ◌++◌}
 use native.Mathlib.Numerals.{add-one}
 use native.Mathlib.Omega.{arith}
 use lib.ListN.{length, take, drop, set, length-drop, drop_of_length-le}
-use lib.Seq.{length-take-le, drop-drop, sets-eq}
-use borrow.Rule.Slice.PartMut.{put_mid}
+use lib.Seq.{take_all}
 use borrow.Author.Tests.{eq-eqb, ne_eqb, lt-ltb, le-ltb}
-use Rattle.wire_bytes.specs.Bytes.{put}
-use Rattle.wire_bytes.proofs.PutLaws.{put-put}
+use Rattle.wire_bytes.specs.Bytes.{put, put_whole}
+use Rattle.wire_bytes.proofs.PutLaws.{put-put, put_whole_lem}
 use Rattle.rescue_walk.specs.declared.steps.Cursor.{Cursor}
 use Rattle.rescue_walk.specs.declared.scripts.Rescued.{Rescued}
 use Rattle.rescue_walk.specs.Walk.{Piece, copied, passed, walk, kept, runs_from, run_count, rescued, runs}
@@ -61,26 +60,12 @@ two-put : (d : List ℕ) (i x y : ℕ) → set (set d i x) (i + 1) y ≡ put d i
 unfolding put
 two-put d i x y = rw (add-one i)
 
--- what stands at a place is written over
-put-mid : (d xs : List ℕ) (p : ℕ) → p + length xs ≤ length d → put d p xs ≡ put_mid p (length xs) d xs
-unfolding put
-put-mid d xs p h =
-    sets-eq xs d p h ∙ append_assoc (take p d) xs (drop (p + length xs) d)
-    ∙ ap (λ (l : List ℕ). take p d ++ (xs ++ l)) (sym (drop-drop (length xs) p d))
-
 -- a piece
 record A-record (s out : List ℕ) (c n : Cursor) : Type 0 where
   is : 0 < record_here s c
   ends : n.at ≡ c.at + record_here s c
-  keeps : n.kept ≡ c.kept + record_here s c
   within : n.at ≤ length s
   fits : c.kept + record_here s c ≤ length out
-
-pub record Copies (s out : List ℕ) (c n : Cursor) : Type 0 where
-  pub starts : c.kept ≤ n.kept
-  pub fits : n.kept ≤ length out
-  pub within : n.at ≤ length s
-  pub alike : n.kept - c.kept ≡ n.at - c.at
 
 record A-pass (s rep : List ℕ) (c n : Cursor) : Type 0 where
   is : record_here s c ≡ 0
@@ -100,7 +85,7 @@ module _ (s out rep : List ℕ) (c n : Cursor) (room : Room s out rep c) (e : n 
           let k = ap (λ (x : Cursor). x.at) q in
           let x = kept_cons (record_bytes s c) (walk (behind_record s c)) in
           let a = rw (w, x, record-bytes s c p) at room.out_room in
-          record { is = p; ends = k; keeps = ap (λ (x : Cursor). x.kept) q; within = omega arith; fits = omega (arith, a) }
+          record { is = p; ends = k; within = omega arith; fits = omega (arith, a) }
 
   put-run : (n.runs ≡ c.runs → ⊥) → A-pass s rep c n
   put-run other = go is_next
@@ -113,32 +98,19 @@ module _ (s out rep : List ℕ) (c n : Cursor) (room : Room s out rep c) (e : n 
           let a = rw (w, x) at room.report-room in
           record { is = z; ends = k; fits = omega (arith, a) }
 
-  -- so what is copied stands within both
-  pub copied_fits : n.runs ≡ c.runs → Copies s out c n
-  copied_fits same = let a = put_record same in record { starts = omega (arith, a.keeps); fits = omega (arith, a.keeps, a.fits); within = a.within; alike = omega (arith, a.keeps, a.ends) }
-
-  pub copied-length : n.runs ≡ c.runs → length (take (n.kept - c.kept) (drop c.kept out)) ≡ length (take (n.at - c.at) (left s c))
-  copied-length same =
-      let a = copied_fits same in
-      let x = length-drop c.kept out in
-      let y = length-drop c.at s in
-      omega (
-        arith,
-        length-take-le (n.kept - c.kept) (drop c.kept out) (omega (arith, a.fits)),
-        length-take-le (n.at - c.at) (left s c) (omega (arith, a.within)),
-        a.alike,
-      )
-
-  pub copied_is : n.runs ≡ c.runs → (ys : List ℕ) → ys ≡ take (n.at - c.at) (left s c)
-      → (n ≡ next_of s c) × ((put_mid c.kept (n.kept - c.kept) out ys ≡ out_next s out c) × (rep ≡ report_next s rep c))
-  copied_is same ys q =
+  pub copied_is : n.runs ≡ c.runs → (out' : List ℕ) → out' ≡ put_whole out c.kept (take (n.at - c.at) (take (length s - c.at) (left s c)))
+      → (n ≡ next_of s c) × ((out' ≡ out_next s out c) × (rep ≡ report_next s rep c))
+  copied_is same out' q =
       let a = put_record same in
-      let l = record-bytes s c a.is in
       let k : n.at - c.at ≡ record_here s c = omega (arith, a.ends) in
-      let m : n.kept - c.kept ≡ length (record_bytes s c) = omega (arith, a.keeps, l) in (
+      let b = record_bytes s c in
+      let d = length-drop c.at s in
+      let y = take_all (length s - c.at) (left s c) (omega arith) in
+      let w = put_whole_lem out b c.kept (omega (arith, record-bytes s c a.is, a.fits)) in (
         e,
         (
-          rw (q, k, m) (sym (put-mid out (record_bytes s c) c.kept (omega (arith, l, a.fits))) ∙ out_record s out c a.is),
+          q ∙ ap (λ (l : List ℕ). put_whole out c.kept (take (n.at - c.at) l)) y ∙ ap (λ (m : ℕ). put_whole out c.kept (take m (left s c))) k
+              ∙ w.0 ∙ out_record s out c a.is,
           report_record s rep c a.is,
         ),
       )

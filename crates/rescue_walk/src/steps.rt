@@ -26,9 +26,12 @@ fn run_end(s: &[u8], at: usize) -> usize
     requires { at ≤ length s.now }
     ensures { result ≡ at + run_len (drop at s.now) }
 {
-    (at..s.len())
-        .find(|e| record_end(s, *e).is_some())
-        .unwrap_or(s.len())
+    for e in at..s.len() {
+        if record_end(s, e).is_some() {
+            return e;
+        }
+    }
+    s.len()
 }
 
 // Behind the next piece.

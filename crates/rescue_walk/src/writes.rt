@@ -14,7 +14,8 @@ fn put_piece(s: &[u8], out: &mut [u8], report: &mut [u64], c: Cursor) -> Cursor
 {
     let n = next(s, c);
     if n.runs == c.runs {
-        out[c.kept..n.kept].copy_from_slice(&s[c.at..n.at]);
+        // By a writer for which every place will do, so that a wrong place is refused for the bytes, and not for a bound.
+        wire_bytes::put_bytes(out, c.kept, &s[c.at..], n.at - c.at);
         return n;
     }
     let i = 2 * c.runs;
