@@ -2,7 +2,7 @@
 use Rattle.std.specs.Prelude
 use Rattle.std.specs.Prelude.{None, Some}
 use Prim.Native.Nat.{ℕ}
-use mathlib.Core.Path.{◌≡◌, refl, ap, ◌∙◌}
+use mathlib.Core.Path.{◌≡◌, refl, sym, ap, ◌∙◌}
 use mathlib.Core.Bool.{Bool, true, false, cond, ◌&&◌}
 use mathlib.Core.List.{List}
 use mathlib.Core.Option
@@ -21,10 +21,10 @@ use Rattle.wire_messages.specs.Numbers.{served_at, served_command}
 use Rattle.wire_prefix.specs.Prefix.{framed, payload_in}
 use Rattle.wire_fields.specs.Fields.{map_in, needed, most32, aim_in, amount_in}
 use Rattle.wire_fields.specs.KeyHeads.{found, given, and_then, Reads, UintReads, MapReads, Shown, Inside}
-use Rattle.wire_fields.specs.Seen.{uint_seen, map_seen}
+use Rattle.wire_fields.specs.Seen.{uint_seen, amount_read, map_seen}
 use Rattle.wire_requests.specs.Settings.{setting_in, limits_from, setpoints_from, current_limits_in}
 use Rattle.wire_requests.specs.Requests.{with_command, envelope_in, command_in, from_envelope, from_payload, read_request}
-use Rattle.wire_requests.specs.KeyHeads.{EnvelopeReads, CurrentLimitsRead, MessageReads, parameters_from, parameters_path, clear_of}
+use Rattle.wire_requests.specs.KeyHeads.{EnvelopeReads, CurrentLimitsRead, CommandReads, ClearReads, MessageReads, parameters_from, parameters_path, clear_of}
 use Rattle.wire_requests.specs.KeyHeads.{envelope_of}
 use Rattle.wire_requests.specs.Seen.{envelope_seen, setting_seen, current_limits_seen, clear_seen, command_seen, request_seen, message_seen}
 use Rattle.wire_requests.specs.declared.reading.Reading.{Reading}
@@ -100,6 +100,14 @@ module _ (ws : List ℕ) where
       )
       (bind_given _ _ _ (phases_at true _) (λ f. bind_given _ _ _ (uint_at 1 _) (λ x. bind_given _ _ _ (amount_at most32 _) (λ d. bind_given _ _ _ (uint_at 255 _) (λ k. refl)))))
 
+  -- a clear, along any path
+  pub clear_reads : (c : ℕ) → ClearReads ws c (clear_seen ws c)
+  unfolding ClearReads clear_seen aim_in amount_in
+  clear_reads c path ps h =
+      let r = amount_read 1 (key_head_at ws 1 1) in
+      let a : aim_in (value_of (map_at 1 path ps) 1) ≡ given r = rw (shown ws path ps h 1 1 (omega arith) (omega arith)) (amount_at 1 _) in
+      rw a (given_again (and_then r (λ x. Some (clear_of c x))) ∙ ap parameters_from (sym (map_given (clear_of c) r)))
+
   module _ (c : ℕ) (ps : Pairs) (h : Shown ws parameters_path ps) where
     command_given : command_in c (map_at 1 parameters_path ps) ≡ given (command_seen ws c)
     unfolding command_seen clear_seen Inside CurrentLimitsRead aim_in amount_in
@@ -107,8 +115,9 @@ module _ (ws : List ℕ) where
         command_made c (map_at 1 parameters_path ps) _ _ _ _ (setting_reads true parameters_path ps h) (setting_reads false parameters_path ps h) (current_limits_read ps h)
         (rw (shown ws parameters_path ps h 1 1 (omega arith) (omega arith)) (amount_at 1 _))
 
-    pub command_reads : command_seen ws c ≡ parameters_from (command_in c (map_at 1 parameters_path ps))
-    command_reads = rw command_given (given_again _)
+  pub command_reads : (c : ℕ) → CommandReads ws c (command_seen ws c)
+  unfolding CommandReads
+  command_reads c ps h = rw (command_given c ps h) (given_again _)
 
   with_given : (m : Pairs) (r : Prelude.Option Command) → request_seen ws r ≡ with_command (envelope_of ws m) (given r)
   with_given m (Some c) = refl

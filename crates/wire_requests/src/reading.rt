@@ -33,16 +33,16 @@ const PHASES: usize = 2;
 // The keys along that path, the first as the lowest digit: 5, then 1.
 const PATH: u64 = 5 + 1 * wire_cbor::STEP;
 
-// Whether the envelope is there: the parameters are a map, seen below.
+// Whether the envelope is there: the parameters are a map, seen below. By `&`: a board's code is 450 bytes shorter than by `&&`.
 #[tactic(auto, unfolding(crate::specs::Seen::envelope_seen))]
 fn is_envelope(heads: &KeyHeads) -> bool
     ensures { result ≡ envelope_seen heads.now }
 {
     is_uint(key_head_of(heads, ENVELOPE, 1), true, MOST32)
-        && is_uint(key_head_of(heads, ENVELOPE, 2), true, 255)
-        && is_uint(key_head_of(heads, ENVELOPE, 3), true, 65535)
-        && is_uint(key_head_of(heads, ENVELOPE, 4), true, 65535)
-        && is_map(key_head_of(heads, ENVELOPE, 5))
+        & is_uint(key_head_of(heads, ENVELOPE, 2), true, 255)
+        & is_uint(key_head_of(heads, ENVELOPE, 3), true, 65535)
+        & is_uint(key_head_of(heads, ENVELOPE, 4), true, 65535)
+        & is_map(key_head_of(heads, ENVELOPE, 5))
 }
 
 // The cause, which each Set command has under the same key.
@@ -93,13 +93,14 @@ fn read_command(heads: &KeyHeads, command: u64) -> Option<Command>
     ensures { result ≡ command_seen heads.now command }
 {
     match command {
-        SET_LIMIT => {
-            let setting = read_setting(heads, true)?;
-            Some(Command::SetLimit(limits_from(setting)))
-        }
-        SET_SETPOINT => {
-            let setting = read_setting(heads, false)?;
-            Some(Command::SetSetpoint(setpoints_from(setting)))
+        SET_LIMIT | SET_SETPOINT => {
+            let limit = command == SET_LIMIT;
+            let setting = read_setting(heads, limit)?;
+            Some(if limit {
+                Command::SetLimit(limits_from(setting))
+            } else {
+                Command::SetSetpoint(setpoints_from(setting))
+            })
         }
         SET_CURRENT_LIMITS => {
             let limits = read_current_limits(heads)?;
