@@ -1,7 +1,7 @@
 // What of a script is read and not yet run.
 ghost use Rattle.std.specs.Prelude.{◌≡◌, ◌+◌, ◌-◌, ◌≤◌, length, take, IfOk, OnErr, MatchResult};
 ghost use Rattle.std.specs.Io.KnownBytes.{ConsumesCount};
-ghost use Rattle.bench_stream.specs.Buffer.{bytes_in, is_short, Filled, Takes};
+ghost use Rattle.bench_stream.specs.Buffer.{bytes_in, shifted, is_short, Filled, Takes};
 
 use std::io;
 use std::io::Read;
@@ -12,6 +12,14 @@ pub(crate) struct Input {
     pub(crate) from: usize,
     pub(crate) to: usize,
     pub(crate) left: u64,
+}
+
+// Moves the bytes from `from` to `to` to the front.
+fn shift(buf: &mut [u8], from: usize, to: usize)
+    requires { (from ≤ to) × (to ≤ length buf.old) }
+    ensures { buf.new ≡ shifted buf.old from to }
+{
+    buf.copy_within(from..to, 0);
 }
 
 // The end of the next read: no more than the buffer holds, and no more than may be read.
@@ -48,7 +56,7 @@ pub(crate) fn fill<R: Read>(input: &mut R, buf: &mut [u8], x: Input) -> io::Resu
     ensures taken { MatchResult result (λ y. Takes (R.remaining input.old) (R.remaining input.new) y.left x.left)
         (λ _. Takes (R.remaining input.old) (R.remaining input.new) 0 x.left) }
 {
-    buf.copy_within(x.from..x.to, 0);
+    shift(buf, x.from, x.to);
     let mut to = x.to - x.from;
     let mut left = x.left;
     // By hand: only a read tells how far it came.

@@ -5,7 +5,7 @@ use native.Mathlib.Omega.{arith}
 use borrow.Author.Rules.{rules}
 use lib.ListN.{take}
 use Rattle.std.proofs.lemmas.Result.{err_from_is_err_and}
-use Rattle.bench_stream.proofs.Moves.{moved_all, shifted-front, front-stays, not_more}
+use Rattle.bench_stream.proofs.Moves.{shifted-front, front-stays, not_more}
 use Rattle.bench_stream.proofs.Taken.{takes_none, takes_more, takes_fewer, takes_kept}
 use Rattle.bench_stream.proofs.input.fill.Goals as goal
 
@@ -20,7 +20,7 @@ returns-in_err-n-clause-kept_on_error g c =
     let p = err_from_is_err_and c.from_residual.result c.from_residual.ensures.1 in
     rw (p.1)
     (front-stays c.read_more.new.buf c.loop-input.buf n c.loop-input.to c.loop-input.invariant.0 c.read_more.ensures.buf_unchanged
-    ∙ c.loop-input.invariant.4 ∙ ap (take n) (c.copy_within.ensures.after ∙ moved_all c.args.buf.now x.from x.to c.requires.0 c.requires.1) ∙ front)
+    ∙ c.loop-input.invariant.4 ∙ ap (take n) c.shift.ensures ∙ front)
 
 pub returns-in_err-n-clause-taken : goal.returns-in_err-n-clause-taken
 returns-in_err-n-clause-taken g c =
@@ -38,7 +38,7 @@ returns-then-n-eq0-clause-filled g c =
       more = c.loop-input.invariant.0;
       kept =
           front-stays c.read_more.new.buf c.loop-input.buf n c.loop-input.to c.loop-input.invariant.0 c.read_more.ensures.buf_unchanged
-          ∙ c.loop-input.invariant.4 ∙ ap (take n) (c.copy_within.ensures.after ∙ moved_all c.args.buf.now x.from x.to c.requires.0 c.requires.1) ∙ front;
+          ∙ c.loop-input.invariant.4 ∙ ap (take n) c.shift.ensures ∙ front;
       counted = omega arith;
       enough = not_more c.loop-input.to;
     }
@@ -69,7 +69,7 @@ returns-clause-filled g c =
       first = refl;
       within = omega arith;
       more = c.loop-input.invariant.0;
-      kept = c.loop-input.invariant.4 ∙ ap (take n) (c.copy_within.ensures.after ∙ moved_all c.args.buf.now x.from x.to c.requires.0 c.requires.1) ∙ front;
+      kept = c.loop-input.invariant.4 ∙ ap (take n) c.shift.ensures ∙ front;
       counted = omega arith;
       enough = sym c.is_short.ensures ∙ c.loop-input-test.false;
     }
