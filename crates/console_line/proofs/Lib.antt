@@ -1,3 +1,3 @@
 -- What the proofs of several functions use.
-mod Names
+pub mod Names
 pub mod Turns

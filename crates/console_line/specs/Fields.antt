@@ -54,7 +54,7 @@ field_in s from to Kind.Lent = kept Kind.Lent (number_in s from to)
 
 -- the k-th number of a line, by the ends of its words
 abbrev pub field_at : List ℕ → List ℕ → Kind → ℕ → Option Number
-field_at s ends kind k = field_in s (span_of ends (k + 1)).start (span_of ends (k + 1)).end kind
+field_at s ends kind k = field_in s (span_of ends (k + 1)).from (span_of ends (k + 1)).to kind
 
 -- what a number leaves stored
 abbrev pub value_of : Option Number → ℕ

@@ -80,7 +80,7 @@ fn row_of(rows: &[(&[u8], Line)], word: &[u8]) -> Line
 pub fn line_of(line: &[u8], ends: &[usize]) -> Line
     ensures { result ≡ line_of line.now ends.now }
 {
-    match line.get(..span(ends, 0).end) {
+    match line.get(..span(ends, 0).to) {
         Some(name) => row_of(&TABLE, name),
         None => unknown(),
     }

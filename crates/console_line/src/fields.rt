@@ -89,7 +89,7 @@ pub(crate) fn read(line: &[u8], ends: &[usize], kinds: &[Kind], fields: &mut [u6
 {
     for (k, kind) in kinds.iter().enumerate() {
         let word = span(ends, k + 1);
-        let Some(n) = field(line, word.start, word.end, *kind) else {
+        let Some(n) = field(line, word.from, word.to, *kind) else {
             return false;
         };
         put(fields, k, n.value);

@@ -86,7 +86,8 @@ fn line(
     if count == 0 || count != words || !read_numbers(s, ends, c, &mut f) {
         return put_bad(out, at);
     }
-    match s.get(span(ends, count - 1)) {
+    let last = span(ends, count - 1);
+    match s.get(last.from..last.to) {
         Some(word) => run(d, c, f, word, bytes, out, at),
         None => put_bad(out, at),
     }

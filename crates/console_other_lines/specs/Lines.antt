@@ -21,7 +21,7 @@ is_same s ends = is_word s ends 1 (115 ∷ 97 ∷ 109 ∷ 101 ∷ [])
 
 -- the number of the last word
 unfoldable pub tick_number : List ℕ → List ℕ → Option Number
-tick_number s ends = number_in s (span_of ends 2).start (span_of ends 2).end
+tick_number s ends = number_in s (span_of ends 2).from (span_of ends 2).to
 
 -- "a tick that 32 bits cannot hold is a bad line"
 abbrev pub fits : Option Number → Bool

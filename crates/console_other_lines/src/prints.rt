@@ -27,7 +27,7 @@ fn tick_number(s: &[u8], ends: &[usize]) -> Option<Number>
     ensures { result ≡ tick_number s.now ends.now }
 {
     let word = span(ends, WORDS - 1);
-    number_in(s, word.start, word.end)
+    number_in(s, word.from, word.to)
 }
 
 // The tick of a whole line, one of 32 bits.

@@ -47,7 +47,8 @@ pub fn rescue(
     out: &mut [u8],
     at: usize,
 ) -> usize {
-    match s.get(span(ends, WORDS - 1)) {
+    let last = span(ends, WORDS - 1);
+    match s.get(last.from..last.to) {
         Some(word) if count == WORDS => with_bytes(word, bytes, out, at),
         _ => put_bad(out, at),
     }

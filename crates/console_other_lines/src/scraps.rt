@@ -93,9 +93,10 @@ pub fn scrap(
         return put_bad(out, at);
     }
     let place = span(ends, 2);
+    let last = span(ends, WORDS - 1);
     let (Some(lent), Some(word)) = (
-        number_in(s, place.start, place.end),
-        s.get(span(ends, WORDS - 1)),
+        number_in(s, place.from, place.to),
+        s.get(last.from..last.to),
     ) else {
         return put_bad(out, at);
     };

@@ -2,7 +2,7 @@
 use Rattle.std.specs.Prelude.{ℕ, zero, suc, ◌+◌, ◌-◌, Bool, true, false, cond, ◌&&◌, List, [], ◌∷◌, leb, eqb, length, get_or, take, drop, Option, Some, None}
 use Rattle.std.proofs.lemmas.List.Edits.{sets}
 use Rattle.console_words.specs.Numbers.{at_most_largest}
-use Rattle.std.specs.declared.ops.Range.{Range}
+use Rattle.console_words.specs.declared.spans.Bounds.{Bounds}
 
 -- the position of the first byte b of a text that stands at p, or its end
 unfoldable pub next_of : ℕ → ℕ → List ℕ → ℕ
@@ -35,8 +35,8 @@ unfoldable pub start_of : List ℕ → ℕ → ℕ
 start_of ends zero = 0
 start_of ends (suc k) = at_most_largest (get_or ends k 0 + 1)
 
-unfoldable pub span_of : List ℕ → ℕ → Range ℕ
-span_of ends k = record { start = start_of ends k; end = get_or ends k 0 }
+unfoldable pub span_of : List ℕ → ℕ → Bounds
+span_of ends k = record { from = start_of ends k; to = get_or ends k 0 }
 
 -- byte for byte
 unfoldable pub same_bytes : List ℕ → List ℕ → Bool
@@ -48,8 +48,8 @@ same_bytes (a ∷ s) (b ∷ t) = cond (eqb a b) (same_bytes s t) false
 -- whether word k of a line is w, by the ends of its words
 unfoldable pub is_word : List ℕ → List ℕ → ℕ → List ℕ → Bool
 is_word s ends k w =
-    cond (leb (span_of ends k).end (length s) && leb (span_of ends k).start (span_of ends k).end)
-    (same_bytes (take ((span_of ends k).end - (span_of ends k).start) (drop (span_of ends k).start s)) w)
+    cond (leb (span_of ends k).to (length s) && leb (span_of ends k).from (span_of ends k).to)
+    (same_bytes (take ((span_of ends k).to - (span_of ends k).from) (drop (span_of ends k).from s)) w)
     false
 
 -- the words themselves

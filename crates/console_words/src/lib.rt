@@ -11,4 +11,4 @@ pub use hex::{is_none, read_hex};
 pub use lists::read_list;
 pub use numbers::{Number, number_in, read_number};
 pub use print::{put_bad, put_bytes, put_end, put_hex_or_none, put_list, put_number, put_pairs};
-pub use spans::{is_word, place, same, span, split};
+pub use spans::{Bounds, is_word, place, same, span, split};

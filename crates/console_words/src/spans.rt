@@ -2,7 +2,12 @@
 ghost use Rattle.std.specs.Prelude.{◌≡◌, ◌≤◌, eqb, length, get_or, drop, position};
 ghost use Rattle.console_words.specs.Spans.{next_of, words_in, ends_after, start_of, span_of, same_bytes, is_word, words_of, place_from};
 
-use std::ops::Range;
+// The bytes of a word, from `from` up to `to`. No Range, which is not Copy.
+#[derive(Clone, Copy)]
+pub struct Bounds {
+    pub from: usize,
+    pub to: usize,
+}
 
 fn first(s: &[u8], b: u8) -> Option<usize>
     ensures { result ≡ position (λ x. eqb x b) s.now }
@@ -57,10 +62,13 @@ fn start_of(ends: &[usize], k: usize) -> usize
 
 // Where the k-th word is, by the ends of the words.
 #[tactic(auto, unfolding(crate::specs::Spans::span_of))]
-pub fn span(ends: &[usize], k: usize) -> Range<usize>
+pub fn span(ends: &[usize], k: usize) -> Bounds
     ensures { result ≡ span_of ends.now k }
 {
-    start_of(ends, k)..end_of(ends, k)
+    Bounds {
+        from: start_of(ends, k),
+        to: end_of(ends, k),
+    }
 }
 
 // Whether two words are the same bytes.
@@ -75,7 +83,8 @@ pub fn same(a: &[u8], b: &[u8]) -> bool
 pub fn is_word(s: &[u8], ends: &[usize], k: usize, word: &[u8]) -> bool
     ensures { result ≡ is_word s.now ends.now k word.now }
 {
-    s.get(span(ends, k)).is_some_and(|w| same(w, word))
+    let b = span(ends, k);
+    s.get(b.from..b.to).is_some_and(|w| same(w, word))
 }
 
 // Which word of a line is the same as `word`, the first being 0.
