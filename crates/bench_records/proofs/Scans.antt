@@ -2,14 +2,14 @@
 use Rattle.std.specs.Prelude.{None, Some}
 use Rattle.std.specs.Bool.{then_some}
 use Rattle.std.specs.List.{starts_with}
-use Prim.Native.Nat.{ℕ, ◌+◌, ◌-◌, ◌≤◌, ◌<◌}
+use Prim.Native.Nat.{ℕ, zero, suc, ◌+◌, ◌-◌, ◌≤◌, ◌<◌}
 use mathlib.Core.Path.{◌≡◌, refl, sym, ap, ◌∙◌}
 use mathlib.Core.Bool.{Bool, true, false, cond, ◌&&◌, and-true, and-false}
 use mathlib.Core.List.{List, [], ◌∷◌}
 use native.Mathlib.Omega.{arith}
 use lib.Dec.{leb, eqb}
-use lib.ListN.{length, take, drop, length-drop}
-use lib.Seq.{get_or-drop, take_all}
+use lib.ListN.{length, get_or, take, drop, length-drop}
+use lib.Seq.{get_or-drop, get_or-take, take_all}
 use borrow.Author.Tests.{eqb-true, eqb-false, eq-eqb, ne_eqb, lt-leb, leb-true, leb-false}
 use Rattle.wire_bytes.specs.Bytes.{number_at}
 use Rattle.wire_bytes.proofs.NumberLaws.{zero-past}
@@ -48,6 +48,23 @@ module _ (s : List ℕ) (p : ℕ) where
   pub mark-past : length s < p → leb p (length s) ≡ is_mark s p
   unfolding is_mark
   mark-past h = rw (lt-leb p (length s) h, ← zero-past s p (omega arith))
+
+-- t begins as s goes on from p
+module _ (s t : List ℕ) (p : ℕ) (same : (k : ℕ) → k < head → get_or t k 0 ≡ get_or s (p + k) 0) where
+  pub same-number : (w q : ℕ) → q + w ≤ head → number_at t q w ≡ number_at s (p + q) w
+  unfolding number_at
+  same-number zero q h = refl
+  same-number (suc w) q h =
+      let e : p + (q + w) ≡ p + q + w = omega arith in
+      omega (arith, same-number w q (omega arith), same (q + w) (omega arith) ∙ ap (λ (k : ℕ). get_or s k 0) e)
+
+  pub same-fields : record { kind = get_or t 2 0; zone = get_or t 3 0; time = number_at t 4 4; body = p + head; length = number_at t 8 2 } ≡ fields_at s p
+  unfolding fields_at
+  same-fields = rw (same 2 (omega arith), same 3 (omega arith), same-number 4 4 (omega arith), same-number 2 8 (omega arith))
+
+-- the bytes in front of a body, as a slice has them
+pub in-front : (s : List ℕ) (p k : ℕ) → k < head → get_or (take (p + head - p) (drop p s)) k 0 ≡ get_or s (p + k) 0
+in-front s p k h = get_or-take (p + head - p) (drop p s) k 0 (omega arith) ∙ get_or-drop p s k 0
 
 -- the record
 module _ (s : List ℕ) (p : ℕ) where

@@ -1,6 +1,6 @@
 -- The record that a list begins with: its first ten bytes and its room tell it. Assumes nothing.
 use Rattle.std.specs.Prelude.{Option, None, Some}
-use Prim.Native.Nat.{ℕ, zero, suc, ◌+◌, ◌≤◌, ◌<◌}
+use Prim.Native.Nat.{ℕ, ◌+◌, ◌≤◌, ◌<◌}
 use mathlib.Core.Path.{◌≡◌, refl, sym, ap, ◌∙◌}
 use mathlib.Core.Logic.{⊎_elim}
 use mathlib.Core.Bool.{Bool, true, false, cond}
@@ -15,7 +15,7 @@ use Rattle.wire_bytes.proofs.Order.{below}
 use Rattle.bench_records.specs.Kinds.{head}
 use Rattle.bench_records.specs.Records.{is_mark, fields_at, good, record_at}
 use Rattle.bench_records.specs.declared.fields.Record.{Record}
-use Rattle.bench_records.proofs.Scans.{record_within}
+use Rattle.bench_records.proofs.Scans.{same-number, record_within}
 use Rattle.rescue_walk.specs.Walk.{scan_len, record_len, record_end}
 
 scan_fits : (s : List ℕ) (x : Option Record) → record_at s 0 ≡ x → 0 < scan_len x → (head ≤ scan_len x) × (scan_len x ≤ length s)
@@ -30,13 +30,6 @@ found s l = scan_fits s (record_at s 0) refl l
 
 -- t begins as s goes on from p
 module _ (s t : List ℕ) (p : ℕ) (same : (k : ℕ) → k < head → get_or t k 0 ≡ get_or s (p + k) 0) where
-  same_number_lem : (w q : ℕ) → q + w ≤ head → number_at t q w ≡ number_at s (p + q) w
-  unfolding number_at
-  same_number_lem zero q h = refl
-  same_number_lem (suc w) q h =
-      let e : p + (q + w) ≡ p + q + w = omega arith in
-      omega (arith, same_number_lem w q (omega arith), same (q + w) (omega arith) ∙ ap (λ (k : ℕ). get_or s k 0) e)
-
   same-mark : is_mark t 0 ≡ is_mark s p
   unfolding is_mark
   same-mark =
@@ -47,11 +40,11 @@ module _ (s t : List ℕ) (p : ℕ) (same : (k : ℕ) → k < head → get_or t 
   module _ (cut : leb (head + number_at s (p + 8) 2) (length t) ≡ leb (p + head + number_at s (p + 8) 2) (length s)) where
     same_good : good t 0 (fields_at t 0) ≡ good s p (fields_at s p)
     unfolding good fields_at
-    same_good = rw (same-mark, same 2 (omega arith), same_number_lem 2 8 (omega arith), cut)
+    same_good = rw (same-mark, same 2 (omega arith), same-number s t p same 2 8 (omega arith), cut)
 
     same_length : (fields_at t 0).length ≡ (fields_at s p).length
     unfolding fields_at
-    same_length = same_number_lem 2 8 (omega arith)
+    same_length = same-number s t p same 2 8 (omega arith)
 
     pub same_len : record_len t ≡ scan_len (record_at s p)
     unfolding record_len record_at scan_len
