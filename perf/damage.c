@@ -78,7 +78,12 @@ int main(int words, char **word)
     unsigned long rounds = words > 2 ? strtoul(word[2], NULL, 10) : 1;
     while (fread(head, 1, 4, stdin) == 4) {
         size_t n = (size_t)head[0] << 24 | (size_t)head[1] << 16 | (size_t)head[2] << 8 | head[3];
-        if (n > ROOM || fread(script, 1, n, stdin) != n)
+        if (n > ROOM) { /* longer than a rescue takes: passed over */
+            while (n > 0 && getchar() != EOF)
+                n--;
+            continue;
+        }
+        if (fread(script, 1, n, stdin) != n)
             return 1;
         for (unsigned long k = 0; k < rounds; k++) {
             size_t m = n;
