@@ -1,6 +1,7 @@
 /* Damages bench scripts: damage SEED ROUNDS <SCRIPTS. It reads scripts, each behind four bytes of length, and writes ROUNDS
    damaged copies of each in the same form: holes of zeros, changed bytes, cut heads and tails, bytes put in, records repeated,
-   marks inside bodies, and lengths that point past the end. One copy in eight is left as it is. */
+   marks inside bodies, and lengths that point past the end. One copy in eight is left as it is. A script of more than ROOM
+   bytes is passed over: no rescue takes it. The status is 1 where the last script is cut. */
 #include <stdint.h>
 #include <stdio.h>
 #include <stdlib.h>
@@ -78,9 +79,10 @@ int main(int words, char **word)
     unsigned long rounds = words > 2 ? strtoul(word[2], NULL, 10) : 1;
     while (fread(head, 1, 4, stdin) == 4) {
         size_t n = (size_t)head[0] << 24 | (size_t)head[1] << 16 | (size_t)head[2] << 8 | head[3];
-        if (n > ROOM) { /* longer than a rescue takes: passed over */
-            while (n > 0 && getchar() != EOF)
-                n--;
+        if (n > ROOM) {
+            for (; n > 0; n--)
+                if (getchar() == EOF)
+                    return 1;
             continue;
         }
         if (fread(script, 1, n, stdin) != n)
