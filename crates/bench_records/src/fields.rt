@@ -31,13 +31,13 @@ fn fields_at(s: &[u8], at: usize) -> Record
     ensures length_bound { result.length < 65536 }
 {
     // A slice of ten bytes: its readers need not test again whether a byte is there.
-    let h = &s[at..at + HEAD];
+    let front = &s[at..at + HEAD];
     Record {
-        kind: byte_at(h, 2),
-        zone: byte_at(h, 3),
-        time: get_u32(h, 4),
+        kind: byte_at(front, 2),
+        zone: byte_at(front, 3),
+        time: get_u32(front, 4),
         body: at + HEAD,
-        length: get_u16(h, 8) as usize,
+        length: get_u16(front, 8) as usize,
     }
 }
 

@@ -36,7 +36,7 @@ pub const FRAME_MOST: usize = FRAME_LEAST + 2048;
 fn is_right_length(kind: u64, n: usize) -> bool
     ensures { result ≡ right_length kind n }
 {
-    // First by hand: the match would ask for it last, and bytes that look like joins took half as long again.
+    // First by hand: the match would ask for it last, and bytes that look like joins would take half as long again.
     if kind == JOIN {
         return n == 1;
     }
